@@ -1,0 +1,4 @@
+pub mod Entries
+pub mod EntryComparisons
+pub mod Errors
+pub mod formers
