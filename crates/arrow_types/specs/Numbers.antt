@@ -1,0 +1,29 @@
+-- The whole numbers that a native value stands for, and the places that an offset names.
+use Rattle.std.specs.Prelude.{◌≡◌, ℕ, Bool, true, false, ℤ, pos, negsuc, List, [], ◌∷◌, map}
+use Rattle.std.specs.List.{All}
+use Rattle.arrow_types.specs.declared.slot.Slot.{Slot}
+use Rattle.arrow_types.specs.declared.slot.Slot.TheVariants as slot
+
+-- each of the numbers is 0
+abbrev pub AreZeros : List ℤ → Type 0
+AreZeros = All (λ n. n ≡ pos 0)
+
+-- the slot of a value that stands for these numbers: the number, or a record of several
+abbrev pub slot_of_numbers : List ℤ → Slot
+slot_of_numbers (n ∷ []) = slot.Whole n
+slot_of_numbers ns = slot.Fields (map slot.Whole ns)
+
+-- an offset that names no place
+abbrev pub IsNegative : ℤ → Type 0
+IsNegative (pos n) = ⊥
+IsNegative (negsuc n) = Unit {0}
+
+-- an offset that names a place
+abbrev pub IsPlace : ℤ → Type 0
+IsPlace (pos n) = Unit {0}
+IsPlace (negsuc n) = ⊥
+
+-- the last place that an offset of 32 bits, and one of 64 bits, can name
+abbrev pub last_place : Bool → ℕ
+last_place false = 2147483647
+last_place true = 9223372036854775807

@@ -1,0 +1,99 @@
+//! The offsets that cut a column into parts.
+ghost use Rattle.std.specs.Prelude.{◌≡◌, ℤ, pos, [], ◌∷◌, Bool, false, true, ◌↔◌, ◌≤◌, IsSome, IfSome, MatchOption};
+ghost use Rattle.arrow_types.specs.Numbers.{IsNegative, IsPlace, last_place};
+
+use crate::native::NativeType;
+
+/// A signed number that says where a part of a column ends (Arrow columnar format,
+/// "Variable-size Binary Layout" and "Variable-size List Layout").
+pub trait Offset: NativeType {
+    ghost IS_LARGE: { Bool };
+
+    /// Whether the offset has 64 bits, and not 32.
+    const IS_LARGE: bool;
+
+    // the number
+    ghost place: { Self → ℤ };
+
+    /// The same number. It must not be negative.
+    fn to_usize(&self) -> usize
+        requires { IsPlace (place self.now) }
+        ensures { place self.now ≡ pos result };
+
+    /// The same number, or `None` where it is negative.
+    fn checked_to_usize(&self) -> Option<usize>
+        ensures { MatchOption result (IsNegative (place self.now)) (λ n. place self.now ≡ pos n) };
+
+    /// The same number, or `None` where it is past the greatest offset: 2^31 - 1 in 32 bits and
+    /// 2^63 - 1 in 64 bits.
+    fn from_usize(value: usize) -> Option<Self>
+        ensures fits { IsSome result ↔ (value ≤ last_place IS_LARGE) }
+        ensures same { IfSome result (λ o. place o ≡ pos value) };
+
+    // the number is the one that the value stands for
+    ghost is_number: { (x : Self) → Self.numbers x ≡ place x ∷ [] };
+}
+
+impl Offset for i32 {
+    ghost use Rattle.std.proofs.Common.{rules};
+
+    ghost IS_LARGE = { false };
+
+    const IS_LARGE: bool = false;
+
+    ghost place = { λ x. x };
+
+    fn to_usize(&self) -> usize {
+        *self as usize
+    }
+
+    fn checked_to_usize(&self) -> Option<usize> {
+        if *self < 0 {
+            None
+        } else {
+            Some(*self as usize)
+        }
+    }
+
+    fn from_usize(value: usize) -> Option<i32> {
+        if value <= i32::MAX as usize {
+            Some(value as i32)
+        } else {
+            None
+        }
+    }
+
+    ghost is_number = { Prim.search rules };
+}
+
+impl Offset for i64 {
+    ghost use Rattle.std.proofs.Common.{rules};
+
+    ghost IS_LARGE = { true };
+
+    const IS_LARGE: bool = true;
+
+    ghost place = { λ x. x };
+
+    fn to_usize(&self) -> usize {
+        *self as usize
+    }
+
+    fn checked_to_usize(&self) -> Option<usize> {
+        if *self < 0 {
+            None
+        } else {
+            Some(*self as usize)
+        }
+    }
+
+    fn from_usize(value: usize) -> Option<i64> {
+        if value <= i64::MAX as usize {
+            Some(value as i64)
+        } else {
+            None
+        }
+    }
+
+    ghost is_number = { Prim.search rules };
+}
