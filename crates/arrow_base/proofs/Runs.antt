@@ -1,0 +1,60 @@
+-- Runs of bytes that need no escape.
+use Rattle.std.proofs.Common.{◌≡◌, ℕ, ◌≤◌, ◌<◌, ◌+◌, List, [], ◌∷◌, ◌++◌, take, drop, length, flat_map, get_or, refl, sym, ◌∙◌, ap, append-nil, append_assoc, ◌-◌, arith, drop-cons, add-one}
+use Rattle.std.proofs.lemmas.Grind.{common_steps, flat_map-append}
+use Rattle.std.proofs.lemmas.List.{take-append-drop}
+use Rattle.arrow_base.specs.WrittenString.{escaped}
+
+-- what is to be written is the run, and then the rest
+pub run-first : (rest : List ℕ) (n : ℕ) → flat_map escaped (take n rest) ≡ take n rest → flat_map escaped rest ≡ take n rest ++ flat_map escaped (drop n rest)
+run-first rest n h =
+    ap (λ (l : List ℕ). flat_map escaped l) (sym (take-append-drop n rest)) ∙ flat_map-append escaped (take n rest) (drop n rest)
+    ∙ ap (λ (l : List ℕ). l ++ flat_map escaped (drop n rest)) h
+
+-- the byte behind the run comes next
+pub byte-next : (rest : List ℕ) (n : ℕ) → n < length rest → flat_map escaped (drop n rest) ≡ escaped (get_or rest n 0) ++ flat_map escaped (drop (n + 1) rest)
+byte-next rest n h =
+    let e : drop n rest ≡ get_or rest n 0 ∷ drop (n + 1) rest = rw (add-one, drop-cons rest n 0) refl in
+    ap (λ (l : List ℕ). flat_map escaped l) e
+
+-- the run goes on
+pub run-more : (rest : List ℕ) (n : ℕ) → n < length rest → flat_map escaped (take n rest) ≡ take n rest → escaped (get_or rest n 0) ≡ get_or rest n 0 ∷ [] → flat_map escaped (take (n + 1) rest) ≡ take (n + 1) rest
+run-more rest n h p e =
+    let t : take (n + 1) rest ≡ take n rest ++ get_or rest n 0 ∷ [] = grind (arith, common_steps) in
+    rw (t, flat_map-append escaped (take n rest) (get_or rest n 0 ∷ []), p, e) refl
+
+-- a run to the end is all
+pub run-all : (rest : List ℕ) (n : ℕ) → length rest ≤ n → flat_map escaped (take n rest) ≡ take n rest → flat_map escaped rest ≡ rest
+run-all rest n h p =
+    let t : take n rest ≡ rest = grind (arith, common_steps) in
+    ap (λ (l : List ℕ). flat_map escaped l) (sym t) ∙ p ∙ t
+
+-- what needs no escape is written as it is, and nothing behind it
+pub nothing-behind : (written rest : List ℕ) → written ≡ rest → written ≡ rest ++ []
+nothing-behind written rest e = e ∙ sym (append-nil rest)
+
+-- of the whole, what stands before the rest needs no escape
+pub record Passed (whole rest : List ℕ) : Type 0 where
+  pub front : List ℕ
+  pub splits : front ++ rest ≡ whole
+  pub plain : flat_map escaped front ≡ front
+
+pub passed-none : (whole : List ℕ) → Passed whole whole
+passed-none whole = record { front = []; splits = refl; plain = refl }
+
+-- one block more needs none
+pub passed-block : (whole rest block more : List ℕ) (n : ℕ) → Passed whole rest → block ≡ take n rest → more ≡ drop n rest → flat_map escaped block ≡ block → Passed whole more
+passed-block whole rest block more n h front behind p =
+    let e : block ++ more ≡ rest = ap (λ (l : List ℕ). l ++ more) front ∙ ap (λ (l : List ℕ). take n rest ++ l) behind ∙ take-append-drop n rest in
+    record {
+      front = h.front ++ block;
+      splits = append_assoc h.front block more ∙ ap (λ (l : List ℕ). h.front ++ l) e ∙ h.splits;
+      plain = rw (flat_map-append escaped h.front block, h.plain, p) refl;
+    }
+
+pub passed-take : (whole rest : List ℕ) → Passed whole rest → flat_map escaped (take (length whole - length rest) whole) ≡ take (length whole - length rest) whole
+passed-take whole rest h =
+    let is : take (length whole - length rest) whole ≡ h.front = grind (arith, common_steps, h.splits) in
+    ap (λ (l : List ℕ). flat_map escaped l) is ∙ h.plain ∙ sym is
+
+pub passed-length : (whole rest : List ℕ) → Passed whole rest → length rest ≤ length whole
+passed-length whole rest h = grind (arith, common_steps, h.splits)

@@ -1,0 +1,7 @@
+use Rattle.std.proofs.Common.{◌≡◌, take, flat_map}
+use Rattle.std.specs.Bool.{OnFalse}
+use Rattle.arrow_base.specs.WrittenString.{escaped}
+use Rattle.arrow_base.proofs.utf8.has_escape.Given as goal
+
+abbrev pub invariant-loop-byte : goal.invariant-loop-byte
+invariant-loop-byte l = OnFalse l.found (flat_map escaped (take l.byte-index l.block) ≡ take l.byte-index l.block)

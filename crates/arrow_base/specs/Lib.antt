@@ -1,0 +1,6 @@
+pub mod JsonString
+pub mod MemorySink
+pub mod MemorySource
+pub mod Outside
+pub mod SteadySource
+pub mod WrittenString

@@ -1,0 +1,33 @@
+//! Where bytes come from and where they go, and the JSON string of a text. Also, by their names here, the errors, list
+//! types and types of columns of the crates below.
+#![tactic(auto)]
+
+mod calls;
+mod faults;
+mod memory_sink;
+mod memory_source;
+mod pieces;
+mod sink;
+mod source;
+mod std_sink;
+mod std_source;
+mod steady_source;
+pub mod utf8;
+
+pub use arrow_lists::{Box, Bytes, Error, Items, Metadata, Reason, Result, Text};
+pub use arrow_types::{
+    DataType, Field, IntegerType, IntervalUnit, MonthsDaysNs, NativeType, Offset, PhysicalType,
+    PrimitiveType, Schema, Slot, TimeUnit, UnionMode,
+};
+pub use faults::Failed;
+pub use memory_sink::MemorySink;
+pub use memory_source::MemorySource;
+pub use sink::{Sink, write_all};
+pub use source::Source;
+pub use std_sink::StdSink;
+pub use std_source::StdSource;
+pub use steady_source::SteadySource;
+pub use utf8::{CharEscape, write_str};
+
+#[cfg(test)]
+mod tests;

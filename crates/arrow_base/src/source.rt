@@ -1,0 +1,45 @@
+ghost use Rattle.std.specs.Prelude.{◌≡◌, ℕ, ◌<◌, ◌≤◌, List, Option, take, length, IfOk, OnErr};
+ghost use Rattle.std.specs.Io.KnownBytes.{Consumes, Keeps, IsAtEnd};
+ghost use Rattle.arrow_base.specs.Outside.{RoseOrFull, last_count};
+
+use crate::faults::Failed;
+
+/// What gives bytes.
+pub trait Source {
+    // The bytes still to come, where they are told.
+    ghost left: { Self → Option (List ℕ) };
+
+    // How often it failed, up to the last value of 64 bits.
+    ghost faults: { Self → ℕ };
+
+    // Which reference it is, where it is one.
+    ghost whose: { Self → ℕ } = { λ _. 0 };
+
+    /// Puts the next bytes into the front of the buffer, and answers how many; 0 at the end alone. `Failed` is answered
+    /// only where the count of faults rose, or stands at its last value; no byte is lost then.
+    fn read(&mut self, buffer: &mut [u8]) -> std::result::Result<usize, Failed>
+        requires { 0 < length buffer.old }
+        ensures count { IfOk result (λ n. n ≤ length buffer.old) }
+        ensures given { IfOk result (λ n. Consumes (left self.old) (left self.new) (take n buffer.new)) }
+        ensures end { IfOk result (λ n. n ≡ 0 → IsAtEnd (left self.new)) }
+        ensures unchanged { OnErr result (Keeps (left self.old) (left self.new)) }
+        ensures never_falls { faults self.old ≤ faults self.new }
+        ensures cause { OnErr result (RoseOrFull (faults self.old) (faults self.new)) }
+        ensures same { whose self.new ≡ whose self.old };
+
+    ghost bounded: { (source : Self) → faults source ≤ last_count };
+}
+
+impl<S: Source> Source for &mut S {
+    ghost left = { λ s. S.left s.now };
+
+    ghost faults = { λ s. S.faults s.now };
+
+    ghost whose = { λ s. s.ghost_name };
+
+    fn read(&mut self, buffer: &mut [u8]) -> std::result::Result<usize, Failed> {
+        (**self).read(buffer)
+    }
+
+    ghost bounded = { λ s. S.bounded s.now };
+}
