@@ -1,0 +1,4 @@
+pub mod Buffered
+pub mod Filling
+pub mod Joined
+pub mod Lending

@@ -1,0 +1,49 @@
+ghost use Rattle.std.specs.Prelude.{◌≡◌, ℕ, List, Option, Result};
+ghost use Rattle.std.specs.Borrow.{sem};
+ghost use Rattle.std.specs.Io.BufRead.{Rests};
+ghost use Rattle.lending.specs.Lending.{Advanced, IsShown, IsNext};
+
+/// An iterator that lends one item after another, each until the next is asked for, and fails with an error of its own.
+/// It ends: there is a number, `to_come`, that each item shown and each error lowers.
+pub trait FallibleStreamingIterator: Drop {
+    /// What `advance` answers where it comes to no item and is not at the end.
+    type Error;
+
+    // Where `advance` may be called.
+    ghost can_advance: { Self → Type 0 };
+
+    // One `advance`: the iterator before, the answer, the iterator after.
+    ghost step: { Self → Result (Unit {0}) Self.Error → Self → Type 0 };
+
+    // What `get` shows.
+    ghost shown: { Self → Option (List ℕ) };
+
+    // At most so many items and errors come.
+    ghost to_come: { Self → ℕ };
+
+    // Relates the iterator to the items still to be shown, up to the end or the first error, where it tells them.
+    ghost items: { Self → List (List ℕ) → Type 0 };
+
+    // What `size_hint` may answer.
+    ghost hints: { Self → ℕ × Option ℕ → Type 0 };
+
+    /// Goes on to the next item. After `Ok`, `get` shows it, or nothing where there is no further item; after an error `get`
+    /// shows nothing.
+    fn advance(&mut self) -> std::result::Result<(), Self::Error>
+        requires { can_advance self.old }
+        ensures { Advanced can_advance step shown to_come items self.old result self.new };
+
+    /// The item that the last `advance` came to, as its bytes; nothing before the first. It takes no memory.
+    fn get(&self) -> Option<&[u8]>
+        ensures { IsShown result (shown self.now) };
+
+    /// `advance`, and then `get`.
+    fn next(&mut self) -> std::result::Result<Option<&[u8]>, Self::Error>
+        requires { can_advance self.old }
+        ensures* advances { sem 𝓛 (Rests Self.row self.entry (λ new.
+            (answer : Result (Unit {0}) Self.Error) × Advanced can_advance step shown to_come items self.old answer new × IsNext result answer (shown new))) };
+
+    /// A lower and, where there is one, an upper bound of the number of items still to come.
+    fn size_hint(&self) -> (usize, Option<usize>)
+        ensures { hints self.now result };
+}

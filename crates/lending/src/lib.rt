@@ -1,0 +1,12 @@
+//! Iterators that lend their items: each item is shown until the next is asked for.
+#![tactic(auto)]
+
+mod buffered;
+mod fallible;
+mod streaming;
+#[cfg(test)]
+mod tests;
+
+pub use buffered::BufStreamingIterator;
+pub use fallible::FallibleStreamingIterator;
+pub use streaming::StreamingIterator;
