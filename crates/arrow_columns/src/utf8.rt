@@ -1,0 +1,222 @@
+ghost use Rattle.std.specs.Prelude.{◌≡◌, ℕ, ◌+◌, ◌-◌, ◌<◌, ◌≤◌, ◌↔◌, IsTrue, IsUtf8, IfOk, IfErr, length, map, take, drop, vec_len};
+ghost use Rattle.std.specs.Option.{option_copied};
+ghost use Rattle.arrow_lists.specs.declared.error.Error.TheVariants.{OutOfMemory};
+ghost use Rattle.arrow_types.specs.declared.slot.Slot.TheVariants.{Words};
+ghost use Rattle.arrow_columns.specs.Offsets.{IsOffsets, AreTexts};
+ghost use Rattle.arrow_columns.specs.Slots.{TellsHeld, is_held, slot_at, slots_of, text_at};
+ghost use Rattle.arrow_columns.specs.Parts.{TextFits, IsRefusalOf, text_type};
+
+use crate::offsets::{are_offsets, part_bounds};
+use crate::validity;
+use arrow_bitmap::Bitmap;
+use arrow_lists::{Error, Reason, Result};
+use arrow_types::{DataType, Offset};
+use simdutf8::compat::from_utf8;
+use std::alloc::Global;
+use std::marker::Model;
+use std::rc::RcSlice;
+
+/// Texts, which lie one after another in a shared buffer of bytes, between shared offsets
+/// (Arrow columnar format, "Variable-size Binary Layout").
+///
+/// The offsets of `i32` make the type Utf8, and those of `i64` LargeUtf8.
+#[derive(Drop)]
+pub struct Utf8Array<O: Offset> {
+    data_type: DataType,
+    offsets: RcSlice<O>,
+    values: RcSlice<u8>,
+    start: usize,
+    count: usize,
+    validity: Option<Bitmap>,
+}
+
+impl<O: Offset> Model for Utf8Array<O> {
+    ghost use Rattle.std.specs.Prelude.{◌+◌, map, take, drop};
+    ghost use Rattle.std.specs.Rc.{rc_slice_items};
+    ghost use Rattle.arrow_columns.specs.Columns.{TextColumn, text_column_code};
+    ghost use Rattle.arrow_columns.specs.Slots.{slots_of, text_at};
+    ghost use Rattle.arrow_columns.specs.Parts.{TextParts, text_type};
+
+    ghost Value = { TextColumn };
+
+    ghost coded = { text_column_code };
+
+    ghost view = { λ a. record {
+      data_type = a.data_type;
+      slots = slots_of (text_at (map O.place (rc_slice_items a.offsets)) (rc_slice_items a.values)) a.validity a.start a.count;
+      offsets = take (a.count + 1) (drop a.start (map O.place (rc_slice_items a.offsets)));
+      bytes = rc_slice_items a.values;
+    } };
+
+    ghost invariant = { λ a. TextParts (text_type O.IS_LARGE) a.data_type (map O.place (rc_slice_items a.offsets)) (rc_slice_items a.values) a.validity a.start a.count };
+}
+
+/// The `count` items from `start` on.
+fn run_of<T>(items: &[T], start: usize, count: usize) -> &[T]
+    requires { start + count ≤ length items.now }
+    ensures { result.now ≡ take count (drop start items.now) }
+{
+    &items[start..start + count]
+}
+
+/// Whether this is the type of texts with such offsets.
+fn is_text_type<O: Offset>(data_type: &DataType) -> bool
+    ensures { IsTrue result ↔ (data_type.now ≡ text_type O.IS_LARGE) }
+{
+    if O::IS_LARGE {
+        matches!(data_type, DataType::LargeUtf8)
+    } else {
+        matches!(data_type, DataType::Utf8)
+    }
+}
+
+/// Whether the bytes between each two neighbouring offsets are UTF-8.
+fn are_texts<O: Offset>(offsets: &[O], values: &[u8]) -> bool
+    requires { IsOffsets (map O.place offsets.now) (length values.now) }
+    ensures { IsTrue result ↔ AreTexts (map O.place offsets.now) values.now }
+{
+    for i in 1..offsets.len() {
+        let (start, end) = part_bounds(offsets, i - 1, values.len());
+        match from_utf8(&values[start..end]) {
+            Ok(_) => {}
+            Err(_) => return false,
+        }
+    }
+    true
+}
+
+/// Whether these parts make an array of texts.
+fn fits<O: Offset>(
+    data_type: &DataType,
+    offsets: &[O],
+    values: &[u8],
+    validity: &Option<Bitmap>,
+) -> bool
+    ensures { IsTrue result ↔ TextFits (text_type O.IS_LARGE) data_type.now (map O.place offsets.now) values.now validity.now }
+{
+    if !is_text_type::<O>(data_type) {
+        return false;
+    }
+    if !are_offsets(offsets, values.len()) {
+        return false;
+    }
+    if !validity::fits(validity, offsets.len() - 1) {
+        return false;
+    }
+    are_texts(offsets, values)
+}
+
+impl<O: Offset> Utf8Array<O> {
+    /// The array of the texts between each two neighbouring offsets into the bytes of `values`,
+    /// null where the validity is false.
+    ///
+    /// `InvalidArgumentError(ArrayParts)` where the type isn't that of such offsets; where there is
+    /// no offset, or one is negative, below the one before, or past the end; where the bytes
+    /// between two neighbouring offsets aren't UTF-8; or where a given validity hasn't one value
+    /// fewer than there are offsets. `OutOfMemory`.
+    pub fn try_new(
+        _alloc: Global,
+        data_type: DataType,
+        offsets: Vec<O>,
+        values: Vec<u8>,
+        validity: Option<Bitmap>,
+    ) -> Result<Utf8Array<O>>
+        ensures data_type { IfOk result (λ a. a.data_type ≡ data_type) }
+        ensures slots { IfOk result (λ a. a.slots ≡ slots_of (text_at (map O.place offsets.items) values.items) validity 0 (vec_len offsets - 1)) }
+        ensures offsets { IfOk result (λ a. a.offsets ≡ map O.place offsets.items) }
+        ensures bytes { IfOk result (λ a. a.bytes ≡ values.items) }
+        ensures fits { IfOk result (λ _. TextFits (text_type O.IS_LARGE) data_type (map O.place offsets.items) values.items validity) }
+        ensures err { IfErr result (IsRefusalOf (TextFits (text_type O.IS_LARGE) data_type (map O.place offsets.items) values.items validity)) }
+    {
+        if !fits(&data_type, offsets.as_slice(), values.as_slice(), &validity) {
+            return Err(Error::InvalidArgumentError(Reason::ArrayParts));
+        }
+        Utf8Array::from_parts(data_type, offsets, values, validity)
+    }
+
+    /// The array of parts that fit, as `try_new` gives it, without a look at the bytes.
+    ///
+    /// `OutOfMemory` alone.
+    pub fn from_parts(
+        data_type: DataType,
+        offsets: Vec<O>,
+        values: Vec<u8>,
+        validity: Option<Bitmap>,
+    ) -> Result<Utf8Array<O>>
+        requires { TextFits (text_type O.IS_LARGE) data_type (map O.place offsets.items) values.items validity }
+        ensures data_type { IfOk result (λ a. a.data_type ≡ data_type) }
+        ensures slots { IfOk result (λ a. a.slots ≡ slots_of (text_at (map O.place offsets.items) values.items) validity 0 (vec_len offsets - 1)) }
+        ensures offsets { IfOk result (λ a. a.offsets ≡ map O.place offsets.items) }
+        ensures bytes { IfOk result (λ a. a.bytes ≡ values.items) }
+        ensures err { IfErr result (λ e. e ≡ OutOfMemory) }
+    {
+        let count = offsets.len() - 1;
+        let offsets = RcSlice::from_vec(offsets)?;
+        let values = RcSlice::from_vec(values)?;
+        Ok(Utf8Array {
+            data_type,
+            offsets,
+            values,
+            start: 0,
+            count,
+            validity,
+        })
+    }
+
+    /// How many slots there are.
+    pub fn len(&self) -> usize
+        ensures { result ≡ length self.now.slots }
+    {
+        self.count
+    }
+
+    /// The data type.
+    pub fn data_type(&self) -> &DataType
+        ensures { result.now ≡ self.now.data_type }
+    {
+        &self.data_type
+    }
+
+    /// The offsets of the slots, one more than there are slots: a slot that isn't null is the
+    /// text between its offset and the next in `values`.
+    pub fn offsets(&self) -> &[O]
+        ensures offsets { map O.place result.now ≡ self.now.offsets }
+        ensures slots { (k : ℕ) → k < length self.now.slots → IsTrue (is_held (slot_at self.now.slots k)) → slot_at self.now.slots k ≡ text_at (map O.place result.now) self.now.bytes k }
+    {
+        run_of(self.offsets.as_slice(), self.start, self.count + 1)
+    }
+
+    /// The bytes that the texts lie in.
+    pub fn values(&self) -> &[u8]
+        ensures { result.now ≡ self.now.bytes }
+    {
+        self.values.as_slice()
+    }
+
+    /// Which slots aren't null; `None` only where none is.
+    pub fn validity(&self) -> Option<&Bitmap>
+        ensures { TellsHeld (option_copied result) self.now.slots }
+    {
+        self.validity.as_ref()
+    }
+
+    /// Whether slot `i` isn't null.
+    pub fn is_valid(&self, i: usize) -> bool
+        requires { i < length self.now.slots }
+        ensures { result ≡ is_held (slot_at self.now.slots i) }
+    {
+        validity::is_valid(&self.validity, self.count, i)
+    }
+
+    /// The text of slot `i`; at a null, whatever the buffer has there.
+    pub fn value(&self, i: usize) -> &str
+        requires { i < length self.now.slots }
+        ensures { IsTrue (is_held (slot_at self.now.slots i)) → slot_at self.now.slots i ≡ Words result.now }
+    {
+        let offsets = self.offsets.as_slice();
+        let values = self.values.as_slice();
+        let (start, end) = part_bounds(offsets, self.start + i, values.len());
+        // The constructors have seen that these bytes are UTF-8.
+        unsafe { str::from_utf8_unchecked(&values[start..end]) }
+    }
+}
