@@ -1,0 +1,155 @@
+//! A bitmap that grows.
+
+ghost use Rattle.std.specs.Prelude.{◌≡◌, ◌≢◌, ℕ, ◌+◌, ◌*◌, ◌<◌, ◌≤◌, ◌++◌, ◌∷◌, [], length, vec_len, vec_capacity, IsOk, IfOk, IfErr, OnOk, OnErr};
+ghost use Rattle.arrow_bitmap.specs.Bits.{bit_of, truth_of};
+ghost use Rattle.arrow_lists.specs.declared.error.Error.TheVariants.{OutOfMemory};
+
+use arrow_bitmap::Bitmap;
+use arrow_lists::Result;
+use std::alloc::{AllocError, Global};
+use std::marker::Model;
+
+/// The most bits that one bitmap holds.
+const MOST_BITS: usize = 9223372036854775807;
+
+/// Truth values, packed 64 to a word, that grow bit by bit.
+#[derive(Drop)]
+pub(crate) struct MutableBitmap {
+    words: Vec<u64>,
+    count: usize,
+}
+
+impl Model for MutableBitmap {
+    ghost use Rattle.std.specs.Prelude.{Bool, ◌-◌, vec_capacity};
+    ghost use Rattle.std.specs.Coded.{coded_bool};
+    ghost use Rattle.arrow_builders.specs.Room.{Growing, growing_code};
+    ghost use Rattle.arrow_bitmap.specs.Bits.{truths_of};
+    ghost use Rattle.arrow_builders.specs.Bits.{bit_room, HoldBits};
+
+    ghost Value = { Growing Bool };
+
+    ghost coded = { growing_code coded_bool };
+
+    ghost view = { λ b. record {
+      items = truths_of b.words.items 0 b.count;
+      spare = bit_room (vec_capacity b.words) - b.count;
+    } };
+
+    ghost invariant = { λ b. HoldBits b.words.items b.count };
+}
+
+/// Adds a word of zeros where bit `i` lies just past the words.
+#[tactic(auto, using(crate::proofs::Bits::bit_of_push))]
+fn add_word(words: &mut Vec<u64>, i: usize)
+    requires near { i ≤ 64 * vec_len words.old }
+    requires room { i < 64 * vec_capacity words.old }
+    ensures within { i < 64 * vec_len words.new }
+    ensures tight { 64 * vec_len words.old < i + 64 → 64 * vec_len words.new < i + 65 }
+    ensures same { (k : ℕ) → bit_of words.new.items k ≡ bit_of words.old.items k }
+    ensures capacity { vec_capacity words.new ≡ vec_capacity words.old }
+{
+    if i / 64 == words.len() {
+        words.push_reserved(0);
+    }
+}
+
+/// Sets bit `i`.
+fn set_bit(words: &mut Vec<u64>, i: usize)
+    requires { i < 64 * vec_len words.old }
+    ensures len { vec_len words.new ≡ vec_len words.old }
+    ensures set { bit_of words.new.items i ≡ 1 }
+    ensures others { (k : ℕ) → k ≢ i → bit_of words.new.items k ≡ bit_of words.old.items k }
+    ensures capacity { vec_capacity words.new ≡ vec_capacity words.old }
+{
+    let word = words[i / 64];
+    words[i / 64] = word | 1 << (i % 64);
+}
+
+/// Writes bit `i`, which is not set yet.
+fn write_bit(words: &mut Vec<u64>, i: usize, value: bool)
+    requires within { i < 64 * vec_len words.old }
+    requires clear { bit_of words.old.items i ≡ 0 }
+    ensures len { vec_len words.new ≡ vec_len words.old }
+    ensures written { truth_of words.new.items i ≡ value }
+    ensures others { (k : ℕ) → k ≢ i → bit_of words.new.items k ≡ bit_of words.old.items k }
+    ensures capacity { vec_capacity words.new ≡ vec_capacity words.old }
+{
+    if value {
+        set_bit(words, i);
+    }
+}
+
+#[tactic(auto, using(crate::proofs::Slots::counts))]
+impl MutableBitmap {
+    /// An empty bitmap. It takes no memory.
+    pub fn new(alloc: Global) -> MutableBitmap
+        ensures { result.items ≡ [] }
+    {
+        MutableBitmap {
+            words: Vec::new(alloc),
+            count: 0,
+        }
+    }
+
+    /// Makes room for so many more bits. An error changes nothing.
+    pub fn reserve(&mut self, additional: usize) -> std::result::Result<(), AllocError>
+        ensures items { self.new.items ≡ self.old.items }
+        ensures room { self.old.spare ≤ self.new.spare }
+        ensures ok { OnOk result (additional ≤ self.new.spare) }
+        ensures err { OnErr result (self.new ≡ self.old) }
+        ensures succeeds { additional ≤ self.old.spare → IsOk result }
+    {
+        if additional > MOST_BITS - self.count {
+            return Err(AllocError);
+        }
+        let words = (self.count + additional + 63) / 64;
+        self.words.reserve(words - self.words.len())?;
+        Ok(())
+    }
+
+    /// Appends a bit, for which there is room.
+    pub fn push_reserved(&mut self, value: bool)
+        requires { 1 ≤ self.old.spare }
+        ensures items { self.new.items ≡ self.old.items ++ value ∷ [] }
+        ensures room { self.new.spare + 1 ≡ self.old.spare }
+    {
+        add_word(&mut self.words, self.count);
+        write_bit(&mut self.words, self.count, value);
+        self.count += 1;
+    }
+
+    /// How many bits there are.
+    pub fn len(&self) -> usize
+        ensures { result ≡ length self.now.items }
+    {
+        self.count
+    }
+
+    /// The bitmap of these bits, over the same words.
+    pub fn freeze(self) -> Result<Bitmap>
+        ensures ok { IfOk result (λ b. b.truths ≡ self.items) }
+        ensures err { IfErr result (λ e. e ≡ OutOfMemory) }
+    {
+        let MutableBitmap { words, count } = self;
+        Bitmap::try_from_words(words, count)
+    }
+
+    /// Drops every bit and keeps the room.
+    pub fn clear(&mut self)
+        ensures items { self.new.items ≡ [] }
+        ensures room { length self.old.items + self.old.spare ≤ self.new.spare }
+    {
+        self.words.clear();
+        self.count = 0;
+    }
+}
+
+/// The bitmaps of the bits of both, over the same words.
+pub(crate) fn freeze_both(left: MutableBitmap, right: MutableBitmap) -> Result<(Bitmap, Bitmap)>
+    ensures ok { IfOk result (λ b. (b.0.truths ≡ left.items) × (b.1.truths ≡ right.items)) }
+    ensures err { IfErr result (λ e. e ≡ OutOfMemory) }
+{
+    let left = left.freeze()?;
+    let right = right.freeze()?;
+    Ok((left, right))
+}

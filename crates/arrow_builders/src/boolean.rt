@@ -1,0 +1,178 @@
+//! A builder of truth values.
+
+ghost use Rattle.std.specs.Prelude.{◌≡◌, ◌≤◌, ◌++◌, ◌∷◌, [], length, if◌then◌else◌, IsOk, IfOk, IfErr, OnOk, OnErr};
+ghost use Rattle.arrow_lists.specs.declared.error.Error.TheVariants.{OutOfMemory};
+ghost use Rattle.arrow_types.specs.declared.slot.Slot.TheVariants.{Null as NullSlot, Truth};
+ghost use Rattle.arrow_builders.specs.Builders.{plain_node, optional_slot};
+ghost use Rattle.arrow_builders.specs.Nodes.{KeepsRoom, Roomier, Emptied, HasRoom};
+
+use crate::bitmap::{MutableBitmap, freeze_both};
+use crate::container::Container;
+use crate::lengths::NodeLengths;
+use arrow_columns::BooleanArray;
+use arrow_lists::Result;
+use arrow_types::DataType;
+use std::alloc::Global;
+use std::marker::Model;
+use std::mem;
+
+/// A builder of truth values, packed in a bitmap beside a validity bitmap
+/// (Arrow columnar format, "Fixed-size Primitive Layout").
+#[derive(Drop)]
+pub struct MutableBooleanArray {
+    alloc: Global,
+    data_type: DataType,
+    values: MutableBitmap,
+    validity: MutableBitmap,
+}
+
+impl Model for MutableBooleanArray {
+    ghost use Rattle.std.specs.Prelude.{◌≡◌, length, min};
+    ghost use Rattle.arrow_builders.specs.Builders.{PlainBuilder, plain_builder_code, slots_where};
+
+    ghost Value = { PlainBuilder };
+
+    ghost coded = { plain_builder_code };
+
+    ghost use Rattle.arrow_types.specs.declared.types.DataType.TheVariants.{Boolean};
+    ghost use Rattle.arrow_columns.specs.Slots.{truth_at};
+
+    ghost view = { λ b. record {
+      data_type = b.data_type;
+      slots = slots_where b.validity.items (truth_at b.values.items);
+      spare = min b.values.spare b.validity.spare;
+    } };
+
+    ghost invariant = { λ b. (length b.values.items ≡ length b.validity.items) × (b.data_type ≡ Boolean) };
+}
+
+impl Container for MutableBooleanArray {
+    ghost use Rattle.arrow_types.specs.declared.types.DataType.TheVariants.{Boolean};
+    ghost use Rattle.arrow_builders.specs.Builders.{IsNewPlain};
+
+    ghost is_new = { IsNewPlain Boolean };
+
+    fn with_capacity(alloc: Global, capacity: usize) -> Result<MutableBooleanArray> {
+        let mut values = MutableBitmap::new(alloc);
+        values.reserve(capacity)?;
+        let mut validity = MutableBitmap::new(alloc);
+        validity.reserve(capacity)?;
+        Ok(MutableBooleanArray {
+            alloc,
+            data_type: DataType::Boolean,
+            values,
+            validity,
+        })
+    }
+}
+
+#[tactic(auto, using(crate::proofs::Slots::counts))]
+impl MutableBooleanArray {
+    /// How many slots there are.
+    pub fn len(&self) -> usize
+        ensures { result ≡ length self.now.slots }
+    {
+        self.validity.len()
+    }
+
+    /// The data type, Boolean.
+    pub fn data_type(&self) -> &DataType
+        ensures { result.now ≡ self.now.data_type }
+    {
+        &self.data_type
+    }
+
+    /// How much the builder holds.
+    pub(crate) fn lengths(&self) -> NodeLengths
+        ensures slots { result.slots ≡ length self.now.slots }
+        ensures bytes { result.bytes ≡ 0 }
+    {
+        NodeLengths {
+            slots: self.validity.len(),
+            bytes: 0,
+        }
+    }
+
+    /// Appends a slot, null for `None`. `OutOfMemory` changes nothing.
+    pub fn push(&mut self, value: Option<bool>) -> Result<()>
+        ensures data_type { self.new.data_type ≡ self.old.data_type }
+        ensures ok { OnOk result (self.new.slots ≡ self.old.slots ++ optional_slot Truth value ∷ []) }
+        ensures err { OnErr result (self.new ≡ self.old) }
+        ensures memory { IfErr result (λ e. e ≡ OutOfMemory) }
+        ensures room { KeepsRoom (plain_node self.old) (plain_node self.new) }
+        ensures roomy { 1 ≤ self.old.spare → IsOk result }
+    {
+        match value {
+            None => self.push_slot(false, false),
+            Some(truth) => self.push_slot(truth, true),
+        }
+    }
+
+    /// Appends a null. `OutOfMemory` changes nothing.
+    pub fn push_null(&mut self) -> Result<()>
+        ensures data_type { self.new.data_type ≡ self.old.data_type }
+        ensures ok { OnOk result (self.new.slots ≡ self.old.slots ++ NullSlot ∷ []) }
+        ensures err { OnErr result (self.new ≡ self.old) }
+        ensures memory { IfErr result (λ e. e ≡ OutOfMemory) }
+        ensures room { KeepsRoom (plain_node self.old) (plain_node self.new) }
+        ensures roomy { 1 ≤ self.old.spare → IsOk result }
+    {
+        self.push_slot(false, false)
+    }
+
+    fn push_slot(&mut self, truth: bool, is_valid: bool) -> Result<()>
+        ensures data_type { self.new.data_type ≡ self.old.data_type }
+        ensures ok { OnOk result (self.new.slots
+            ≡ self.old.slots ++ (if is_valid then Truth truth else NullSlot) ∷ []) }
+        ensures err { OnErr result (self.new ≡ self.old) }
+        ensures memory { IfErr result (λ e. e ≡ OutOfMemory) }
+        ensures room { KeepsRoom (plain_node self.old) (plain_node self.new) }
+        ensures roomy { 1 ≤ self.old.spare → IsOk result }
+    {
+        self.values.reserve(1)?;
+        self.validity.reserve(1)?;
+        self.values.push_reserved(truth);
+        self.validity.push_reserved(is_valid);
+        Ok(())
+    }
+
+    /// Makes room for so many more slots. `OutOfMemory` leaves the slots as they are.
+    pub fn reserve_for(&mut self, bytes: usize) -> Result<()>
+        ensures data_type { self.new.data_type ≡ self.old.data_type }
+        ensures slots { self.new.slots ≡ self.old.slots }
+        ensures memory { IfErr result (λ e. e ≡ OutOfMemory) }
+        ensures room { Roomier (plain_node self.old) (plain_node self.new) }
+        ensures ok { OnOk result (HasRoom bytes (plain_node self.new)) }
+    {
+        self.values.reserve(bytes)?;
+        self.validity.reserve(bytes)?;
+        Ok(())
+    }
+
+    /// Drops every slot and keeps the room.
+    pub fn clear(&mut self)
+        ensures data_type { self.new.data_type ≡ self.old.data_type }
+        ensures slots { self.new.slots ≡ [] }
+        ensures room { Emptied (plain_node self.old) (plain_node self.new) }
+    {
+        self.values.clear();
+        self.validity.clear();
+    }
+
+    /// The array of the slots, over the builder's buffers. The builder is then empty.
+    ///
+    /// After `OutOfMemory` the builder may have lost its slots.
+    pub fn as_box(&mut self) -> Result<BooleanArray>
+        ensures data_type { self.new.data_type ≡ self.old.data_type }
+        ensures array_type { IfOk result (λ a. a.data_type ≡ self.old.data_type) }
+        ensures array_slots { IfOk result (λ a. a.slots ≡ self.old.slots) }
+        ensures emptied { OnOk result (self.new.slots ≡ []) }
+        ensures memory { IfErr result (λ e. e ≡ OutOfMemory) }
+    {
+        let values = mem::replace(&mut self.values, MutableBitmap::new(self.alloc));
+        let validity = mem::replace(&mut self.validity, MutableBitmap::new(self.alloc));
+        let (values, validity) = freeze_both(values, validity)?;
+        let data_type = self.data_type.try_clone(self.alloc)?;
+        Ok(BooleanArray::from_bitmaps(data_type, values, Some(validity)))
+    }
+}
