@@ -1,0 +1,178 @@
+-- Members by their places.
+use Rattle.std.proofs.Common.{◌≡◌, ◌⊎◌, inl, inr, ℕ, zero, suc, ◌+◌, ◌-◌, ◌<◌, ◌≤◌, Bool, true, false, not, cond, ◌||◌, List, [], ◌∷◌, ◌++◌, length, drop, set, get_or, Option, Some, None, MatchOption, String, Global, string_bytes, refl, sym, ap, subst, ◌∙◌, arith}
+use Rattle.std.proofs.lemmas.Bool.{and_parts, true≢false}
+use Rattle.std.proofs.lemmas.List.{length-drop, drop-append-le, at_drop_all}
+use Rattle.std.proofs.lemmas.Slice.Eq.{bytes_eq-Decides}
+use Rattle.std.proofs.lemmas.Map.Text.{btree_map_updates_text}
+use Rattle.std.specs.Prelude.{Result, Ok, Err, is_ok, is_err}
+use Rattle.std.specs.BTreeMap.{BTreeMap, UpdatesBy, get_by_text}
+use Rattle.std.specs.String.{string_cmp}
+use Rattle.std.specs.Str.{bytes_eq}
+use Rattle.json_tree.specs.Keys.{put, value_of, keys_of, meets, distinct, place, place_from, Indexed}
+
+pub pushed : {X E A : Type 0} (r : Result X E) (new a o : List A) → is_err r ≡ false → new ≡ cond (is_ok r) a o → new ≡ a
+pushed (Ok x) new a o e h = h
+pushed (Err x) new a o e h = absurd (true≢false e)
+
+module _ {V : Type 0} where
+  pub length-keys : (ms : List (List ℕ × V)) → length (keys_of ms) ≡ length ms
+  length-keys [] = refl
+  length-keys (m ∷ ms) = ap suc (length-keys ms)
+
+  pub keys-append : (ms : List (List ℕ × V)) (k : List ℕ) (v : V) → keys_of (ms ++ (k, v) ∷ []) ≡ keys_of ms ++ k ∷ []
+  keys-append [] k v = refl
+  keys-append (m ∷ ms) k v = ap (λ l. m.0 ∷ l) (keys-append ms k v)
+
+  pub put-at : (ms : List (List ℕ × V)) (k : List ℕ) (v : V) (d : List ℕ × V) → place k (keys_of ms) < length ms → put ms (k, v) ≡ set ms (place k (keys_of ms)) ((get_or ms (place k (keys_of ms)) d).0, v)
+  unfolding put
+  put-at [] k v d l = absurd (omega (arith, l))
+  put-at (m ∷ ms) k v d l = at (bytes_eq m.0 k) l (λ p. put-at ms k v d p)
+    where
+      at : (b : Bool) → cond b 0 (suc (place k (keys_of ms))) < suc (length ms) → (place k (keys_of ms) < length ms → put ms (k, v) ≡ set ms (place k (keys_of ms)) ((get_or ms (place k (keys_of ms)) d).0, v))
+          → cond b ((m.0, v) ∷ ms) (m ∷ put ms (k, v)) ≡ set (m ∷ ms) (cond b 0 (suc (place k (keys_of ms)))) ((get_or (m ∷ ms) (cond b 0 (suc (place k (keys_of ms)))) d).0, v)
+      at true l h = refl
+      at false l h = ap (λ r. m ∷ r) (h (omega (arith, l)))
+
+  pub keys-put : (ms : List (List ℕ × V)) (k : List ℕ) (v : V) → place k (keys_of ms) < length ms → keys_of (put ms (k, v)) ≡ keys_of ms
+  unfolding put
+  keys-put [] k v l = absurd (omega (arith, l))
+  keys-put (m ∷ ms) k v l = at (bytes_eq m.0 k) l (λ p. keys-put ms k v p)
+    where
+      at : (b : Bool) → cond b 0 (suc (place k (keys_of ms))) < suc (length ms) → (place k (keys_of ms) < length ms → keys_of (put ms (k, v)) ≡ keys_of ms)
+          → keys_of (cond b ((m.0, v) ∷ ms) (m ∷ put ms (k, v))) ≡ keys_of (m ∷ ms)
+      at true l h = refl
+      at false l h = ap (λ r. m.0 ∷ r) (h (omega (arith, l)))
+
+  pub put-end : (ms : List (List ℕ × V)) (k : List ℕ) (v : V) → length ms ≤ place k (keys_of ms) → put ms (k, v) ≡ ms ++ (k, v) ∷ []
+  unfolding put
+  put-end [] k v l = refl
+  put-end (m ∷ ms) k v l = at (bytes_eq m.0 k) l (λ p. put-end ms k v p)
+    where
+      at : (b : Bool) → suc (length ms) ≤ cond b 0 (suc (place k (keys_of ms))) → (length ms ≤ place k (keys_of ms) → put ms (k, v) ≡ ms ++ (k, v) ∷ [])
+          → cond b ((m.0, v) ∷ ms) (m ∷ put ms (k, v)) ≡ m ∷ (ms ++ (k, v) ∷ [])
+      at true l h = absurd (omega (arith, l))
+      at false l h = ap (λ r. m ∷ r) (h (omega (arith, l)))
+
+  pub value-at : (ms : List (List ℕ × V)) (k : List ℕ) (d : List ℕ × V) → place k (keys_of ms) < length ms → value_of k ms ≡ Some (get_or ms (place k (keys_of ms)) d).1
+  value-at [] k d l = absurd (omega (arith, l))
+  value-at (m ∷ ms) k d l = at (bytes_eq m.0 k) l (λ p. value-at ms k d p)
+    where
+      at : (b : Bool) → cond b 0 (suc (place k (keys_of ms))) < suc (length ms) → (place k (keys_of ms) < length ms → value_of k ms ≡ Some (get_or ms (place k (keys_of ms)) d).1)
+          → cond b (Some m.1) (value_of k ms) ≡ Some (get_or (m ∷ ms) (cond b 0 (suc (place k (keys_of ms)))) d).1
+      at true l h = refl
+      at false l h = h (omega (arith, l))
+
+  pub value-none : (ms : List (List ℕ × V)) (k : List ℕ) → length ms ≤ place k (keys_of ms) → value_of k ms ≡ None
+  value-none [] k l = refl
+  value-none (m ∷ ms) k l = at (bytes_eq m.0 k) l (λ p. value-none ms k p)
+    where
+      at : (b : Bool) → suc (length ms) ≤ cond b 0 (suc (place k (keys_of ms))) → (length ms ≤ place k (keys_of ms) → value_of k ms ≡ None) → cond b (Some m.1) (value_of k ms) ≡ None
+      at true l h = absurd (omega (arith, l))
+      at false l h = h (omega (arith, l))
+
+  pub put-set : (ms : List (List ℕ × V)) (k : List ℕ) (v : V) (at : ℕ) (d : List ℕ × V) → at ≡ place k (keys_of ms) → at < length ms → d ≡ get_or ms at d → set ms at (d.0, v) ≡ put ms (k, v)
+  put-set ms k v at d e l g =
+      let m : place k (keys_of ms) < length ms = omega (arith, e, l) in
+      let f : d ≡ get_or ms (place k (keys_of ms)) d = g ∙ ap (λ n. get_or ms n d) e in
+      ap (λ n. set ms n (d.0, v)) e ∙ ap (λ o. set ms (place k (keys_of ms)) (o.0, v)) f ∙ sym (put-at ms k v d m)
+
+  pub keys-set : (ms : List (List ℕ × V)) (k : List ℕ) (v : V) (at : ℕ) (d : List ℕ × V) → at ≡ place k (keys_of ms) → at < length ms → d ≡ get_or ms at d → keys_of (set ms at (d.0, v)) ≡ keys_of ms
+  keys-set ms k v at d e l g = ap keys_of (put-set ms k v at d e l g) ∙ keys-put ms k v (omega (arith, e, l))
+
+  pub value-found : (ms : List (List ℕ × V)) (k : List ℕ) (at : ℕ) (d : List ℕ × V) → at ≡ place k (keys_of ms) → at < length ms → d ≡ get_or ms at d → value_of k ms ≡ Some d.1
+  value-found ms k at d e l g =
+      value-at ms k d (omega (arith, e, l)) ∙ ap (λ n. Some (get_or ms n d).1) (sym e) ∙ ap (λ o. Some o.1) (sym g)
+
+  pub keys-behind : (n : ℕ) (ms : List (List ℕ × V)) → keys_of (drop n ms) ≡ drop n (keys_of ms)
+  keys-behind zero ms = refl
+  keys-behind (suc n) [] = refl
+  keys-behind (suc n) (m ∷ ms) = keys-behind n ms
+
+  -- where a scan of the first 16 ends
+  pub scan-end : (ms : List (List ℕ × V)) (k : List ℕ) (i p : ℕ) → p ≡ i + place k (keys_of (drop i ms)) → i ≤ length ms → i ≤ 16 → (length ms ≤ i) ⊎ (16 ≤ i)
+      → p ≡ (length ms - (length ms - 16)) + place k (keys_of (drop 16 ms))
+  scan-end ms k i p e l s (inl a) =
+      let here : place k (keys_of (drop i ms)) ≡ 0 = at_drop_all (λ xs. place k (keys_of xs)) ms i a in
+      let there : place k (keys_of (drop 16 ms)) ≡ 0 = at_drop_all (λ xs. place k (keys_of xs)) ms 16 (omega (arith, a, s)) in
+      omega (arith, here, there, e, l, s, a)
+  scan-end ms k i p e l s (inr a) =
+      let same : i ≡ 16 = omega (arith, s, a) in
+      let here : place k (keys_of (drop i ms)) ≡ place k (keys_of (drop 16 ms)) = ap (λ n. place k (keys_of (drop n ms))) same in
+      omega (arith, here, same, e, l)
+
+from-place : (n : ℕ) (k : List ℕ) (ks : List (List ℕ)) → MatchOption (place_from n k ks) (length ks ≤ place k ks) (λ i. (i ≡ n + place k ks) × (place k ks < length ks))
+from-place n k [] = omega arith
+from-place n k (x ∷ xs) = at (bytes_eq x k) (place_from (suc n) k xs) (from-place (suc n) k xs)
+  where
+    at : (b : Bool) (r : Option ℕ) → MatchOption r (length xs ≤ place k xs) (λ i. (i ≡ suc n + place k xs) × (place k xs < length xs))
+        → MatchOption (cond b (Some n) r) (suc (length xs) ≤ cond b 0 (suc (place k xs))) (λ i. (i ≡ n + cond b 0 (suc (place k xs))) × (cond b 0 (suc (place k xs)) < suc (length xs)))
+    at true r h = (omega arith, omega arith)
+    at false None h = omega (arith, h)
+    at false (Some i) h = (omega (arith, h.0), omega (arith, h.1))
+
+module _ {V : Type 0} where
+  -- what an index of the keys behind the first 16 finds
+  pub found-behind : (ms : List (List ℕ × V)) (k : List ℕ) (r : Option ℕ) → r ≡ place_from 16 k (drop 16 (keys_of ms))
+      → place k (keys_of ms) ≡ (length ms - (length ms - 16)) + place k (keys_of (drop 16 ms))
+      → MatchOption r (length ms ≤ place k (keys_of ms)) (λ i. (i ≡ place k (keys_of ms)) × (i < length ms))
+  found-behind ms k r e p = go r (drop 16 (keys_of ms)) (subst (λ q. MatchOption q (length (drop 16 (keys_of ms)) ≤ place k (drop 16 (keys_of ms))) (λ i. (i ≡ 16 + place k (drop 16 (keys_of ms))) × (place k (drop 16 (keys_of ms)) < length (drop 16 (keys_of ms))))) (sym e) (from-place 16 k (drop 16 (keys_of ms))))
+      (length-drop 16 (keys_of ms) ∙ ap (λ n. n - 16) (length-keys ms)) (p ∙ ap (λ ks. (length ms - (length ms - 16)) + place k ks) (keys-behind 16 ms))
+    where
+      go : (q : Option ℕ) (ks : List (List ℕ)) → MatchOption q (length ks ≤ place k ks) (λ i. (i ≡ 16 + place k ks) × (place k ks < length ks))
+          → length ks ≡ length ms - 16 → place k (keys_of ms) ≡ (length ms - (length ms - 16)) + place k ks
+          → MatchOption q (length ms ≤ place k (keys_of ms)) (λ i. (i ≡ place k (keys_of ms)) × (i < length ms))
+      go None ks h n w = omega (arith, h, n, w)
+      go (Some i) ks h n w = (omega (arith, h.0, h.1, n, w), omega (arith, h.0, h.1, n, w))
+
+from-append : (n : ℕ) (k key : List ℕ) (ks : List (List ℕ)) → length ks ≤ place key ks
+    → place_from n k (ks ++ key ∷ []) ≡ cond (bytes_eq key k) (Some (n + length ks)) (place_from n k ks)
+from-append n k key [] l = ap (λ m. cond (bytes_eq key k) (Some m) None) (omega arith)
+from-append n k key (x ∷ xs) l = at (bytes_eq x key) refl l (bytes_eq x k) refl (bytes_eq key k) refl (λ m. from-append (suc n) k key xs m)
+  where
+    at : (a : Bool) → bytes_eq x key ≡ a → suc (length xs) ≤ cond a 0 (suc (place key xs)) → (b : Bool) → bytes_eq x k ≡ b → (c : Bool) → bytes_eq key k ≡ c
+        → (length xs ≤ place key xs → place_from (suc n) k (xs ++ key ∷ []) ≡ cond (bytes_eq key k) (Some (suc n + length xs)) (place_from (suc n) k xs))
+        → cond b (Some n) (place_from (suc n) k (xs ++ key ∷ [])) ≡ cond c (Some (n + suc (length xs))) (cond b (Some n) (place_from (suc n) k xs))
+    at true e m b f c g h = absurd (omega (arith, m))
+    at false e m true f true g h = absurd (true≢false (sym ((bytes_eq-Decides x key).1 ((bytes_eq-Decides x k).0 f ∙ sym ((bytes_eq-Decides key k).0 g))) ∙ e))
+    at false e m true f false g h = refl
+    at false e m false f c g h =
+        h (omega (arith, m)) ∙ ap (λ d. cond d (Some (suc n + length xs)) (place_from (suc n) k xs)) g
+        ∙ ap (λ j. cond c (Some j) (place_from (suc n) k xs)) (omega arith)
+
+place-behind : (n : ℕ) (k : List ℕ) (ks : List (List ℕ)) → length ks ≤ place k ks → length (drop n ks) ≤ place k (drop n ks)
+place-behind zero k ks l = l
+place-behind (suc n) k [] l = l
+place-behind (suc n) k (x ∷ xs) l = place-behind n k xs (at (bytes_eq x k) l)
+  where
+    at : (b : Bool) → suc (length xs) ≤ cond b 0 (suc (place k xs)) → length xs ≤ place k xs
+    at true m = absurd (omega (arith, m))
+    at false m = omega (arith, m)
+
+-- an index takes one more key
+pub indexed-more : (m n : BTreeMap (String Global) ℕ) (key : String Global) (bs : List ℕ) (at : ℕ) → string_bytes key ≡ bs → UpdatesBy string_cmp (string_cmp key) m n (Some at) → 16 ≤ at
+    → (ks : List (List ℕ)) → at ≡ length ks → length ks ≤ place bs ks → Indexed m (drop 16 ks) → Indexed n (drop 16 (ks ++ bs ∷ []))
+indexed-more m n key bs at e u s ks a l h k =
+    let split : drop 16 (ks ++ bs ∷ []) ≡ drop 16 ks ++ bs ∷ [] = drop-append-le 16 ks (bs ∷ []) (omega (arith, s, a)) in
+    let count : at ≡ 16 + length (drop 16 ks) = omega (arith, s, a, length-drop 16 ks) in
+    btree_map_updates_text (string_bytes key) m n (Some at) u k
+    ∙ ap (λ b. cond (bytes_eq b k) (Some at) (get_by_text m k)) e
+    ∙ ap (λ o. cond (bytes_eq bs k) (Some at) o) (h k)
+    ∙ ap (λ j. cond (bytes_eq bs k) (Some j) (place_from 16 k (drop 16 ks))) count
+    ∙ sym (from-append 16 k bs (drop 16 ks) (place-behind 16 bs ks l))
+    ∙ ap (place_from 16 k) (sym split)
+
+meets-push : (x k : List ℕ) (ks : List (List ℕ)) → not (meets x ks) ≡ true → bytes_eq x k ≡ false → not (meets x (ks ++ k ∷ [])) ≡ true
+meets-push x k [] h e = rw e refl
+meets-push x k (y ∷ ks) h e = at (bytes_eq x y) h (λ m. meets-push x k ks m e)
+  where
+    at : (b : Bool) → not (b || meets x ks) ≡ true → (not (meets x ks) ≡ true → not (meets x (ks ++ k ∷ [])) ≡ true) → not (b || meets x (ks ++ k ∷ [])) ≡ true
+    at true h f = h
+    at false h f = f h
+
+pub distinct-push : (ks : List (List ℕ)) (k : List ℕ) → distinct ks ≡ true → length ks ≤ place k ks → distinct (ks ++ k ∷ []) ≡ true
+distinct-push [] k h l = refl
+distinct-push (x ∷ ks) k h l = at (bytes_eq x k) refl l (λ m. distinct-push ks k (and_parts _ _ h).1 m)
+  where
+    at : (b : Bool) → bytes_eq x k ≡ b → suc (length ks) ≤ cond b 0 (suc (place k ks)) → (length ks ≤ place k ks → distinct (ks ++ k ∷ []) ≡ true) → distinct (x ∷ (ks ++ k ∷ [])) ≡ true
+    at true e l f = absurd (omega (arith, l))
+    at false e l f = rw (meets-push x k ks (and_parts _ _ h).0 e, f (omega (arith, l))) refl

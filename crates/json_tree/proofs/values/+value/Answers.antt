@@ -1,0 +1,118 @@
+use Rattle.std.proofs.Common.{◌≡◌, ◌∙◌, sym, ap, subst, suc, ◌-◌, ◌∷◌, ◌≤◌, [], length, arith}
+use Rattle.std.proofs.lemmas.Result.{err_from_is_err_and}
+use Rattle.json_tree.specs.Tree.{array, object}
+use Rattle.json_tree.specs.Reading.{found, string_at, value_at}
+use Rattle.json_tree.specs.Gives.{Gives, Fails}
+use Rattle.json_tree.proofs.Turns.{array-empty, array-start, array-bad, array-next, array-end, object-empty, object-start, key-err, colon-err, item-err, member-ok, object-err, object-bad, object-next, object-end, value-array, next-known}
+use Rattle.json_tree.specs.declared.value.JsonFault.TheVariants.{Text}
+use Rattle.json_tree.proofs.values.+value.Goals as goal
+
+pub array-returns-then-closes-clause-reads : goal.array-returns-then-closes-clause-reads
+array-returns-then-closes-clause-reads t c =
+    let f = c.if-closes.ensures in
+    array-empty c.args.depth c.args.reader.now c.closes.new.reader f.found ∙ ap (λ l. found (array l) c.closes.new.reader) (sym (c.from_vec.ensures ∙ c.new-items.ensures.items))
+
+pub array-loop-items-init : goal.array-loop-items-init
+array-loop-items-init t c =
+    let f = c.if-closes.ensures in
+    let s = array-start c.args.depth c.args.reader.now c.closes.new.reader f.found.0 f.found.1 in
+    record { forward = f.forward; reads = (s.0, s.1, rw c.new-items.ensures.items s.2) }
+
+pub array-returns-in_err-goes_on-clause-reads : goal.array-returns-in_err-goes_on-clause-reads
+array-returns-in_err-goes_on-clause-reads t c =
+    let p = err_from_is_err_and c.from_residual-in_err-goes_on.result c.from_residual-in_err-goes_on.ensures.1 in
+    let i = c.loop-items.invariant.reads in
+    let f = c.in_err-goes_on.ensures.found in
+    rw (p.1, p.2, f.0) (array-bad c.args.depth i.0 c.loop-items.items.items c.in_ok-item.item c.loop-items.reader c.args.reader.now c.value.new.reader i.2 (ap (value_at c.args.depth) (sym c.skip_spaces.ensures.skipped) ∙ c.in_ok-item.ensures.reads) f.1)
+
+pub array-returns-then-not-branch-clause-reads : goal.array-returns-then-not-branch-clause-reads
+array-returns-then-not-branch-clause-reads t c =
+    let i = c.loop-items.invariant.reads in
+    let f = rw c.if-not-branch.true at c.in_ok-goes_on.ensures.found in
+    let h = c.in_ok-item.ensures.forward in
+    let k = c.skip_spaces.ensures.forward in
+    array-end c.args.depth i.0 c.loop-items.items.items c.push_item.new.items.items c.in_ok-item.item c.loop-items.reader c.args.reader.now c.value.new.reader c.goes_on.new.reader i.2 (omega (arith, h, k, i.1))
+    (ap (value_at c.args.depth) (sym c.skip_spaces.ensures.skipped) ∙ c.in_ok-item.ensures.reads) f.0 c.in_ok-push_item.ensures.pushed ∙ ap (λ l. found (array l) c.goes_on.new.reader) (sym c.from_vec-then-not-branch.ensures)
+
+pub array-loop-items-preserved : goal.array-loop-items-preserved
+array-loop-items-preserved t c =
+    let i = c.loop-items.invariant.reads in
+    let f = rw c.if-not-branch.false at c.in_ok-goes_on.ensures.found in
+    let h = c.in_ok-item.ensures.forward in
+    let k = c.skip_spaces.ensures.forward in
+    let g = c.in_ok-goes_on.ensures.forward in
+    record {
+      forward = omega (arith, g, h, k, c.loop-items.invariant.forward);
+      reads = array-next c.args.depth i.0 c.loop-items.items.items c.push_item.new.items.items c.in_ok-item.item c.loop-items.reader c.args.reader.now c.value.new.reader c.goes_on.new.reader i.2 (omega (arith, h, k, i.1))
+          (ap (value_at c.args.depth) (sym c.skip_spaces.ensures.skipped) ∙ c.in_ok-item.ensures.reads) f c.in_ok-push_item.ensures.pushed;
+    }
+
+pub value-returns-else-depth-eq0-clause-reads : goal.value-returns-else-depth-eq0-clause-reads
+value-returns-else-depth-eq0-clause-reads t c =
+    let s = c.in-Some.ensures in
+    let first = next-known c.next.result c.args.reader.now c.next.new.self s.0 91 (s.1 ∙ ap (λ x. x ∷ s.0) c.if-byte-eq91.true) c.next.ensures in
+    let n : c.args.depth ≡ suc (c.args.depth - 1) = omega (arith, c.if-depth-eq0.false) in
+    subst (Gives (λ v. v) c.array.result c.array.new.reader) (sym (value-array c.args.depth (c.args.depth - 1) c.args.reader.now c.next.new.self n first)) c.array.ensures.reads
+
+pub object-returns-then-closes-clause-reads : goal.object-returns-then-closes-clause-reads
+object-returns-then-closes-clause-reads t c =
+    let f = c.if-closes.ensures in
+    object-empty c.args.depth c.args.reader.now c.closes.new.reader f.found ∙ ap (λ l. found (object l) c.closes.new.reader) (sym c.new-members.ensures)
+
+pub object-loop-members-init : goal.object-loop-members-init
+object-loop-members-init t c =
+    let f = c.if-closes.ensures in
+    let s = object-start c.args.depth c.args.reader.now c.closes.new.reader f.found.0 f.found.1 in
+    record { forward = f.forward; reads = (s.0, [], s.1, sym c.new-members.ensures, s.2) }
+
+pub object-returns-in_err-key-clause-reads : goal.object-returns-in_err-key-clause-reads
+object-returns-in_err-key-clause-reads t c =
+    let p = err_from_is_err_and c.from_residual.result c.from_residual.ensures.1 in
+    let i = c.loop-members.invariant.reads in
+    let e = c.in_err-key.field-0.0 in
+    let k = subst (λ b. Fails e (string_at b)) c.skip_spaces.ensures.skipped c.in_err-key.ensures.reads in
+    rw (p.1, p.2) (object-err e c.args.depth i.0 i.1 c.loop-members.reader c.args.reader.now i.4 (key-err e (value_at c.args.depth) c.loop-members.reader k))
+
+pub object-returns-in_err-name_separator-clause-reads : goal.object-returns-in_err-name_separator-clause-reads
+object-returns-in_err-name_separator-clause-reads t c =
+    let p = err_from_is_err_and c.from_residual-in_err-name_separator.result c.from_residual-in_err-name_separator.ensures.1 in
+    let i = c.loop-members.invariant.reads in
+    let f = c.in_err-name_separator.ensures.found in
+    let k = colon-err (value_at c.args.depth) c.loop-members.reader c.in_ok-key.key c.string.new.reader (ap string_at (sym c.skip_spaces.ensures.skipped) ∙ c.in_ok-key.ensures.reads) f.1 in
+    rw (p.1, p.2, f.0) (object-err Text c.args.depth i.0 i.1 c.loop-members.reader c.args.reader.now i.4 k)
+
+pub object-returns-in_err-item-clause-reads : goal.object-returns-in_err-item-clause-reads
+object-returns-in_err-item-clause-reads t c =
+    let p = err_from_is_err_and c.from_residual-in_err-item.result c.from_residual-in_err-item.ensures.1 in
+    let i = c.loop-members.invariant.reads in
+    let e = c.in_err-item.field-0.0 in
+    let v = subst (λ b. Fails e (value_at c.args.depth b)) c.skip_spaces-in-loop-members.ensures.skipped c.in_err-item.ensures.reads in
+    let k = item-err e (value_at c.args.depth) c.loop-members.reader c.in_ok-key.key c.string.new.reader c.name_separator.new.reader (ap string_at (sym c.skip_spaces.ensures.skipped) ∙ c.in_ok-key.ensures.reads) c.in_ok-name_separator.ensures.found v in
+    rw (p.1, p.2) (object-err e c.args.depth i.0 i.1 c.loop-members.reader c.args.reader.now i.4 k)
+
+pub object-returns-in_err-goes_on-clause-reads : goal.object-returns-in_err-goes_on-clause-reads
+object-returns-in_err-goes_on-clause-reads t c =
+    let p = err_from_is_err_and c.from_residual-in_err-goes_on.result c.from_residual-in_err-goes_on.ensures.1 in
+    let i = c.loop-members.invariant.reads in
+    let f = c.in_err-goes_on.ensures.found in
+    let m = member-ok (value_at c.args.depth) c.loop-members.reader c.in_ok-key.key c.string.new.reader c.name_separator.new.reader c.value.new.reader c.in_ok-item.item (ap string_at (sym c.skip_spaces.ensures.skipped) ∙ c.in_ok-key.ensures.reads) c.in_ok-name_separator.ensures.found (ap (value_at c.args.depth) (sym c.skip_spaces-in-loop-members.ensures.skipped) ∙ c.in_ok-item.ensures.reads) in
+    rw (p.1, p.2, f.0) (object-bad c.args.depth i.0 i.1 (c.in_ok-key.key, c.in_ok-item.item) c.loop-members.reader c.args.reader.now c.value.new.reader i.4 m f.1)
+
+pub object-returns-then-not-branch-clause-reads : goal.object-returns-then-not-branch-clause-reads
+object-returns-then-not-branch-clause-reads t c =
+    let i = c.loop-members.invariant.reads in
+    let f = rw c.if-not-branch.true at c.in_ok-goes_on.ensures.found in
+    let m = member-ok (value_at c.args.depth) c.loop-members.reader c.in_ok-key.key c.string.new.reader c.name_separator.new.reader c.value.new.reader c.in_ok-item.item (ap string_at (sym c.skip_spaces.ensures.skipped) ∙ c.in_ok-key.ensures.reads) c.in_ok-name_separator.ensures.found (ap (value_at c.args.depth) (sym c.skip_spaces-in-loop-members.ensures.skipped) ∙ c.in_ok-item.ensures.reads) in
+    let le : length c.value.new.reader ≤ i.0 = omega (arith, c.in_ok-item.ensures.forward, c.skip_spaces-in-loop-members.ensures.forward, c.in_ok-name_separator.ensures.forward, c.in_ok-key.ensures.forward, c.skip_spaces.ensures.forward, i.2) in
+    object-end c.args.depth i.0 i.1 c.loop-members.members c.put.new.self (c.in_ok-key.key, c.in_ok-item.item) c.loop-members.reader c.args.reader.now c.value.new.reader c.goes_on.new.reader i.4 i.3 le m f.0 c.in_ok-put.ensures.put
+
+pub object-loop-members-preserved : goal.object-loop-members-preserved
+object-loop-members-preserved t c =
+    let i = c.loop-members.invariant.reads in
+    let f = rw c.if-not-branch.false at c.in_ok-goes_on.ensures.found in
+    let m = member-ok (value_at c.args.depth) c.loop-members.reader c.in_ok-key.key c.string.new.reader c.name_separator.new.reader c.value.new.reader c.in_ok-item.item (ap string_at (sym c.skip_spaces.ensures.skipped) ∙ c.in_ok-key.ensures.reads) c.in_ok-name_separator.ensures.found (ap (value_at c.args.depth) (sym c.skip_spaces-in-loop-members.ensures.skipped) ∙ c.in_ok-item.ensures.reads) in
+    record {
+      forward = omega (arith, c.in_ok-goes_on.ensures.forward, c.in_ok-item.ensures.forward, c.skip_spaces-in-loop-members.ensures.forward, c.in_ok-name_separator.ensures.forward, c.in_ok-key.ensures.forward, c.skip_spaces.ensures.forward, c.loop-members.invariant.forward);
+      reads = object-next c.args.depth i.0 i.1 c.loop-members.members c.put.new.self (c.in_ok-key.key, c.in_ok-item.item) c.loop-members.reader c.args.reader.now c.value.new.reader c.goes_on.new.reader i.4 i.3
+          (omega (arith, c.in_ok-item.ensures.forward, c.skip_spaces-in-loop-members.ensures.forward, c.in_ok-name_separator.ensures.forward, c.in_ok-key.ensures.forward, c.skip_spaces.ensures.forward, i.2)) m f c.in_ok-put.ensures.put;
+    }

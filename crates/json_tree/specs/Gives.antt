@@ -1,0 +1,28 @@
+-- What a call gave is what reading gives, unless memory ran out.
+use Rattle.std.specs.Prelude.{◌≡◌, ℕ, List, Result, Ok, Err}
+use Rattle.arrow_lists.specs.declared.error.Error.{Error}
+use Rattle.arrow_lists.specs.declared.error.Error.TheVariants.{ExternalFormat, LimitExceeded, OutOfMemory}
+use Rattle.arrow_lists.specs.declared.error.Reason.TheVariants.{Json}
+use Rattle.json_tree.specs.Reading.{Outcome, found, wrong, deep}
+use Rattle.json_tree.specs.declared.value.JsonFault.{JsonFault}
+use Rattle.json_tree.specs.declared.value.JsonFault.TheVariants.{Text, Depth, Memory}
+
+abbrev pub Fails : {A : Type 0} → JsonFault → Outcome A → Type 0
+Fails Text o = o ≡ wrong
+Fails Depth o = o ≡ deep
+Fails Memory o = Unit {0}
+
+abbrev pub Gives : {X A : Type 0} → (X → A) → Result X JsonFault → List ℕ → Outcome A → Type 0
+Gives view (Ok x) r o = o ≡ found (view x) r
+Gives view (Err e) r o = Fails e o
+
+-- the same of a call that only moves on, and never runs out of memory
+abbrev pub Moves : {X : Type 0} → (List ℕ → Outcome (List ℕ)) → Result X JsonFault → List ℕ → List ℕ → Type 0
+Moves f (Ok x) old new = (s : List ℕ) × (f old ≡ found s new)
+Moves f (Err e) old new = (e ≡ Text) × (f old ≡ wrong)
+
+-- the error that a fault becomes
+abbrev pub IsErrorOf : JsonFault → Error → Type 0
+IsErrorOf Text e = e ≡ ExternalFormat Json
+IsErrorOf Depth e = e ≡ LimitExceeded
+IsErrorOf Memory e = e ≡ OutOfMemory

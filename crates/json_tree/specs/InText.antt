@@ -1,0 +1,7 @@
+-- Bytes that end a text of UTF-8 (RFC 8259, section 8.1).
+use Rattle.std.specs.Prelude.{ℕ, List, ◌++◌}
+use Rattle.std.specs.Str.{IsUtf8}
+
+pub record InText (b : List ℕ) : Type 0 where
+  pub front : List ℕ
+  pub text : IsUtf8 (front ++ b)

@@ -1,0 +1,40 @@
+-- The values that JSON texts stand for.
+use Rattle.std.specs.Prelude.{ℕ, List, [], ◌∷◌, Bool, false, cond, ◌==◌, ◌||◌}
+pub use Rattle.json_tree.specs.Keys.{put}
+use Rattle.json_tree.specs.declared.value.Value.{Value, Null, Bool as TheBool, Number as TheNumber, String, Array, Object}
+use Rattle.json_tree.specs.declared.value.Number.TheVariants.{Integer, Float}
+
+abbrev pub Json : Type 0
+Json = Value
+
+abbrev pub null : Json
+null = Null
+
+abbrev pub boolean : Bool → Json
+boolean truth = TheBool truth
+
+abbrev pub has_point : List ℕ → Bool
+has_point [] = false
+has_point (byte ∷ bytes) = (byte == 0x2e) || has_point bytes
+
+-- a number is Float where its mantissa has a point
+abbrev pub number : List ℕ → List ℕ → Json
+number mantissa exponent = TheNumber (cond (has_point mantissa) (Float mantissa exponent) (Integer mantissa exponent))
+
+abbrev pub string : List ℕ → Json
+string text = String text
+
+abbrev pub array : List Json → Json
+array items = Array items
+
+-- these members and then more, put in one after another
+abbrev pub put_all : List (List ℕ × Json) → List (List ℕ × Json) → List (List ℕ × Json)
+put_all members [] = members
+put_all members (m ∷ more) = put_all (put members m) more
+
+-- RFC 8259, section 4, asks for distinct names and leaves the others open: here a key named again keeps its first place and takes its last value
+abbrev pub put_together : List (List ℕ × Json) → List (List ℕ × Json)
+put_together members = put_all [] members
+
+abbrev pub object : List (List ℕ × Json) → Json
+object members = Object (record { members = members })

@@ -1,0 +1,164 @@
+//! Numbers (RFC 8259, section 6).
+ghost use Rattle.std.specs.Prelude.{◌≡◌, ◌≢◌, ◌≤◌, ◌<◌, ◌++◌, ◌-◌, ℕ, List, [], ◌∷◌, length, take, drop, Ok, Err, OnOk, MatchBool, MatchResult, IfSome};
+ghost use Rattle.std.specs.Str.{IsUtf8};
+ghost use Rattle.json_tree.specs.Grammar.{is_digit, is_exponent_mark};
+ghost use Rattle.json_tree.specs.Tree.{has_point};
+ghost use Rattle.json_tree.specs.Reading.{after, found, wrong, digits_at, int_at, minus_at, frac_at, sign_at, exp_at, number_at};
+ghost use Rattle.json_tree.specs.Gives.{Gives, Moves};
+
+use crate::reader::Reader;
+use crate::value::{JsonFault, Number, Value};
+use arrow_lists::Text;
+use std::alloc::Global;
+
+#[tactic(auto, unfolding(crate::specs::Grammar::is_digit))]
+fn is_decimal(byte: u8) -> bool
+    ensures { result ≡ is_digit byte }
+{
+    b'0' <= byte && byte <= b'9'
+}
+
+// One digit or more. The fault is `Text`, as in each of these parts.
+#[tactic(auto, unfolding(crate::specs::Reading::digits_at))]
+fn some_digits<'a>(reader: &mut Reader<'a>) -> Result<(), JsonFault>
+    ensures reads { Moves digits_at result reader.old reader.new }
+    ensures forward { length reader.new ≤ length reader.old }
+{
+    match reader.next() {
+        None => Err(JsonFault::Text),
+        Some(byte) => {
+            if !is_decimal(byte) {
+                return Err(JsonFault::Text);
+            }
+            reader.skip_digits();
+            Ok(())
+        }
+    }
+}
+
+// 0, or digits of which the first is not 0. Where 0 comes first, the digits behind it are left.
+#[tactic(auto, unfolding(crate::specs::Reading::int_at))]
+fn integer_part<'a>(reader: &mut Reader<'a>) -> Result<(), JsonFault>
+    ensures reads { Moves int_at result reader.old reader.new }
+    ensures forward { length reader.new ≤ length reader.old }
+{
+    if reader.takes(b'0') {
+        return Ok(());
+    }
+    some_digits(reader)
+}
+
+#[tactic(auto, unfolding(crate::specs::Reading::minus_at))]
+fn optional_minus<'a>(reader: &mut Reader<'a>)
+    ensures reads { (s : List ℕ) × (minus_at reader.old ≡ found s reader.new) }
+    ensures forward { length reader.new ≤ length reader.old }
+{
+    reader.takes(b'-');
+}
+
+// Nothing, or a point and digits.
+#[tactic(auto, unfolding(crate::specs::Reading::frac_at))]
+fn fraction_part<'a>(reader: &mut Reader<'a>) -> Result<(), JsonFault>
+    ensures reads { Moves frac_at result reader.old reader.new }
+    ensures forward { length reader.new ≤ length reader.old }
+{
+    if reader.takes(b'.') {
+        return some_digits(reader);
+    }
+    Ok(())
+}
+
+fn optional_sign<'a>(reader: &mut Reader<'a>)
+    ensures reads { (s : List ℕ) × (sign_at reader.old ≡ found s reader.new) }
+    ensures forward { length reader.new ≤ length reader.old }
+{
+    if reader.takes(b'-') {
+        return;
+    }
+    reader.takes(b'+');
+}
+
+fn is_exponent(byte: u8) -> bool
+    ensures { result ≡ is_exponent_mark byte }
+{
+    byte == b'e' || byte == b'E'
+}
+
+// Nothing, or e of either case, a sign and digits.
+#[tactic(auto, unfolding(crate::specs::Reading::exp_at))]
+fn exponent_part<'a>(reader: &mut Reader<'a>) -> Result<(), JsonFault>
+    ensures reads { Moves exp_at result reader.old reader.new }
+    ensures forward { length reader.new ≤ length reader.old }
+{
+    match reader.peek() {
+        None => Ok(()),
+        Some(byte) => {
+            if is_exponent(byte) {
+                reader.next();
+                optional_sign(reader);
+                return some_digits(reader);
+            }
+            Ok(())
+        }
+    }
+}
+
+// Whether the bytes have a point.
+fn has_point(bytes: &[u8]) -> bool
+    ensures { result ≡ has_point bytes.now }
+{
+    let mut rest = bytes;
+    while let Some((first, others)) = rest.split_first() {
+        if *first == b'.' {
+            return true;
+        }
+        rest = others;
+    }
+    false
+}
+
+fn ascii_text(alloc: Global, bytes: &[u8]) -> Result<Text, JsonFault>
+    requires { IsUtf8 bytes.now }
+    ensures text { MatchResult result (λ t. t ≡ bytes.now) (λ e. e ≡ JsonFault.Memory) }
+{
+    match Text::try_from_str(alloc, unsafe { std::str::from_utf8_unchecked(bytes) }) {
+        Ok(text) => Ok(text),
+        Err(_) => Err(JsonFault::Memory),
+    }
+}
+
+// All but the first of the first n bytes.
+fn behind_first(bytes: &[u8], n: usize) -> &[u8]
+    requires { n ≤ length bytes.now }
+    ensures { result.now ≡ drop 1 (take n bytes.now) }
+{
+    let front = &bytes[..n];
+    match front.split_first() {
+        Some((_, rest)) => rest,
+        None => front,
+    }
+}
+
+/// A number, of which no byte is left ahead that could go on with it but digits behind a 0.
+pub(crate) fn number<'a>(alloc: Global, reader: &mut Reader<'a>) -> Result<Value, JsonFault>
+    ensures reads { Gives (λ v. v) result reader.new (number_at reader.old) }
+    ensures forward { length reader.new ≤ length reader.old }
+{
+    let start = reader.rest();
+    optional_minus(reader);
+    integer_part(reader)?;
+    fraction_part(reader)?;
+    let tail = reader.rest();
+    let mantissa = &start[..start.len() - tail.len()];
+    exponent_part(reader)?;
+    let left = reader.rest();
+    let behind = behind_first(tail, tail.len() - left.len());
+    let float = has_point(mantissa);
+    let mantissa = ascii_text(alloc, mantissa)?;
+    let exponent = ascii_text(alloc, behind)?;
+    if float {
+        Ok(Value::Number(Number::Float(mantissa, exponent)))
+    } else {
+        Ok(Value::Number(Number::Integer(mantissa, exponent)))
+    }
+}

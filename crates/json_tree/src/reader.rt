@@ -1,0 +1,190 @@
+//! A reader over the bytes of a text.
+ghost use Rattle.std.specs.Prelude.{◌≡◌, ◌≢◌, ◌≤◌, ◌<◌, ℕ, List, [], ◌∷◌, length, MatchOption, MatchBool};
+ghost use Rattle.std.specs.Prelude.{◌++◌, drop, take, false};
+ghost use Rattle.std.specs.Str.{IsUtf8};
+ghost use Rattle.std.specs.List.{prefix_len};
+ghost use Rattle.json_tree.specs.Grammar.{is_space, is_digit, Each};
+ghost use Rattle.arrow_base.specs.JsonString.{is_unescaped};
+ghost use Rattle.json_tree.specs.InText.{InText};
+ghost use Rattle.json_tree.specs.Reading.{skip, after, First};
+
+use std::marker::Model;
+
+/// The bytes that are still ahead. They end a text that is UTF-8.
+#[derive(Drop)]
+pub(crate) struct Reader<'a> {
+    bytes: &'a [u8],
+}
+
+impl<'a> Model for Reader<'a> {
+    ghost use Rattle.std.specs.Prelude.{ℕ, List};
+
+    ghost Value = { List ℕ };
+
+    ghost view = { λ r. r.bytes.now };
+
+    ghost use Rattle.json_tree.specs.InText.{InText};
+
+    ghost invariant = { λ r. InText r.bytes.now };
+}
+
+// White space (RFC 8259, section 2).
+#[tactic(auto, unfolding(crate::specs::Grammar::is_space))]
+fn is_space(byte: u8) -> bool
+    ensures { result ≡ is_space byte }
+{
+    byte == b' ' || byte == b'\t' || byte == b'\n' || byte == b'\r'
+}
+
+impl<'a> Reader<'a> {
+    #[tactic(auto, using(crate::proofs::InTexts::in_whole))]
+    pub(crate) fn new(bytes: &'a [u8]) -> Reader<'a>
+        requires { IsUtf8 bytes.now }
+        ensures { result ≡ bytes.now }
+    {
+        Reader { bytes }
+    }
+
+    /// The bytes ahead.
+    pub(crate) fn rest(&self) -> &'a [u8]
+        ensures { result.now ≡ self.now }
+    {
+        self.bytes
+    }
+
+    /// The next byte, which stays ahead.
+    pub(crate) fn peek(&self) -> Option<u8>
+        ensures { MatchOption result (self.now ≡ []) (λ x. (t : List ℕ) × (self.now ≡ x ∷ t)) }
+    {
+        self.bytes.first().copied()
+    }
+
+    /// The next byte, which is passed.
+    #[tactic(auto, using(crate::proofs::InTexts::in_tail))]
+    pub(crate) fn next(&mut self) -> Option<u8>
+        ensures { MatchOption result ((self.old ≡ []) × (self.new ≡ [])) (λ x. self.old ≡ x ∷ self.new) }
+    {
+        let (first, rest) = self.bytes.split_first()?;
+        self.bytes = rest;
+        Some(*first)
+    }
+
+    /// Passes white space.
+    #[tactic(auto, unfolding(crate::specs::Reading::skip), using(crate::proofs::InTexts::in_tail))]
+    pub(crate) fn skip_spaces(&mut self)
+        ensures skipped { self.new ≡ skip self.old }
+        ensures forward { length self.new ≤ length self.old }
+    {
+        while let Some((first, rest)) = self.bytes.split_first() {
+            if !is_space(*first) {
+                break;
+            }
+            self.bytes = rest;
+        }
+    }
+
+    /// Passes this byte where it is next, and tells whether it was.
+    pub(crate) fn takes(&mut self, byte: u8) -> bool
+        ensures taken { MatchBool result (self.old ≡ byte ∷ self.new)
+            ((self.new ≡ self.old) × First (λ x t. x ≢ byte) self.old) }
+        ensures forward { length self.new ≤ length self.old }
+    {
+        if self.peek() == Some(byte) {
+            self.next();
+            return true;
+        }
+        false
+    }
+
+    /// Passes the digits ahead.
+    #[tactic(auto, unfolding(crate::specs::Reading::after, crate::specs::Grammar::is_digit), using(crate::proofs::InTexts::in_tail))]
+    pub(crate) fn skip_digits(&mut self)
+        ensures skipped { self.new ≡ after is_digit self.old }
+        ensures forward { length self.new ≤ length self.old }
+    {
+        while let Some((first, rest)) = self.bytes.split_first() {
+            if !(b'0' <= *first && *first <= b'9') {
+                break;
+            }
+            self.bytes = rest;
+        }
+    }
+
+    /// Passes `n` bytes.
+    pub(crate) fn advance(&mut self, n: usize)
+        requires { n ≤ length self.old }
+        ensures { self.new ≡ drop n self.old }
+    {
+        self.bytes = &self.bytes[n..];
+    }
+
+    /// Passes a quotation mark where it is next, and tells whether it was. What follows it is UTF-8.
+    pub(crate) fn opens_string(&mut self) -> bool
+        ensures opened { MatchBool result ((self.old ≡ 34 ∷ self.new) × IsUtf8 self.new)
+            ((self.new ≡ self.old) × First (λ x t. x ≢ 34) self.old) }
+    {
+        match self.bytes.split_first() {
+            Some((first, rest)) => {
+                if *first == b'"' {
+                    self.bytes = rest;
+                    return true;
+                }
+                false
+            }
+            None => false,
+        }
+    }
+
+    /// Passes the characters ahead that stand for themselves (RFC 8259, section 7), and lends them.
+    pub(crate) fn unescaped_run(&mut self) -> &'a str
+        requires { IsUtf8 self.old }
+        ensures split { self.old ≡ result.now ++ self.new }
+        ensures plain { Each is_unescaped result.now }
+        ensures stops { First (λ x t. is_unescaped x ≡ false) self.new }
+        ensures text { IsUtf8 self.new }
+    {
+        let n = unescaped_len(self.bytes);
+        let (run, rest) = self.bytes.split_at(n);
+        self.bytes = rest;
+        unsafe { std::str::from_utf8_unchecked(run) }
+    }
+}
+
+// The bytes that stand for themselves in a string: neither below 0x20, nor a quotation mark, nor a
+// reverse solidus.
+static UNESCAPED: [bool; 256] = [
+    false, false, false, false, false, false, false, false, false, false, false, false, false,
+    false, false, false, false, false, false, false, false, false, false, false, false, false,
+    false, false, false, false, false, false, true, true, false, true, true, true, true, true,
+    true, true, true, true, true, true, true, true, true, true, true, true, true, true, true, true,
+    true, true, true, true, true, true, true, true, true, true, true, true, true, true, true, true,
+    true, true, true, true, true, true, true, true, true, true, true, true, true, true, true, true,
+    true, true, true, true, false, true, true, true, true, true, true, true, true, true, true,
+    true, true, true, true, true, true, true, true, true, true, true, true, true, true, true, true,
+    true, true, true, true, true, true, true, true, true, true, true, true, true, true, true, true,
+    true, true, true, true, true, true, true, true, true, true, true, true, true, true, true, true,
+    true, true, true, true, true, true, true, true, true, true, true, true, true, true, true, true,
+    true, true, true, true, true, true, true, true, true, true, true, true, true, true, true, true,
+    true, true, true, true, true, true, true, true, true, true, true, true, true, true, true, true,
+    true, true, true, true, true, true, true, true, true, true, true, true, true, true, true, true,
+    true, true, true, true, true, true, true, true, true, true, true, true, true, true, true, true,
+    true, true, true, true, true, true, true, true, true, true, true, true, true, true, true, true,
+    true, true, true, true, true, true, true, true, true,
+];
+
+fn is_unescaped(byte: u8) -> bool
+    ensures { result ≡ is_unescaped byte }
+{
+    UNESCAPED[byte as usize]
+}
+
+// How many bytes come first that stand for themselves.
+fn unescaped_len(bytes: &[u8]) -> usize
+    ensures { result ≡ prefix_len is_unescaped bytes.now }
+{
+    let mut n = 0;
+    while n < bytes.len() && is_unescaped(bytes[n]) {
+        n += 1;
+    }
+    n
+}

@@ -1,0 +1,229 @@
+//! Strings (RFC 8259, section 7).
+ghost use Rattle.std.specs.Prelude.{◌≡◌, ◌≢◌, ◌⊎◌, ◌+◌, ◌-◌, ◌*◌, ◌≤◌, ◌<◌, ◌++◌, ℕ, List, [], ◌∷◌, length, true, Ok, Err, OnOk, IfErr, MatchBool, MatchResult, MatchOption, IfSome, None, string_bytes};
+ghost use Rattle.std.specs.Char.{digit_value, encode_utf8};
+ghost use Rattle.std.specs.Str.{IsUtf8};
+ghost use Rattle.arrow_base.specs.JsonString.{short_escape, hexadecimal};
+ghost use Rattle.std.specs.Char.Utf16.{is_high_surrogate, is_low_surrogate};
+ghost use Rattle.json_tree.specs.Reading.{First, bind, found, wrong, unit_at, low_at, unicode_at, escape_at, chars_at, string_at};
+ghost use Rattle.json_tree.specs.Gives.{Gives, Fails};
+
+use crate::reader::Reader;
+use crate::value::JsonFault;
+use arrow_lists::Text;
+use std::alloc::Global;
+
+// The digit's value, and 16 or more where the byte is no hexadecimal digit.
+fn hexadecimal_digit(c: u8) -> u32
+    ensures value { result ≡ digit_value c }
+    ensures ascii { result < 16 → c < 128 }
+{
+    match c {
+        b'0'..=b'9' => (c - b'0') as u32,
+        b'A'..=b'Z' => (c - b'A') as u32 + 10,
+        b'a'..=b'z' => (c - b'a') as u32 + 10,
+        _ => 36,
+    }
+}
+
+// What four hexadecimal digits spell.
+fn hexadecimal(a: u8, b: u8, c: u8, d: u8) -> Option<u32>
+    ensures value { result ≡ hexadecimal a b c d }
+    ensures bounds { IfSome result (λ u. (u < 65536) × (d < 128)) }
+{
+    let (a, b, c, d) = (
+        hexadecimal_digit(a),
+        hexadecimal_digit(b),
+        hexadecimal_digit(c),
+        hexadecimal_digit(d),
+    );
+    if (a < 16) & (b < 16) & (c < 16) & (d < 16) {
+        Some(a * 4096 + b * 256 + c * 16 + d)
+    } else {
+        None
+    }
+}
+
+// The code unit that stands behind `\u`.
+fn code_unit<'a>(reader: &mut Reader<'a>) -> Result<u32, JsonFault>
+    requires { IsUtf8 reader.old }
+    ensures reads { MatchResult result
+        (λ u. (unit_at reader.old ≡ found u reader.new) × (u < 65536) × IsUtf8 reader.new)
+        (λ e. (e ≡ JsonFault.Text) × (unit_at reader.old ≡ wrong)) }
+    ensures forward { length reader.new ≤ length reader.old }
+{
+    let rest = reader.rest();
+    if rest.len() < 4 {
+        return Err(JsonFault::Text);
+    }
+    match hexadecimal(rest[0], rest[1], rest[2], rest[3]) {
+        Some(u) => {
+            reader.advance(4);
+            Ok(u)
+        }
+        None => Err(JsonFault::Text),
+    }
+}
+
+fn is_high_surrogate(u: u32) -> bool
+    ensures value { result ≡ is_high_surrogate u }
+    ensures range { MatchBool result ((0xd800 ≤ u) × (u < 0xdc00)) ((u < 0xd800) ⊎ (0xdc00 ≤ u)) }
+{
+    (0xd800 <= u) & (u < 0xdc00)
+}
+
+fn is_low_surrogate(u: u32) -> bool
+    ensures value { result ≡ is_low_surrogate u }
+    ensures range { MatchBool result ((0xdc00 ≤ u) × (u < 0xe000)) ((u < 0xdc00) ⊎ (0xe000 ≤ u)) }
+{
+    (0xdc00 <= u) & (u < 0xe000)
+}
+
+// The character of a pair of surrogates, whose first stands behind and whose second is ahead.
+fn low_surrogate<'a>(reader: &mut Reader<'a>, high: u32) -> Result<char, JsonFault>
+    requires text { IsUtf8 reader.old }
+    requires high { (0xd800 ≤ high) × (high < 0xdc00) }
+    ensures reads { MatchResult result
+        (λ c. (low_at high reader.old ≡ found (encode_utf8 c) reader.new) × IsUtf8 reader.new)
+        (λ e. (e ≡ JsonFault.Text) × (low_at high reader.old ≡ wrong)) }
+    ensures forward { length reader.new ≤ length reader.old }
+{
+    if !reader.takes(b'\\') {
+        return Err(JsonFault::Text);
+    }
+    if !reader.takes(b'u') {
+        return Err(JsonFault::Text);
+    }
+    let low = code_unit(reader)?;
+    if !is_low_surrogate(low) {
+        return Err(JsonFault::Text);
+    }
+    match char::from_u32(0x10000 + (high - 0xd800) * 1024 + (low - 0xdc00)) {
+        Some(c) => Ok(c),
+        None => Err(JsonFault::Text),
+    }
+}
+
+// The character whose escape goes on behind `\u`.
+fn unicode_escape<'a>(reader: &mut Reader<'a>) -> Result<char, JsonFault>
+    requires { IsUtf8 reader.old }
+    ensures reads { MatchResult result
+        (λ c. (unicode_at reader.old ≡ found (encode_utf8 c) reader.new) × IsUtf8 reader.new)
+        (λ e. (e ≡ JsonFault.Text) × (unicode_at reader.old ≡ wrong)) }
+    ensures forward { length reader.new ≤ length reader.old }
+{
+    let unit = code_unit(reader)?;
+    if is_high_surrogate(unit) {
+        return low_surrogate(reader, unit);
+    }
+    if is_low_surrogate(unit) {
+        return Err(JsonFault::Text);
+    }
+    match char::from_u32(unit) {
+        Some(c) => Ok(c),
+        None => Err(JsonFault::Text),
+    }
+}
+
+// What a reverse solidus and this byte stand for, where the byte is no `u`.
+fn short_escape(byte: u8) -> Option<u8>
+    ensures value { result ≡ short_escape byte }
+    ensures ascii { IfSome result (λ c. (c < 128) × (byte < 128)) }
+{
+    match byte {
+        b'"' | b'\\' | b'/' => Some(byte),
+        b'b' => Some(8),
+        b'f' => Some(12),
+        b'n' => Some(b'\n'),
+        b'r' => Some(b'\r'),
+        b't' => Some(b'\t'),
+        _ => None,
+    }
+}
+
+// The character of an escape, behind its reverse solidus.
+fn escape<'a>(reader: &mut Reader<'a>) -> Result<char, JsonFault>
+    requires { IsUtf8 reader.old }
+    ensures reads { MatchResult result
+        (λ c. (escape_at reader.old ≡ found (encode_utf8 c) reader.new) × IsUtf8 reader.new)
+        (λ e. (e ≡ JsonFault.Text) × (escape_at reader.old ≡ wrong)) }
+    ensures forward { length reader.new ≤ length reader.old }
+{
+    match reader.next() {
+        None => Err(JsonFault::Text),
+        Some(byte) => {
+            if byte == b'u' {
+                return unicode_escape(reader);
+            }
+            match short_escape(byte) {
+                Some(c) => Ok(c as char),
+                None => Err(JsonFault::Text),
+            }
+        }
+    }
+}
+
+fn push_text(out: &mut String, run: &str) -> Result<(), JsonFault>
+    ensures added { OnOk result (string_bytes out.new ≡ string_bytes out.old ++ run.now) }
+    ensures memory { IfErr result (λ e. e ≡ JsonFault.Memory) }
+{
+    match out.push_str(run) {
+        Ok(()) => Ok(()),
+        Err(_) => Err(JsonFault::Memory),
+    }
+}
+
+fn push_char(out: &mut String, c: char) -> Result<(), JsonFault>
+    ensures added { OnOk result (string_bytes out.new ≡ string_bytes out.old ++ encode_utf8 c) }
+    ensures memory { IfErr result (λ e. e ≡ JsonFault.Memory) }
+{
+    match out.push(c) {
+        Ok(()) => Ok(()),
+        Err(_) => Err(JsonFault::Memory),
+    }
+}
+
+// A text of its own, of no more room than it needs.
+fn owned(alloc: Global, text: &str) -> Result<Text, JsonFault>
+    ensures { MatchResult result (λ t. t ≡ text.now) (λ e. e ≡ JsonFault.Memory) }
+{
+    match Text::try_from_str(alloc, text) {
+        Ok(text) => Ok(text),
+        Err(_) => Err(JsonFault::Memory),
+    }
+}
+
+// What was read of a string, and its last run. Where the run is all, it is copied once.
+fn joined(alloc: Global, front: String, run: &str) -> Result<Text, JsonFault>
+    ensures { MatchResult result (λ t. t ≡ string_bytes front ++ run.now) (λ e. e ≡ JsonFault.Memory) }
+{
+    if front.is_empty() {
+        return owned(alloc, run);
+    }
+    let mut whole = front;
+    push_text(&mut whole, run)?;
+    owned(alloc, whole.as_str())
+}
+
+/// A string, from its opening to its closing quotation mark. Runs of characters that stand for
+/// themselves are copied as slices.
+pub(crate) fn string<'a>(alloc: Global, reader: &mut Reader<'a>) -> Result<Text, JsonFault>
+    ensures reads { Gives (λ v. v) result reader.new (string_at reader.old) }
+    ensures forward { length reader.new ≤ length reader.old }
+{
+    if !reader.opens_string() {
+        return Err(JsonFault::Text);
+    }
+    let mut out = String::new(alloc);
+    loop {
+        let run = reader.unescaped_run();
+        if reader.takes(b'"') {
+            return joined(alloc, out, run);
+        }
+        push_text(&mut out, run)?;
+        if !reader.takes(b'\\') {
+            return Err(JsonFault::Text);
+        }
+        let c = escape(reader)?;
+        push_char(&mut out, c)?;
+    }
+}

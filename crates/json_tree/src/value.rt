@@ -1,0 +1,79 @@
+ghost use Rattle.std.specs.Prelude.{◌≡◌, true, Some, None, MatchOption};
+ghost use Rattle.json_tree.specs.Keys.{value_of, keys_of, distinct};
+
+use crate::members::Members;
+use arrow_lists::{Error, Items, Reason, Text};
+
+/// A JSON number as it is spelled (RFC 8259, section 6): the mantissa, which is all that stands
+/// before `e` or `E`, and the exponent, which is what follows with any sign, or is empty.
+#[derive(Debug, Drop)]
+pub enum Number {
+    /// The mantissa has no point.
+    Integer(Text, Text),
+    /// The mantissa has a point.
+    Float(Text, Text),
+}
+
+/// What a JSON text stands for (RFC 8259, section 3).
+#[cycle(types)]
+#[derive(Drop)]
+pub enum Value {
+    Null,
+    Bool(bool),
+    Number(Number),
+    String(Text),
+    Array(Items<Value>),
+    Object(Object),
+}
+
+/// The members of a JSON object (RFC 8259, section 4), in the order in which their keys first
+/// stand. Each key stands once: where a text names a key again, the key keeps its first place and
+/// takes its last value.
+#[cycle(types)]
+#[derive(Drop)]
+pub struct Object {
+    pub(crate) members: Members<Value>,
+}
+
+/// Why bytes give no JSON value.
+#[derive(Clone, Copy, PartialEq, Eq, Debug)]
+pub enum JsonFault {
+    /// The bytes are no JSON text.
+    Text,
+    /// More than 128 brackets are open at once.
+    Depth,
+    /// There is no memory.
+    Memory,
+}
+
+impl Object {
+    /// The members in order, as pairs of key and value.
+    pub fn members(&self) -> &[(Text, Value)]
+        ensures members { result.now ≡ self.now.members }
+        ensures distinct { distinct (keys_of self.now.members) ≡ true }
+    {
+        self.members.as_slice()
+    }
+
+    /// The key's value, or `None` exactly where no member has the key.
+    pub fn get(&self, key: &str) -> Option<&Value>
+        ensures { MatchOption result (value_of key.now self.now.members ≡ None)
+            (λ v. value_of key.now self.now.members ≡ Some v.now) }
+    {
+        self.members.get(key)
+    }
+}
+
+impl From<JsonFault> for Error {
+    ghost use Rattle.json_tree.specs.Gives.{IsErrorOf};
+
+    ghost from_gives = { IsErrorOf };
+
+    fn from(fault: JsonFault) -> Error {
+        match fault {
+            JsonFault::Text => Error::ExternalFormat(Reason::Json),
+            JsonFault::Depth => Error::LimitExceeded,
+            JsonFault::Memory => Error::OutOfMemory,
+        }
+    }
+}
