@@ -1,0 +1,197 @@
+ghost use Rattle.std.specs.Prelude.{◌≡◌, ℕ, ◌<◌, ◌≤◌, ◌-◌, List, [], ◌∷◌, length, take, drop, MatchOption, MatchBool};
+ghost use Rattle.avro_file.specs.Counts.{risen};
+
+/// Bytes ahead, which are taken from the front.
+///
+/// It keeps three numbers of 64 bits, each of which stands still at its last value: how many
+/// bytes were handed out, how many were passed without being handed out, and how many calls were
+/// made. No call takes memory.
+pub trait Cursor<'a> {
+    // the bytes ahead
+    ghost rest: { Self → List ℕ };
+
+    // bytes handed out
+    ghost shown: { Self → ℕ };
+
+    // bytes passed without being handed out
+    ghost jumped: { Self → ℕ };
+
+    // calls of `byte`, `take` and `jump`
+    ghost calls: { Self → ℕ };
+
+    /// How many bytes are ahead. It counts as no call.
+    fn left(&self) -> usize
+        ensures { result ≡ length (rest self.now) };
+
+    /// The byte in front, which is passed; None at the end of the bytes.
+    fn byte(&mut self) -> Option<u8>
+        ensures read { MatchOption result
+            ((rest self.old ≡ []) × (rest self.new ≡ []))
+            (λ b. rest self.old ≡ b ∷ rest self.new) }
+        ensures shown { MatchOption result
+            (shown self.new ≡ shown self.old)
+            (λ _. shown self.new ≡ risen (shown self.old) 1) }
+        ensures jumped { jumped self.new ≡ jumped self.old }
+        ensures calls { calls self.new ≡ risen (calls self.old) 1 };
+
+    /// The `n` bytes in front, which are passed; None, and nothing passed, where fewer are ahead.
+    fn take(&mut self, n: usize) -> Option<&'a [u8]>
+        ensures read { MatchOption result
+            ((length (rest self.old) < n) × (rest self.new ≡ rest self.old))
+            (λ s. (n ≤ length (rest self.old)) × (s.now ≡ take n (rest self.old)) × (rest self.new ≡ drop n (rest self.old))) }
+        ensures shown { MatchOption result
+            (shown self.new ≡ shown self.old)
+            (λ _. shown self.new ≡ risen (shown self.old) n) }
+        ensures jumped { jumped self.new ≡ jumped self.old }
+        ensures calls { calls self.new ≡ risen (calls self.old) 1 };
+
+    /// Passes `n` bytes without handing them out; false, and nothing passed, where fewer are
+    /// ahead.
+    fn jump(&mut self, n: usize) -> bool
+        ensures read { MatchBool result
+            ((n ≤ length (rest self.old)) × (rest self.new ≡ drop n (rest self.old)))
+            ((length (rest self.old) < n) × (rest self.new ≡ rest self.old)) }
+        ensures jumped { MatchBool result
+            (jumped self.new ≡ risen (jumped self.old) n)
+            (jumped self.new ≡ jumped self.old) }
+        ensures shown { shown self.new ≡ shown self.old }
+        ensures calls { calls self.new ≡ risen (calls self.old) 1 };
+}
+
+/// A cursor over a slice.
+#[derive(Drop)]
+pub struct SliceCursor<'a> {
+    bytes: &'a [u8],
+    at: usize,
+    jumped: usize,
+    calls: u64,
+    ghost within: { at ≤ length bytes.now },
+    ghost part: { jumped ≤ at },
+}
+
+impl<'a> SliceCursor<'a> {
+    /// All of `bytes` ahead, and each of the three numbers 0.
+    pub fn new(bytes: &'a [u8]) -> SliceCursor<'a>
+        ensures rest { ⟦<SliceCursor<'a> as Cursor<'a>>⟧.rest result ≡ bytes.now }
+        ensures shown { ⟦<SliceCursor<'a> as Cursor<'a>>⟧.shown result ≡ 0 }
+        ensures jumped { ⟦<SliceCursor<'a> as Cursor<'a>>⟧.jumped result ≡ 0 }
+        ensures calls { ⟦<SliceCursor<'a> as Cursor<'a>>⟧.calls result ≡ 0 }
+    {
+        SliceCursor {
+            bytes,
+            at: 0,
+            jumped: 0,
+            calls: 0,
+        }
+    }
+
+    /// How many bytes were handed out.
+    pub fn shown(&self) -> u64
+        ensures { result ≡ ⟦<SliceCursor<'a> as Cursor<'a>>⟧.shown self.now }
+    {
+        (self.at - self.jumped) as u64
+    }
+
+    /// How many bytes were passed without being handed out.
+    pub fn jumped(&self) -> u64
+        ensures { result ≡ ⟦<SliceCursor<'a> as Cursor<'a>>⟧.jumped self.now }
+    {
+        self.jumped as u64
+    }
+
+    /// How many calls of `byte`, `take` and `jump` were made.
+    pub fn calls(&self) -> u64
+        ensures { result ≡ ⟦<SliceCursor<'a> as Cursor<'a>>⟧.calls self.now }
+    {
+        self.calls
+    }
+}
+
+impl<'a> Cursor<'a> for SliceCursor<'a> {
+    ghost rest = { λ c. drop c.at c.bytes.now };
+
+    ghost shown = { λ c. c.at - c.jumped };
+
+    ghost jumped = { λ c. c.jumped };
+
+    ghost calls = { λ c. c.calls };
+
+    #[inline]
+    fn left(&self) -> usize {
+        self.bytes.len() - self.at
+    }
+
+    #[inline]
+    fn byte(&mut self) -> Option<u8> {
+        self.calls = self.calls.saturating_add(1);
+        if self.at == self.bytes.len() {
+            return None;
+        }
+        let byte = self.bytes[self.at];
+        self.at += 1;
+        Some(byte)
+    }
+
+    #[inline]
+    fn take(&mut self, n: usize) -> Option<&'a [u8]> {
+        self.calls = self.calls.saturating_add(1);
+        if n > self.left() {
+            return None;
+        }
+        let end = self.at + n;
+        let front = &self.bytes[self.at..end];
+        self.at = end;
+        Some(front)
+    }
+
+    #[inline]
+    fn jump(&mut self, n: usize) -> bool {
+        self.calls = self.calls.saturating_add(1);
+        if n > self.left() {
+            return false;
+        }
+        self.at += n;
+        self.jumped += n;
+        true
+    }
+}
+
+#[cfg(test)]
+mod tests {
+    use super::*;
+    use std::test::Fail;
+
+    #[test]
+    fn counts_what_is_handed_out_and_what_is_jumped(rt: HostRuntime) -> Result<(), Fail> {
+        let mut cursor = SliceCursor::new(b"abcdef");
+        assert_eq!(rt; cursor.byte(), Some(b'a'));
+        assert_eq!(rt;
+            cursor.take(2).ok_or("three bytes are ahead")?,
+            b"bc".as_slice()
+        );
+        assert!(rt; cursor.jump(2));
+        assert_eq!(rt; cursor.left(), 1);
+        assert_eq!(rt;
+            (cursor.shown(), cursor.jumped(), cursor.calls()),
+            (3, 2, 3)
+        );
+        Ok(())
+    }
+
+    #[test]
+    fn calls_that_fail_pass_nothing(rt: HostRuntime) -> Result<(), Fail> {
+        let mut cursor = SliceCursor::new(b"ab");
+        assert!(rt; cursor.take(3).is_none());
+        assert!(rt; !cursor.jump(3));
+        assert_eq!(rt;
+            cursor.take(2).ok_or("two bytes are ahead")?,
+            b"ab".as_slice()
+        );
+        assert_eq!(rt; cursor.byte(), None);
+        assert_eq!(rt;
+            (cursor.shown(), cursor.jumped(), cursor.calls()),
+            (2, 0, 4)
+        );
+        Ok(())
+    }
+}

@@ -1,0 +1,15 @@
+//! Avro: schemas, blocks of a file, and the bytes that a reader takes from the front.
+#![tactic(auto)]
+
+mod block;
+mod cursor;
+mod number;
+mod schema;
+
+pub use block::Block;
+pub use cursor::{Cursor, SliceCursor};
+pub use number::{next_number, zigzag_i64};
+pub use schema::{
+    AvroField, BytesLogical, Enum, Fixed, FixedLogical, IntLogical, LongLogical, Record, Schema,
+    Schema as AvroSchema, StringLogical,
+};
