@@ -1,0 +1,128 @@
+-- The bytes of the examples, part by part.
+use Rattle.std.proofs.Common.{◌≡◌, ℕ, pos, negsuc, List, [], ◌∷◌, None, refl, sym, subst, arith, inl, inr}
+use Rattle.std.specs.Str.{IsUtf8}
+use Rattle.arrow_types.specs.declared.slot.Slot.{Slot}
+use Rattle.arrow_types.specs.declared.slot.Slot.TheVariants as slot
+use Rattle.avro_file.specs.declared.schema.Schema.{Long, String, Array, Union, Null}
+use Rattle.avro_file.specs.Number.{Number}
+use Rattle.avro_grammar.specs.Parts.{Grammar, last, block, Many}
+use Rattle.avro_grammar.specs.Spells.{Spells}
+use Rattle.avro_grammar.specs.Steps.{Steps}
+use Rattle.avro_grammar.specs.Examples.{RecordExample, ArrayExample, SizedArrayExample, SkippedArrayExample, NullExample, MemberExample}
+use Rattle.avro_grammar.specs.Steps as steps
+use Rattle.avro_grammar.proofs.ByLists.{spells_array, steps_array, spells_union}
+
+number_0 : Number (0 ∷ []) (pos 0)
+number_0 = record { groups = omega arith; short = omega arith; fits = omega arith; value = refl }
+
+number_1 : Number (2 ∷ []) (pos 1)
+number_1 = record { groups = omega arith; short = omega arith; fits = omega arith; value = refl }
+
+number_2 : Number (4 ∷ []) (pos 2)
+number_2 = record { groups = omega arith; short = omega arith; fits = omega arith; value = refl }
+
+number_3 : Number (6 ∷ []) (pos 3)
+number_3 = record { groups = omega arith; short = omega arith; fits = omega arith; value = refl }
+
+number_27 : Number (54 ∷ []) (pos 27)
+number_27 = record { groups = omega arith; short = omega arith; fits = omega arith; value = refl }
+
+number_minus_2 : Number (3 ∷ []) (negsuc 1)
+number_minus_2 = record { groups = omega arith; short = omega arith; fits = omega arith; value = refl }
+
+utf8_a : IsUtf8 (97 ∷ [])
+unfolding lib.Utf8.encode
+utf8_a = (97 ∷ [], (refl, refl))
+
+utf8_foo : IsUtf8 (102 ∷ 111 ∷ 111 ∷ [])
+unfolding lib.Utf8.encode
+utf8_foo = (102 ∷ 111 ∷ 111 ∷ [], (refl, refl))
+
+long : (bytes : List ℕ) (v : _) → Number bytes v → Spells (Long None) bytes (slot.Whole v)
+long bytes v n = record { value = v; spelled = n; allowed = tt; means = refl }
+
+text_a : Spells (String None) (2 ∷ 97 ∷ []) (slot.Words (97 ∷ []))
+text_a = record {
+  value = 97 ∷ [];
+  spelled = record { front = 2 ∷ []; back = 97 ∷ []; joined = refl; value = pos 1; first = number_1; second = (refl, refl) };
+  allowed = utf8_a;
+  means = refl;
+}
+
+text_foo : Spells (String None) (6 ∷ 102 ∷ 111 ∷ 111 ∷ []) (slot.Words (102 ∷ 111 ∷ 111 ∷ []))
+text_foo = record {
+  value = 102 ∷ 111 ∷ 111 ∷ [];
+  spelled = record { front = 6 ∷ []; back = 102 ∷ 111 ∷ 111 ∷ []; joined = refl; value = pos 3; first = number_3; second = (refl, refl) };
+  allowed = utf8_foo;
+  means = refl;
+}
+
+items : Many (Spells (Long None)) 2 (6 ∷ 54 ∷ []) (slot.Whole (pos 3) ∷ slot.Whole (pos 27) ∷ [])
+items = record {
+  front = 6 ∷ [];
+  back = 54 ∷ [];
+  joined = refl;
+  value = slot.Whole (pos 3);
+  first = long (6 ∷ []) (pos 3) number_3;
+  second = (slot.Whole (pos 27) ∷ [], refl, record { front = 54 ∷ []; back = []; joined = refl; value = slot.Whole (pos 27); first = long (54 ∷ []) (pos 27) number_27; second = ([], refl, (refl, refl)) });
+}
+
+-- what one of two equal grammars spells the other spells
+as_spelled : {A : Type 0} (P Q : Grammar A) → P ≡ Q → (bytes : List ℕ) (x : A) → Q bytes x → P bytes x
+as_spelled P Q e bytes x h = subst (λ R. R bytes x) (sym e) h
+
+abbrev three_and_27 : List Slot
+three_and_27 = slot.Whole (pos 3) ∷ slot.Whole (pos 27) ∷ []
+
+pub array_example : ArrayExample
+array_example =
+    as_spelled (Spells (Array (Long None))) _ (spells_array (Long None)) (4 ∷ 6 ∷ 54 ∷ 0 ∷ []) (slot.Listed three_and_27)
+    (record { value = slot.Whole (pos 3) ∷ slot.Whole (pos 27) ∷ []; spelled = block (4 ∷ []) (6 ∷ 54 ∷ []) (0 ∷ []) (pos 2) _ [] number_2 (omega arith, items) (last number_0); allowed = tt; means = refl })
+
+pub sized_array_example : SizedArrayExample
+sized_array_example =
+    as_spelled (Spells (Array (Long None))) _ (spells_array (Long None)) (3 ∷ 4 ∷ 6 ∷ 54 ∷ 0 ∷ []) (slot.Listed three_and_27)
+    (record {
+      value = slot.Whole (pos 3) ∷ slot.Whole (pos 27) ∷ [];
+      spelled = block (3 ∷ []) (4 ∷ 6 ∷ 54 ∷ []) (0 ∷ []) (negsuc 1) _ [] number_minus_2 (omega arith, record { front = 4 ∷ []; back = 6 ∷ 54 ∷ []; joined = refl; value = pos 2; first = number_2; second = (refl, items) }) (last number_0);
+      allowed = tt;
+      means = refl;
+    })
+
+pub skipped_array_example : SkippedArrayExample
+skipped_array_example =
+    as_spelled (Steps (Array (Long None))) _ (steps_array (Long None)) (3 ∷ 4 ∷ 6 ∷ 54 ∷ 0 ∷ []) (record { seen = 3; hidden = 2 })
+    (steps.block (3 ∷ []) (4 ∷ 6 ∷ 54 ∷ []) (0 ∷ []) (negsuc 1) (record { seen = 1; hidden = 2 }) (record { seen = 1; hidden = 0 }) number_minus_2
+    (omega arith, record { front = 4 ∷ []; back = 6 ∷ 54 ∷ []; joined = refl; value = (pos 2, 1); first = (number_2, refl); second = (refl, refl) }) (steps.last number_0))
+
+pub null_example : NullExample
+null_example =
+    as_spelled (Spells (Union (Null ∷ String None ∷ []))) _ (spells_union (Null ∷ String None ∷ [])) (0 ∷ []) slot.Null
+    (record { front = 0 ∷ []; back = []; joined = refl; value = pos 0; first = number_0; second = (0, refl, omega arith, inr (tt, refl, refl)) })
+
+pub member_example : MemberExample
+member_example =
+    as_spelled (Spells (Union (Null ∷ String None ∷ []))) _ (spells_union (Null ∷ String None ∷ [])) (2 ∷ 2 ∷ 97 ∷ []) (slot.Words (97 ∷ []))
+    (record { front = 2 ∷ []; back = 2 ∷ 97 ∷ []; joined = refl; value = pos 1; first = number_1; second = (1, refl, omega arith, inl text_a) })
+
+pub record_example : RecordExample
+record_example a b e f =
+    record {
+      front = 54 ∷ [];
+      back = 6 ∷ 102 ∷ 111 ∷ 111 ∷ [];
+      joined = refl;
+      value = slot.Whole (pos 27);
+      first = subst (λ s. Spells s (54 ∷ []) (slot.Whole (pos 27))) (sym e) (long (54 ∷ []) (pos 27) number_27);
+      second = (
+        slot.Words (102 ∷ 111 ∷ 111 ∷ []) ∷ [],
+        refl,
+        record {
+          front = 6 ∷ 102 ∷ 111 ∷ 111 ∷ [];
+          back = [];
+          joined = refl;
+          value = slot.Words (102 ∷ 111 ∷ 111 ∷ []);
+          first = subst (λ s. Spells s (6 ∷ 102 ∷ 111 ∷ 111 ∷ []) (slot.Words (102 ∷ 111 ∷ 111 ∷ []))) (sym f) text_foo;
+          second = ([], refl, (refl, refl));
+        },
+      );
+    }

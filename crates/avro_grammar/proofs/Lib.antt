@@ -1,0 +1,9 @@
+pub mod ByLists
+pub mod Bytes
+pub mod ExampleLemmas
+pub mod Fronts
+pub mod NeverWhole
+pub mod Passes
+pub mod RowLaws
+pub mod Spelled
+pub mod Stepped

@@ -1,0 +1,10 @@
+pub mod Broken
+pub mod Carried
+pub mod Examples
+pub mod Laws
+pub mod Listed
+pub mod NegativeSize
+pub mod Parts
+pub mod Rows
+pub mod Spells
+pub mod Steps

@@ -1,0 +1,27 @@
+-- A block whose bytes break off in a skipped field, at an array block that states a size below 0.
+use Rattle.std.specs.Prelude.{◌≡◌, ℕ, ◌<◌, ◌≤◌, List, ◌∷◌, ◌++◌, length, Bool, true, false, ◌⊎◌}
+use Rattle.arrow_types.specs.declared.slot.Slot.{Slot}
+use Rattle.avro_file.specs.declared.schema.AvroField.{AvroField}
+use Rattle.avro_grammar.specs.Parts.{Many}
+use Rattle.avro_grammar.specs.Spells.{Spells}
+use Rattle.avro_grammar.specs.Steps.{Passed, Steps}
+use Rattle.avro_grammar.specs.Broken.{Broken}
+use Rattle.avro_grammar.specs.Rows.{Pieces, Row}
+
+-- whole pieces of a row, and then a skipped field whose bytes are broken
+abbrev pub BrokenRow : List AvroField → List Bool → List ℕ → Type 0
+BrokenRow (f ∷ fs) (true ∷ keeps) bytes = (front back : List ℕ) × (bytes ≡ front ++ back) × (x : Slot) × Spells f.schema front x × BrokenRow fs keeps back
+BrokenRow (f ∷ fs) (false ∷ keeps) bytes = Broken f.schema bytes ⊎ ((front back : List ℕ) × (bytes ≡ front ++ back) × (p : Passed) × Steps f.schema front p × BrokenRow fs keeps back)
+BrokenRow _ _ bytes = ⊥
+
+-- fewer than n whole rows, and then a row that is broken
+pub record NegativeSize (n : ℕ) (fields : List AvroField) (projection : List Bool) (bytes : List ℕ) : Type 0 where
+  pub enough : n ≤ length bytes
+  pub whole : ℕ
+  pub fewer : whole < n
+  pub front : List ℕ
+  pub back : List ℕ
+  pub joined : bytes ≡ front ++ back
+  pub pieces : List Pieces
+  pub rows : Many (Row fields projection) whole front pieces
+  pub broken : BrokenRow fields projection back

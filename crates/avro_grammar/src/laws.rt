@@ -1,0 +1,70 @@
+ghost use Rattle.avro_grammar.specs.Laws.{NoProperPrefix, OneValue, OneFront, KeptCanBeStepped, HasAByte, RowsHaveBytes, BrokenIsNeverWhole, OneListOfPieces, OneTable, NarrowerRows, RowsOrNegativeSize};
+ghost use Rattle.avro_grammar.specs.Listed.{SpellsComposites, StepsComposites, BrokenComposites, CarriedComposites};
+ghost use Rattle.avro_grammar.specs.Examples.{RecordExample, ArrayExample, SizedArrayExample, SkippedArrayExample, NullExample, MemberExample};
+ghost use Rattle.avro_grammar.specs.Spells.{Spells};
+ghost use Rattle.avro_grammar.specs.Steps.{Steps};
+
+/// Under one schema no bytes of a value are a proper prefix of other bytes of a value, be they
+/// kept or stepped over. So of any bytes one front at most is a value.
+pub fn no_proper_prefix()
+    ensures spelled { NoProperPrefix Spells }
+    ensures stepped { NoProperPrefix Steps }
+    ensures spelled_front { OneFront Spells }
+    ensures stepped_front { OneFront Steps }
+{}
+
+/// Under one schema bytes spell at most one slot, and are stepped over with one pair of counts.
+pub fn one_slot()
+    ensures spelled { OneValue Spells }
+    ensures stepped { OneValue Steps }
+{}
+
+/// What is spelled under a schema can be stepped over.
+pub fn kept_can_be_stepped()
+    ensures { KeptCanBeStepped }
+{}
+
+/// A value of a carried schema has at least one byte, so rows of carried schemas have no fewer
+/// bytes than they are.
+pub fn at_least_one_byte()
+    ensures spelled { HasAByte Spells }
+    ensures stepped { HasAByte Steps }
+    ensures rows { RowsHaveBytes }
+{}
+
+/// Bytes that break off at an array block of a size below 0 have no front that is stepped over.
+pub fn broken_is_never_whole()
+    ensures { BrokenIsNeverWhole }
+{}
+
+/// Bytes are at most one table of rows, with one count of bytes that are kept, seen and hidden. What is rows under a projection is rows under each
+/// projection that keeps no more, and that table has just the columns that this one keeps.
+pub fn one_table()
+    ensures one { OneTable }
+    ensures pieces { OneListOfPieces }
+    ensures narrower { NarrowerRows }
+{}
+
+/// No bytes are whole rows and also break off at an array block of a size below 0.
+pub fn rows_or_negative_size()
+    ensures { RowsOrNegativeSize }
+{}
+
+/// What the definitions say of arrays, unions and records, in terms of the lists of members and
+/// of fields that code sees.
+pub fn composites()
+    ensures spelled { SpellsComposites }
+    ensures stepped { StepsComposites }
+    ensures broken { BrokenComposites }
+    ensures carried { CarriedComposites }
+{}
+
+/// The examples of the Avro specification (1.11, "Binary Encoding") are spelled as it spells them.
+pub fn examples()
+    ensures record_of_two { RecordExample }
+    ensures array { ArrayExample }
+    ensures sized_array { SizedArrayExample }
+    ensures skipped_array { SkippedArrayExample }
+    ensures null { NullExample }
+    ensures member { MemberExample }
+{}
