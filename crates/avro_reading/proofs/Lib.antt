@@ -1,0 +1,14 @@
+pub mod Arrays
+pub mod ByLists
+pub mod ExampleLemmas
+pub mod Exact
+pub mod Fronts
+pub mod InferredLemmas
+pub mod KeptLemmas
+pub mod RowSteps
+pub mod Rows
+pub mod SkippedArrays
+pub mod SkippedValues
+pub mod Steppers
+pub mod TypeLemmas
+pub mod Values

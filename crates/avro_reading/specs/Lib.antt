@@ -1,0 +1,11 @@
+pub mod Block
+pub mod Examples
+pub mod Front
+pub mod Inferred
+pub mod Laws
+pub mod Listed
+pub mod Read
+pub mod Skip
+pub mod TypeLaws
+pub mod Types
+pub mod ValidBlock
