@@ -1,0 +1,10 @@
+pub mod Growth
+pub mod Making
+pub mod Numbers
+pub mod Risen
+pub mod RowSteps
+pub mod Sets
+pub mod Today
+pub mod Unfolded
+pub mod Wholes
+pub mod Valid

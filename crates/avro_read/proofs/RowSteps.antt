@@ -1,0 +1,194 @@
+-- One step of the loops over fields and over rows.
+use Rattle.std.proofs.Common.{◌≡◌, ◌∙◌, ℕ, zero, suc, ◌+◌, ◌-◌, ◌<◌, ◌≤◌, Bool, true, false, List, [], ◌∷◌, ◌++◌, length, get_or, set, drop, map, Option, Some, None, Ok, Err, refl, sym, ap, subst, add-one, arith}
+use Rattle.std.proofs.lemmas.List.{length-map, map-set, get_or-map, map-append, length-append}
+use Rattle.std.proofs.lemmas.Option.{some_pair_parts}
+use Rattle.std.proofs.Math.Seq.{drop-cons}
+use Rattle.arrow_types.specs.declared.physical.PhysicalType.{PhysicalType}
+use Rattle.arrow_types.specs.declared.slot.Slot.{Slot}
+use Rattle.arrow_builders.specs.declared.array.MutableArray.{MutableArray}
+use Rattle.arrow_builders.specs.MutableArrays.{builder_slots, builder_kind}
+use Rattle.avro_file.specs.declared.schema.AvroField.{AvroField}
+use Rattle.avro_grammar.specs.Steps.{Passed}
+use Rattle.avro_grammar.specs.Rows.{Pieces, no_pieces}
+use Rattle.avro_reading.specs.Read.{read, push_one}
+use Rattle.avro_reading.specs.Skip.{Bad, skip}
+use Rattle.avro_reading.specs.Block.{row, rows, rows_after, block, add_kept, add_skipped}
+use Rattle.avro_reading.proofs.RowSteps.{row_left, kept_next, kept_bad, skipped_next, skipped_err, row_done, rows_next, rows_err, rows_done, block_ended, block_left, block_err}
+use Rattle.avro_read.specs.Columns.{grown, grown_by}
+use Rattle.avro_read.specs.Today.{CarriedToday, AllCarriedToday, kind_of, kept_kinds}
+use Rattle.avro_read.specs.Decoding.{Fails, IsBad, AreWide}
+use Rattle.avro_read.specs.declared.fault.DecodeFault.{DecodeFault}
+use Rattle.avro_read.specs.declared.fault.DecodeFault.TheVariants.{Bytes, Memory}
+use Rattle.avro_read.proofs.Growth.{grown_none, length-grown, grown_next, grown_by_next, wide_next}
+
+-- ---- the fields of a row
+
+-- k slots of a row are in their columns, and the fields from place i on are left
+abbrev pub RowSoFar : ℕ → ℕ → List AvroField → List Bool → List (List Slot) → List (List Slot) → List ℕ → List ℕ → Type 0
+RowSoFar k i fields projection before now start rest =
+    (old : Pieces) × (row_left i fields projection old rest ≡ row fields projection start) × (now ≡ grown before old.slots) × (length old.slots ≡ k)
+
+pub row_begun : (fields : List AvroField) (projection : List Bool) (before : List (List Slot)) (start : List ℕ) → RowSoFar 0 0 fields projection before before start start
+row_begun fields projection before start = (no_pieces, refl, sym (grown_none before), refl)
+
+push_parts : (old new : List Slot) (o : Option (Slot × List ℕ)) (rest : List ℕ) → push_one old o ≡ Some (new, rest) → (x : Slot) × (o ≡ Some (x, rest)) × (new ≡ old ++ x ∷ [])
+unfolding push_one
+push_parts old new None rest h = absurd cc
+push_parts old new (Some (x, r)) rest h = let p = some_pair_parts (old ++ x ∷ []) new r rest h in (x, rw p.1 refl, sym p.0)
+
+push_none_parts : (old : List Slot) (o : Option (Slot × List ℕ)) → push_one old o ≡ None → o ≡ None
+unfolding push_one
+push_none_parts old None h = refl
+push_none_parts old (Some (x, r)) h = absurd cc
+
+module _ (k i : ℕ) (fields : List AvroField) (projection : List Bool) (before now : List (List Slot)) (start rest : List ℕ) (f : AvroField) (lt : i < length fields) (same : length fields ≡ length projection) (is : f ≡ get_or fields i f) where
+  pub kept_step : get_or projection i false ≡ true → k < length before → (new : List Slot) (r : List ℕ) → push_one (get_or now k []) (read f.schema rest) ≡ Some (new, r) → RowSoFar k i fields projection before now start rest → RowSoFar (k + 1) (i + 1) fields projection before (set now k new) start r
+  kept_step taken lk new r e so =
+      let old = so.0 in
+      let p = push_parts (get_or now k []) new (read f.schema rest) r e in
+      let n = kept_next i fields projection f old rest lt same is taken p.0 r p.1 in
+      let g : set now k new ≡ grown before (old.slots ++ p.0 ∷ []) =
+      ap (λ (xs : List Slot). set now k xs) p.2 ∙ ap (λ (cs : List (List Slot)). set cs k (get_or cs k [] ++ p.0 ∷ [])) so.2 ∙ grown_next before old.slots p.0 k so.3 lk in
+      (add_kept old (p.0, length rest - length r), sym n ∙ so.1, g, length_more old.slots p.0 k so.3)
+    where
+      length_more : (xs : List Slot) (x : Slot) (m : ℕ) → length xs ≡ m → length (xs ++ x ∷ []) ≡ m + 1
+      length_more xs x m h = omega (arith, h, length-append xs (x ∷ []))
+
+  pub kept_fault : get_or projection i false ≡ true → (d : DecodeFault) → Fails d (push_one (get_or now k []) (read f.schema rest)) → RowSoFar k i fields projection before now start rest → IsBad d (row fields projection start)
+  kept_fault taken Bytes e so =
+      sym so.1 ∙ kept_bad i fields projection f so.0 rest lt same is taken (push_none_parts (get_or now k []) (read f.schema rest) e)
+  kept_fault taken Memory e so = tt
+
+  pub skipped_step : get_or projection i false ≡ false → (p : Passed) (r : List ℕ) → skip f.schema rest ≡ Ok (p, r) → RowSoFar k i fields projection before now start rest → RowSoFar k (i + 1) fields projection before now start r
+  skipped_step passed p r e so =
+      (add_skipped so.0 p, sym (skipped_next i fields projection f so.0 rest lt same is passed p r e) ∙ so.1, so.2, so.3)
+
+  pub skipped_fault : get_or projection i false ≡ false → (d : DecodeFault) → IsBad d (skip f.schema rest) → RowSoFar k i fields projection before now start rest → IsBad d (row fields projection start)
+  skipped_fault passed Bytes e so =
+      sym so.1 ∙ skipped_err i fields projection f so.0 rest lt same is passed Bad e
+  skipped_fault passed Memory e so = tt
+
+pub row_ended : (k i : ℕ) (fields : List AvroField) (projection : List Bool) (before now : List (List Slot)) (start rest : List ℕ) → length fields ≤ i → length fields ≡ length projection → length before ≡ k → RowSoFar k i fields projection before now start rest → (y : Pieces) × (row fields projection start ≡ Ok (y, rest)) × (now ≡ grown before y.slots) × (length y.slots ≡ length now)
+row_ended k i fields projection before now start rest le same all so =
+    let l : length now ≡ length before = ap length so.2 ∙ length-grown before so.0.slots in
+    (so.0, sym so.1 ∙ row_done i fields projection so.0 rest le same, so.2, so.3 ∙ sym all ∙ sym l)
+
+-- ---- the kinds of the builders that are left
+
+module _ (i k : ℕ) (fields : List AvroField) (projection : List Bool) (f : AvroField) (lt : i < length fields) (same : length fields ≡ length projection) (is : f ≡ get_or fields i f) (ks : List PhysicalType) (left : drop k ks ≡ kept_kinds (drop i fields) (drop i projection)) where
+  field_at : drop i fields ≡ f ∷ drop (i + 1) fields
+  field_at = drop-cons fields i f lt ∙ ap (λ (x : AvroField). x ∷ drop (suc i) fields) (sym is) ∙ ap (λ (j : ℕ). f ∷ drop j fields) (sym (add-one i))
+
+  choice_at : drop i projection ≡ get_or projection i false ∷ drop (i + 1) projection
+  choice_at = drop-cons projection i false (omega (arith, lt, same)) ∙ ap (λ (j : ℕ). get_or projection i false ∷ drop j projection) (sym (add-one i))
+
+  here : drop k ks ≡ kept_kinds (f ∷ drop (i + 1) fields) (get_or projection i false ∷ drop (i + 1) projection)
+  here = left ∙ (rw (field_at, choice_at) refl)
+
+  parts : (xs : List PhysicalType) (j : ℕ) → drop j xs ≡ kind_of f.schema ∷ kept_kinds (drop (i + 1) fields) (drop (i + 1) projection) → (j < length xs) × (get_or xs j (kind_of f.schema) ≡ kind_of f.schema) × (drop (j + 1) xs ≡ kept_kinds (drop (i + 1) fields) (drop (i + 1) projection))
+  parts [] zero q = absurd cc
+  parts [] (suc j) q = absurd cc
+  parts (x ∷ xs) zero q = (omega arith, cc, cc)
+  parts (x ∷ xs) (suc j) q =
+      let h = parts xs j q in
+      let n : suc j + 1 ≡ suc (j + 1) = omega arith in
+      (omega (arith, h.0), h.1, rw n h.2)
+
+  pub kinds_next : get_or projection i false ≡ true → (k < length ks) × (get_or ks k (kind_of f.schema) ≡ kind_of f.schema) × (drop (k + 1) ks ≡ kept_kinds (drop (i + 1) fields) (drop (i + 1) projection))
+  kinds_next taken = parts ks k (here ∙ ap (λ (v : Bool). kept_kinds (f ∷ drop (i + 1) fields) (v ∷ drop (i + 1) projection)) taken)
+
+  pub kinds_skip : get_or projection i false ≡ false → drop k ks ≡ kept_kinds (drop (i + 1) fields) (drop (i + 1) projection)
+  kinds_skip passed = here ∙ ap (λ (v : Bool). kept_kinds (f ∷ drop (i + 1) fields) (v ∷ drop (i + 1) projection)) passed
+
+pub kind_here : (k : ℕ) (builders : List MutableArray) (d : MutableArray) (n : PhysicalType) (ks : List PhysicalType) → map builder_kind builders ≡ ks → k < length ks → get_or ks k n ≡ n → (k < length builders) × (builder_kind (get_or builders k d) ≡ n)
+kind_here k builders d n ks e lt g =
+    let l : k < length builders = omega (arith, length-map builders builder_kind, ap length e, lt) in
+    (l, sym (get_or-map builder_kind builders k d n l) ∙ ap (λ (xs : List PhysicalType). get_or xs k n) e ∙ g)
+
+none_left : {A : Type 0} (xs : List A) (k : ℕ) → length xs ≤ k → drop k xs ≡ []
+none_left [] zero h = refl
+none_left [] (suc k) h = refl
+none_left (x ∷ xs) zero h = absurd (omega (arith, h))
+none_left (x ∷ xs) (suc k) h = none_left xs k (omega (arith, h))
+
+all_dropped : {A : Type 0} (xs : List A) (k : ℕ) → drop k xs ≡ [] → length xs ≤ k
+all_dropped [] k h = omega arith
+all_dropped (x ∷ xs) zero h = absurd cc
+all_dropped (x ∷ xs) (suc k) h = let r = all_dropped xs k h in omega (arith, r)
+
+pub kinds_ended : (i k : ℕ) (fields : List AvroField) (projection : List Bool) (ks : List PhysicalType) → length fields ≤ i → drop k ks ≡ kept_kinds (drop i fields) (drop i projection) → length ks ≤ k
+kinds_ended i k fields projection ks le left =
+    all_dropped ks k (left ∙ (rw (none_left fields i le) refl))
+
+-- ---- one builder of many
+
+pub slots_here : (k : ℕ) (builders : List MutableArray) (d : MutableArray) → k < length builders → get_or (map builder_slots builders) k [] ≡ builder_slots (get_or builders k d)
+slots_here k builders d lt = get_or-map builder_slots builders k d [] lt
+
+-- a field's step, told of the builders
+module _ (k i : ℕ) (fields : List AvroField) (projection : List Bool) (before : List (List Slot)) (builders : List MutableArray) (d : MutableArray) (start rest : List ℕ) (f : AvroField) (lt : i < length fields) (same : length fields ≡ length projection) (is : f ≡ get_or fields i f) (taken : get_or projection i false ≡ true) (lk : k < length builders) where
+  pub builder_step : k < length before → (b : MutableArray) (r : List ℕ) → push_one (builder_slots (get_or builders k d)) (read f.schema rest) ≡ Some (builder_slots b, r) → RowSoFar k i fields projection before (map builder_slots builders) start rest → RowSoFar (k + 1) (i + 1) fields projection before (map builder_slots (set builders k b)) start r
+  builder_step lb b r e so =
+      let h = kept_step k i fields projection before (map builder_slots builders) start rest f lt same is taken lb (builder_slots b) r (rw (slots_here k builders d lk) e) so in
+      (h.0, h.1, map-set builder_slots builders k b ∙ h.2, h.3)
+
+  pub builder_fault : (t : DecodeFault) → Fails t (push_one (builder_slots (get_or builders k d)) (read f.schema rest)) → RowSoFar k i fields projection before (map builder_slots builders) start rest → IsBad t (row fields projection start)
+  builder_fault t e so =
+      kept_fault k i fields projection before (map builder_slots builders) start rest f lt same is taken t (rw (slots_here k builders d lk) e) so
+
+pub carried_at : (fields : List AvroField) (i : ℕ) (f : AvroField) → i < length fields → f ≡ get_or fields i f → AllCarriedToday fields → CarriedToday f.schema
+carried_at fields i f lt is all = subst (λ (x : AvroField). CarriedToday x.schema) (sym is) (all i f lt)
+
+-- ---- rows
+
+-- m rows are left
+abbrev pub RowsSoFar : ℕ → ℕ → List AvroField → List Bool → List (List Slot) → List (List Slot) → List ℕ → List ℕ → Type 0
+RowsSoFar n m fields projection before now start rest =
+    (ys : List Pieces) × (rows_after ys m fields projection rest ≡ rows n fields projection start) × (now ≡ grown_by before (map (λ y. y.slots) ys)) × AreWide (length now) (map (λ y. y.slots) ys)
+
+pub rows_begun : (n m : ℕ) (fields : List AvroField) (projection : List Bool) (before : List (List Slot)) (start : List ℕ) → m ≡ n → RowsSoFar n m fields projection before before start start
+rows_begun n m fields projection before start e = ([], rw e refl, refl, tt)
+
+wide_same : (m n : ℕ) (rs : List (List Slot)) → m ≡ n → AreWide m rs → AreWide n rs
+wide_same m n rs e w = rw (sym e) w
+
+pub rows_step : (n m l : ℕ) (fields : List AvroField) (projection : List Bool) (before now new : List (List Slot)) (start rest r : List ℕ) → m ≡ suc l → RowsSoFar n m fields projection before now start rest → (y : Pieces) × (row fields projection rest ≡ Ok (y, r)) × (new ≡ grown now y.slots) × (length y.slots ≡ length new) → RowsSoFar n l fields projection before new start r
+rows_step n m l fields projection before now new start rest r s so g =
+    let ys = so.0 in
+    let y = g.0 in
+    let more : map (λ (q : Pieces). q.slots) (ys ++ y ∷ []) ≡ map (λ (q : Pieces). q.slots) ys ++ y.slots ∷ [] = map-append (λ (q : Pieces). q.slots) ys (y ∷ []) in
+    let e : rows_after (ys ++ y ∷ []) l fields projection r ≡ rows n fields projection start =
+    sym (rows_next l fields projection ys y rest r g.1) ∙ ap (λ (j : ℕ). rows_after ys j fields projection rest) (sym s) ∙ so.1 in
+    let same : length new ≡ length now = ap length g.2 ∙ length-grown now y.slots in
+    let grow : new ≡ grown_by before (map (λ (q : Pieces). q.slots) ys ++ y.slots ∷ []) =
+    g.2 ∙ ap (λ (cs : List (List Slot)). grown cs y.slots) so.2 ∙ sym (grown_by_next (map (λ (q : Pieces). q.slots) ys) before y.slots) in
+    let wide = wide_next (length new) (map (λ (q : Pieces). q.slots) ys) y.slots (wide_same (length now) (length new) (map (λ (q : Pieces). q.slots) ys) (sym same) so.3) g.3 in
+    (ys ++ y ∷ [], e, rw more grow, rw more wide)
+
+pub rows_fault : (n m l : ℕ) (fields : List AvroField) (projection : List Bool) (before now : List (List Slot)) (start rest : List ℕ) (d : DecodeFault) → m ≡ suc l → RowsSoFar n m fields projection before now start rest → IsBad d (row fields projection rest) → IsBad d (rows n fields projection start)
+rows_fault n m l fields projection before now start rest Bytes s so e =
+    sym so.1 ∙ ap (λ (j : ℕ). rows_after so.0 j fields projection rest) s ∙ rows_err l fields projection so.0 rest Bad e
+rows_fault n m l fields projection before now start rest Memory s so e = tt
+
+pub rows_ended : (n m : ℕ) (fields : List AvroField) (projection : List Bool) (before now : List (List Slot)) (start rest : List ℕ) → m ≡ 0 → RowsSoFar n m fields projection before now start rest → (ys : List Pieces) × (rows n fields projection start ≡ Ok (ys, rest)) × (now ≡ grown_by before (map (λ y. y.slots) ys)) × AreWide (length now) (map (λ y. y.slots) ys)
+rows_ended n m fields projection before now start rest z so =
+    (so.0, sym so.1 ∙ ap (λ (j : ℕ). rows_after so.0 j fields projection rest) z ∙ rows_done fields projection so.0 rest, so.2, so.3)
+
+-- ---- a block
+
+module _ (n : ℕ) (fields : List AvroField) (projection : List Bool) (before now : List (List Slot)) (start rest : List ℕ) (enough : n ≤ length start) where
+  pub block_read : length rest ≡ 0 → (ys : List Pieces) × (rows n fields projection start ≡ Ok (ys, rest)) × (now ≡ grown_by before (map (λ y. y.slots) ys)) × AreWide (length now) (map (λ y. y.slots) ys) → (rest ≡ []) × (ys : List Pieces) × (block n fields projection start ≡ Ok ys) × (now ≡ grown_by before (map (λ y. y.slots) ys)) × AreWide (length now) (map (λ y. y.slots) ys)
+  block_read z g =
+      let e : rest ≡ [] = empty rest z in
+      (e, g.0, block_ended n fields projection start enough g.0 (rw e at g.1), g.2, g.3)
+    where
+      empty : (xs : List ℕ) → length xs ≡ 0 → xs ≡ []
+      empty [] h = refl
+      empty (x ∷ xs) h = absurd (omega (arith, h))
+
+  pub block_more : 0 < length rest → (ys : List Pieces) × (rows n fields projection start ≡ Ok (ys, rest)) × (now ≡ grown_by before (map (λ y. y.slots) ys)) × AreWide (length now) (map (λ y. y.slots) ys) → block n fields projection start ≡ Err Bad
+  block_more some g = block_left n fields projection start enough g.0 rest some g.1
+
+pub block_fault : (n : ℕ) (fields : List AvroField) (projection : List Bool) (start : List ℕ) → n ≤ length start → (d : DecodeFault) → IsBad d (rows n fields projection start) → IsBad d (block n fields projection start)
+block_fault n fields projection start enough Bytes e = block_err n fields projection start enough Bad e
+block_fault n fields projection start enough Memory e = tt

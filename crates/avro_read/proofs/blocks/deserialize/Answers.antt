@@ -1,0 +1,12 @@
+use Rattle.std.proofs.Common.{List, drop, sym, subst}
+use Rattle.arrow_types.specs.declared.slot.Slot.{Slot}
+use Rattle.avro_read.specs.Columns.{AreColumns}
+use Rattle.avro_read.proofs.Wholes.{same_lengths, never_refused}
+use Rattle.avro_read.proofs.blocks.deserialize.Goals as goal
+
+pub returns-clause-err : goal.returns-clause-err
+returns-clause-err c =
+    let e = c.in_ok-deserialize_into.ensures.columns in
+    let slots = sym c.in_ok-freeze.ensures.slots in
+    let wide = subst (λ (cs : List (List Slot)). AreColumns c.args.block.now.number_of_rows c.args.avro_fields.now c.args.projection.now (drop c.new-cursor.result.at c.new-cursor.result.bytes.now) cs) slots e in
+    never_refused _ _ c.try_new.result _ (same_lengths _ _ _ _ c.in_ok-freeze.field-0.items wide) c.try_new.ensures.err

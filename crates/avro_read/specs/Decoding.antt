@@ -1,0 +1,80 @@
+-- What a call of the decoder gives, in terms of a reading function on the bytes ahead. Want of memory
+-- says nothing of the bytes.
+use Rattle.std.specs.Prelude.{◌≡◌, ℕ, ℤ, pos, negsuc, List, [], ◌∷◌, length, map, Option, Some, None, Result, Ok, Err, if◌then◌else◌}
+use Rattle.std.specs.Str.{IsUtf8}
+use Rattle.arrow_types.specs.declared.slot.Slot.{Slot}
+use Rattle.arrow_types.specs.declared.slot.Slot.TheVariants as slot
+use Rattle.avro_file.specs.declared.schema.Schema.{Schema}
+use Rattle.avro_grammar.specs.Rows.{Pieces}
+use Rattle.avro_grammar.specs.Steps.{nothing, Passed}
+use Rattle.avro_reading.specs.Front.{◌>>=◌, Reader, number_at}
+use Rattle.avro_reading.specs.Read.{is_null, read}
+use Rattle.avro_reading.specs.Skip.{Fault, Bad, Stepper, skip}
+use Rattle.avro_read.specs.Columns.{grown, grown_by}
+use Rattle.avro_read.specs.declared.fault.DecodeFault.{DecodeFault}
+use Rattle.avro_read.specs.declared.fault.DecodeFault.TheVariants.{Bytes, Memory}
+
+abbrev pub Fails : {Y : Type 0} → DecodeFault → Option Y → Type 0
+Fails Bytes reading = reading ≡ None
+Fails Memory reading = Unit {0}
+
+abbrev pub Gives : {X Y : Type 0} → (X → Y) → Result X DecodeFault → Option Y → Type 0
+Gives view (Ok x) reading = reading ≡ Some (view x)
+Gives view (Err e) reading = Fails e reading
+
+-- why a text is not pushed
+abbrev pub IsTextFault : DecodeFault → List ℕ → Type 0
+IsTextFault Bytes text = IsUtf8 text → ⊥
+IsTextFault Memory text = Unit {0}
+
+-- a length is a number of 0 or more
+abbrev pub as_length : ℤ → Option ℕ
+as_length (pos n) = Some n
+as_length (negsuc n) = None
+
+unfoldable pub length_at : Reader ℕ
+length_at bytes = do
+  v ← number_at bytes
+  n ← as_length v.0
+  Some (n, v.1)
+
+-- a union's member, where null has no bytes
+abbrev pub member_at : Schema → Reader Slot
+member_at s bytes = if is_null s then Some (slot.Null, bytes) else read s bytes
+
+abbrev pub passed_member : Schema → Stepper Passed
+passed_member s bytes = if is_null s then Ok (nothing, bytes) else skip s bytes
+
+-- ---- values that are stepped over, rows, and blocks: no size below 0 is ever the fault
+
+abbrev pub IsBad : {Y : Type 0} → DecodeFault → Result Y Fault → Type 0
+IsBad Bytes stepping = stepping ≡ Err Bad
+IsBad Memory stepping = Unit {0}
+
+-- rest is what is behind the bytes
+abbrev pub Jumps : {X : Type 0} → List ℕ → Result X DecodeFault → Result (List ℕ) Fault → Type 0
+Jumps rest (Ok _) jumping = jumping ≡ Ok rest
+Jumps rest (Err e) jumping = IsBad e jumping
+
+-- rest is what is behind the value
+abbrev pub Passes : {X : Type 0} → List ℕ → Result X DecodeFault → Result (Passed × List ℕ) Fault → Type 0
+Passes rest (Ok _) stepping = (p : Passed) × (stepping ≡ Ok (p, rest))
+Passes rest (Err e) stepping = IsBad e stepping
+
+-- the columns before and now: each kept field's slot has come to the end of its column
+abbrev pub GivesRow : {X : Type 0} → List (List Slot) → List (List Slot) → List ℕ → Result X DecodeFault → Result (Pieces × List ℕ) Fault → Type 0
+GivesRow before now rest (Ok _) stepping = (y : Pieces) × (stepping ≡ Ok (y, rest)) × (now ≡ grown before y.slots) × (length y.slots ≡ length now)
+GivesRow before now rest (Err e) stepping = IsBad e stepping
+
+abbrev pub AreWide : ℕ → List (List Slot) → Type 0
+AreWide n [] = Unit {0}
+AreWide n (row ∷ rows) = (length row ≡ n) × AreWide n rows
+
+abbrev pub GivesRows : {X : Type 0} → List (List Slot) → List (List Slot) → List ℕ → Result X DecodeFault → Result (List Pieces × List ℕ) Fault → Type 0
+GivesRows before now rest (Ok _) stepping = (ys : List Pieces) × (stepping ≡ Ok (ys, rest)) × (now ≡ grown_by before (map (λ y. y.slots) ys)) × AreWide (length now) (map (λ y. y.slots) ys)
+GivesRows before now rest (Err e) stepping = IsBad e stepping
+
+-- nothing is behind a block
+abbrev pub GivesBlock : {X : Type 0} → List (List Slot) → List (List Slot) → List ℕ → Result X DecodeFault → Result (List Pieces) Fault → Type 0
+GivesBlock before now rest (Ok _) reading = (rest ≡ []) × (ys : List Pieces) × (reading ≡ Ok ys) × (now ≡ grown_by before (map (λ y. y.slots) ys)) × AreWide (length now) (map (λ y. y.slots) ys)
+GivesBlock before now rest (Err e) reading = IsBad e reading

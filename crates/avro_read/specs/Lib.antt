@@ -1,0 +1,4 @@
+pub mod Columns
+pub mod Decoding
+pub mod Refusals
+pub mod Today

@@ -1,0 +1,107 @@
+//! Blocks of rows into columns.
+
+ghost use Rattle.std.specs.Prelude.{◌≡◌, [], length, map, All, OnOk, IfOk, IfErr};
+ghost use Rattle.arrow_lists.specs.declared.error.Error.TheVariants.{OutOfMemory};
+ghost use Rattle.arrow_columns.specs.Arrays.{array_type, array_slots};
+ghost use Rattle.arrow_builders.specs.MutableArrays.{builder_type, builder_slots, builder_kind};
+ghost use Rattle.avro_read.specs.Today.{AllCarriedToday, kept_kinds, kept_types};
+ghost use Rattle.avro_read.specs.Columns.{AreColumns, counts, RiseBy};
+ghost use Rattle.avro_read.specs.Refusals.{BelongTogether, AreCounted, BytesRefused, BlockRefused};
+
+use crate::fault::DecodeFault;
+use crate::nested::make_builders;
+use crate::rows::decode_block;
+use arrow_builders::MutableArray;
+use arrow_columns::{Array, Chunk};
+use arrow_lists::{Error, Reason, Result};
+use arrow_types::Field;
+use avro_file::{AvroField, Block, Cursor, SliceCursor};
+use std::alloc::Global;
+
+/// The most bytes of a block.
+const MOST_BYTES: usize = 2_147_483_647;
+
+/// The columns of a block's kept fields: one for each, in order, of exactly the field's data type.
+///
+/// Ok: fields, Avro fields and projection belong together, and the block's whole bytes are its
+/// stated number of rows, of which the columns hold the kept slots. In this order:
+/// `InvalidArgumentError(Lengths)` where the lengths of the three lists differ,
+/// `NotYetImplemented(NoField)` where there is no field, `NotYetImplemented(NotCarried)` where a
+/// schema isn't carried, `InvalidArgumentError(FieldType)` where a field hasn't the type and the
+/// nullability of its schema, `Overflow` where the block has more than 2147483647 bytes,
+/// `ExternalFormat(Rows)` where it states more rows than it has bytes, and
+/// `ExternalFormat(BlockBytes)` where its bytes aren't its rows.
+pub fn deserialize(
+    alloc: Global,
+    block: &Block,
+    fields: &[Field],
+    avro_fields: &[AvroField],
+    projection: &[bool],
+) -> Result<Chunk>
+    ensures together { OnOk result (BelongTogether fields.now avro_fields.now projection.now) }
+    ensures counted { OnOk result (AreCounted block.now.number_of_rows block.now.bytes) }
+    ensures columns { IfOk result (λ chunk. AreColumns block.now.number_of_rows avro_fields.now projection.now block.now.bytes (map array_slots chunk)) }
+    ensures data_types { IfOk result (λ chunk. map array_type chunk ≡ kept_types fields.now projection.now) }
+    ensures err { IfErr result (BlockRefused fields.now block.now.number_of_rows avro_fields.now projection.now block.now.bytes) }
+{
+    let mut builders = make_builders(alloc, fields, avro_fields, projection)?;
+    let builders = builders.as_mut_slice();
+    let mut cursor = SliceCursor::new(block.bytes.as_slice());
+    let rows = block.number_of_rows;
+    deserialize_into(&mut cursor, rows, fields, avro_fields, projection, builders)?;
+    Chunk::try_new(freeze(alloc, builders)?)
+}
+
+/// Reads `rows` rows from all bytes ahead, each kept value into one more slot of its builder.
+///
+/// The builders are empty, and of the kinds that `make_builders` gives for these lists. Ok: no
+/// byte is left, and the builders hold the columns. The refusals are those of `deserialize` from
+/// `Overflow` on, over the bytes ahead. Kinds and data types of the builders stay on every answer,
+/// and no builder has more slots than there were bytes;
+/// after an Err the builders take only `node_lengths`, `clear` and drop.
+pub fn deserialize_into<'a, C: Cursor<'a>>(
+    cursor: &mut C,
+    rows: usize,
+    _fields: &[Field],
+    avro_fields: &[AvroField],
+    projection: &[bool],
+    builders: &mut [MutableArray],
+) -> Result<()>
+    requires lengths { length avro_fields.now ≡ length projection.now }
+    requires carried { AllCarriedToday avro_fields.now }
+    requires kinds { map builder_kind builders.old ≡ kept_kinds avro_fields.now projection.now }
+    requires empty { All (λ b. builder_slots b ≡ []) builders.old }
+    ensures kinds { map builder_kind builders.new ≡ map builder_kind builders.old }
+    ensures data_types { map builder_type builders.new ≡ map builder_type builders.old }
+    ensures grows { RiseBy (length (C.rest cursor.old)) (counts builders.old) (counts builders.new) }
+    ensures counted { OnOk result (AreCounted rows (C.rest cursor.old)) }
+    ensures columns { OnOk result (AreColumns rows avro_fields.now projection.now (C.rest cursor.old) (map builder_slots builders.new)) }
+    ensures done { OnOk result (C.rest cursor.new ≡ []) }
+    ensures err { IfErr result (BytesRefused rows avro_fields.now projection.now (C.rest cursor.old)) }
+{
+    if cursor.left() > MOST_BYTES {
+        return Err(Error::Overflow);
+    }
+    if rows > cursor.left() {
+        return Err(Error::ExternalFormat(Reason::Rows));
+    }
+    match decode_block(cursor, rows, avro_fields, projection, builders) {
+        Ok(()) => Ok(()),
+        Err(DecodeFault::Bytes) => Err(Error::ExternalFormat(Reason::BlockBytes)),
+        Err(DecodeFault::Memory) => Err(Error::OutOfMemory),
+    }
+}
+
+/// The arrays of the builders, in order.
+fn freeze(alloc: Global, builders: &mut [MutableArray]) -> Result<Vec<Array>>
+    ensures data_types { IfOk result (λ arrays. map array_type arrays.items ≡ map builder_type builders.old) }
+    ensures slots { IfOk result (λ arrays. map array_slots arrays.items ≡ map builder_slots builders.old) }
+    ensures memory { IfErr result (λ e. e ≡ OutOfMemory) }
+{
+    let mut arrays = Vec::new(alloc);
+    for i in 0..builders.len() {
+        let array = builders[i].as_box()?;
+        arrays.push(array)?;
+    }
+    Ok(arrays)
+}

@@ -1,0 +1,252 @@
+//! Kept values, from the front of the bytes into builders.
+
+ghost use Rattle.std.specs.Prelude.{◌+◌, ◌≤◌, length, ◌≡◌, ◌⊎◌, Some, None, ◌++◌, ◌∷◌, [], MatchOption, MatchResult, OnOk, OnErr, IfErr};
+ghost use Rattle.std.specs.Str.{IsUtf8};
+ghost use Rattle.arrow_types.specs.declared.slot.Slot.TheVariants.{Words};
+ghost use Rattle.avro_grammar.specs.Spells.{IsNull};
+ghost use Rattle.avro_reading.specs.Front.{number_at};
+ghost use Rattle.avro_reading.specs.Read.{push_one, boolean_at, int_at, long_at, string_at, read};
+ghost use Rattle.avro_reading.specs.Listed.{read_union_of};
+ghost use Rattle.arrow_builders.specs.MutableArrays.{builder_type, builder_slots, builder_kind};
+ghost use Rattle.avro_read.specs.Today.{IsFlatToday, CarriedToday, CarriedMembersOf, flat_kind, kind_of, members_kind_of};
+ghost use Rattle.avro_read.specs.Decoding.{Gives, IsTextFault, length_at, member_at};
+
+use crate::carried::is_null;
+use crate::fault::DecodeFault;
+use arrow_builders::{MutableArray, MutableBooleanArray, MutablePrimitiveArray, MutableUtf8Array};
+use arrow_lists::Error;
+use avro_file::{AvroSchema, Cursor, next_number};
+use simdutf8::basic::from_utf8;
+
+/// Reads one value of a carried schema into one more slot.
+#[tactic(auto, using(crate::proofs::Sets::unions))]
+pub fn decode_value<'a, C: Cursor<'a>>(
+    cursor: &mut C,
+    schema: &AvroSchema,
+    builder: &mut MutableArray,
+) -> Result<(), DecodeFault>
+    requires carried { CarriedToday schema.now }
+    requires kind { builder_kind builder.old ≡ kind_of schema.now }
+    ensures kind { builder_kind builder.new ≡ builder_kind builder.old }
+    ensures data_type { builder_type builder.new ≡ builder_type builder.old }
+    ensures grows { length (builder_slots builder.new) ≤ length (builder_slots builder.old) + 1 }
+    ensures reads { Gives (λ _. (builder_slots builder.new, C.rest cursor.new)) result
+        (push_one (builder_slots builder.old) (read schema.now (C.rest cursor.old))) }
+{
+    match schema {
+        AvroSchema::Union(members) => decode_union(cursor, members.as_slice(), builder),
+        _ => decode_flat(cursor, schema, builder),
+    }
+}
+
+#[tactic(auto, using(crate::proofs::Sets::choices))]
+fn decode_union<'a, C: Cursor<'a>>(
+    cursor: &mut C,
+    members: &[AvroSchema],
+    builder: &mut MutableArray,
+) -> Result<(), DecodeFault>
+    requires carried { CarriedMembersOf members.now }
+    requires kind { builder_kind builder.old ≡ members_kind_of members.now }
+    ensures kind { builder_kind builder.new ≡ builder_kind builder.old }
+    ensures data_type { builder_type builder.new ≡ builder_type builder.old }
+    ensures grows { length (builder_slots builder.new) ≤ length (builder_slots builder.old) + 1 }
+    ensures reads { Gives (λ _. (builder_slots builder.new, C.rest cursor.new)) result
+        (push_one (builder_slots builder.old) (read_union_of members.now (C.rest cursor.old))) }
+{
+    let [first, second] = members else {
+        unreachable!()
+    };
+    let Some(place) = read_number(cursor) else {
+        return Err(DecodeFault::Bytes);
+    };
+    if place == 0 {
+        decode_member(cursor, first, builder)
+    } else if place == 1 {
+        decode_member(cursor, second, builder)
+    } else {
+        Err(DecodeFault::Bytes)
+    }
+}
+
+/// Reads the value of one member. Null has no bytes.
+#[tactic(auto, using(crate::proofs::Sets::nulls))]
+fn decode_member<'a, C: Cursor<'a>>(
+    cursor: &mut C,
+    schema: &AvroSchema,
+    builder: &mut MutableArray,
+) -> Result<(), DecodeFault>
+    requires member { IsNull schema.now ⊎ (IsFlatToday schema.now × (builder_kind builder.old ≡ flat_kind schema.now)) }
+    ensures kind { builder_kind builder.new ≡ builder_kind builder.old }
+    ensures data_type { builder_type builder.new ≡ builder_type builder.old }
+    ensures grows { length (builder_slots builder.new) ≤ length (builder_slots builder.old) + 1 }
+    ensures reads { Gives (λ _. (builder_slots builder.new, C.rest cursor.new)) result
+        (push_one (builder_slots builder.old) (member_at schema.now (C.rest cursor.old))) }
+{
+    if is_null(schema) {
+        pushed(builder.push_null())
+    } else {
+        decode_flat(cursor, schema, builder)
+    }
+}
+
+fn decode_flat<'a, C: Cursor<'a>>(
+    cursor: &mut C,
+    schema: &AvroSchema,
+    builder: &mut MutableArray,
+) -> Result<(), DecodeFault>
+    requires flat { IsFlatToday schema.now }
+    requires kind { builder_kind builder.old ≡ flat_kind schema.now }
+    ensures kind { builder_kind builder.new ≡ builder_kind builder.old }
+    ensures data_type { builder_type builder.new ≡ builder_type builder.old }
+    ensures grows { length (builder_slots builder.new) ≤ length (builder_slots builder.old) + 1 }
+    ensures reads { Gives (λ _. (builder_slots builder.new, C.rest cursor.new)) result
+        (push_one (builder_slots builder.old) (read schema.now (C.rest cursor.old))) }
+{
+    match schema {
+        AvroSchema::Boolean => {
+            let MutableArray::Boolean(values) = builder else {
+                unreachable!()
+            };
+            decode_boolean(cursor, values)
+        }
+        AvroSchema::Int(_) => {
+            let MutableArray::Int32(values) = builder else {
+                unreachable!()
+            };
+            decode_int(cursor, values)
+        }
+        AvroSchema::Long(_) => {
+            let MutableArray::Int64(values) = builder else {
+                unreachable!()
+            };
+            decode_long(cursor, values)
+        }
+        AvroSchema::String(_) => {
+            let MutableArray::Utf8(values) = builder else {
+                unreachable!()
+            };
+            decode_string(cursor, values)
+        }
+        _ => unreachable!(),
+    }
+}
+
+#[tactic(auto, using(crate::proofs::Sets::flats))]
+fn decode_boolean<'a, C: Cursor<'a>>(
+    cursor: &mut C,
+    values: &mut MutableBooleanArray,
+) -> Result<(), DecodeFault>
+    ensures data_type { values.new.data_type ≡ values.old.data_type }
+    ensures grows { length values.new.slots ≤ length values.old.slots + 1 }
+    ensures reads { Gives (λ _. (values.new.slots, C.rest cursor.new)) result
+        (push_one values.old.slots (boolean_at (C.rest cursor.old))) }
+{
+    match cursor.byte() {
+        Some(0) => pushed(values.push(Some(false))),
+        Some(1) => pushed(values.push(Some(true))),
+        _ => Err(DecodeFault::Bytes),
+    }
+}
+
+#[tactic(auto, using(crate::proofs::Sets::flats))]
+fn decode_int<'a, C: Cursor<'a>>(
+    cursor: &mut C,
+    values: &mut MutablePrimitiveArray<i32>,
+) -> Result<(), DecodeFault>
+    ensures data_type { values.new.data_type ≡ values.old.data_type }
+    ensures grows { length values.new.slots ≤ length values.old.slots + 1 }
+    ensures reads { Gives (λ _. (values.new.slots, C.rest cursor.new)) result
+        (push_one values.old.slots (int_at (C.rest cursor.old))) }
+{
+    let Some(number) = read_number(cursor) else {
+        return Err(DecodeFault::Bytes);
+    };
+    match i32::try_from(number) {
+        Ok(value) => pushed(values.push(Some(value))),
+        Err(_) => Err(DecodeFault::Bytes),
+    }
+}
+
+#[tactic(auto, using(crate::proofs::Sets::flats))]
+fn decode_long<'a, C: Cursor<'a>>(
+    cursor: &mut C,
+    values: &mut MutablePrimitiveArray<i64>,
+) -> Result<(), DecodeFault>
+    ensures data_type { values.new.data_type ≡ values.old.data_type }
+    ensures grows { length values.new.slots ≤ length values.old.slots + 1 }
+    ensures reads { Gives (λ _. (values.new.slots, C.rest cursor.new)) result
+        (push_one values.old.slots (long_at (C.rest cursor.old))) }
+{
+    match read_number(cursor) {
+        Some(number) => pushed(values.push(Some(number))),
+        None => Err(DecodeFault::Bytes),
+    }
+}
+
+#[tactic(auto, using(crate::proofs::Sets::texts))]
+fn decode_string<'a, C: Cursor<'a>>(
+    cursor: &mut C,
+    values: &mut MutableUtf8Array<i32>,
+) -> Result<(), DecodeFault>
+    ensures data_type { values.new.data_type ≡ values.old.data_type }
+    ensures grows { length values.new.slots ≤ length values.old.slots + 1 }
+    ensures reads { Gives (λ _. (values.new.slots, C.rest cursor.new)) result
+        (push_one values.old.slots (string_at (C.rest cursor.old))) }
+{
+    let Some(length) = read_length(cursor) else {
+        return Err(DecodeFault::Bytes);
+    };
+    let Some(bytes) = cursor.take(length) else {
+        return Err(DecodeFault::Bytes);
+    };
+    push_text(values, bytes)
+}
+
+/// Pushes a text, which has to be UTF-8.
+#[tactic(auto, using(crate::proofs::Risen::one_more))]
+fn push_text(values: &mut MutableUtf8Array<i32>, bytes: &[u8]) -> Result<(), DecodeFault>
+    ensures data_type { values.new.data_type ≡ values.old.data_type }
+    ensures grows { length values.new.slots ≤ length values.old.slots + 1 }
+    ensures text { MatchResult result
+        (λ _. IsUtf8 bytes.now × (values.new.slots ≡ values.old.slots ++ Words bytes.now ∷ []))
+        (λ e. IsTextFault e bytes.now) }
+{
+    match from_utf8(bytes) {
+        Ok(text) => pushed(values.push(Some(text))),
+        Err(_) => Err(DecodeFault::Bytes),
+    }
+}
+
+/// The number in front (Avro 1.11, "Primitive Types").
+#[tactic(auto, using(crate::proofs::Numbers::number_is))]
+pub fn read_number<'a, C: Cursor<'a>>(cursor: &mut C) -> Option<i64>
+    ensures { MatchOption result (number_at (C.rest cursor.old) ≡ None) (λ v. number_at (C.rest cursor.old) ≡ Some (v, C.rest cursor.new)) }
+{
+    next_number(cursor)
+}
+
+/// The length in front of a text or a byte string, which isn't negative.
+#[tactic(auto, unfolding(crate::specs::Decoding::length_at))]
+pub fn read_length<'a, C: Cursor<'a>>(cursor: &mut C) -> Option<usize>
+    ensures { MatchOption result (length_at (C.rest cursor.old) ≡ None) (λ n. length_at (C.rest cursor.old) ≡ Some (n, C.rest cursor.new)) }
+{
+    match read_number(cursor) {
+        Some(number) => match usize::try_from(number) {
+            Ok(length) => Some(length),
+            Err(_) => None,
+        },
+        None => None,
+    }
+}
+
+/// The answer of a push, as a fault of the decoder. No text is too long here, since offsets count
+/// each block's bytes.
+fn pushed(answer: Result<(), Error>) -> Result<(), DecodeFault>
+    ensures ok { OnOk result (OnErr answer ⊥) }
+    ensures err { IfErr result (λ e. e ≡ DecodeFault.Memory) }
+{
+    match answer {
+        Ok(()) => Ok(()),
+        Err(_) => Err(DecodeFault::Memory),
+    }
+}

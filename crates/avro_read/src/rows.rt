@@ -1,0 +1,90 @@
+//! Rows, each value into the builder of its column.
+
+ghost use Rattle.std.specs.Prelude.{◌≡◌, ◌≤◌, length, map};
+ghost use Rattle.avro_reading.specs.Block.{row, rows as rows_at, block};
+ghost use Rattle.arrow_builders.specs.MutableArrays.{builder_type, builder_slots, builder_kind};
+ghost use Rattle.avro_read.specs.Today.{AllCarriedToday, kept_kinds};
+ghost use Rattle.avro_read.specs.Columns.{counts, RiseBy};
+ghost use Rattle.avro_read.specs.Decoding.{GivesRow, GivesRows, GivesBlock};
+
+use crate::decode::decode_value;
+use crate::fault::DecodeFault;
+use crate::skip::skip_value;
+use arrow_builders::MutableArray;
+use avro_file::{AvroField, Cursor};
+
+/// Reads the rows of a whole block.
+pub fn decode_block<'a, C: Cursor<'a>>(
+    cursor: &mut C,
+    rows: usize,
+    avro_fields: &[AvroField],
+    projection: &[bool],
+    builders: &mut [MutableArray],
+) -> Result<(), DecodeFault>
+    requires lengths { length avro_fields.now ≡ length projection.now }
+    requires carried { AllCarriedToday avro_fields.now }
+    requires kinds { map builder_kind builders.old ≡ kept_kinds avro_fields.now projection.now }
+    requires enough { rows ≤ length (C.rest cursor.old) }
+    ensures kinds { map builder_kind builders.new ≡ map builder_kind builders.old }
+    ensures data_types { map builder_type builders.new ≡ map builder_type builders.old }
+    ensures grows { RiseBy rows (counts builders.old) (counts builders.new) }
+    ensures reads { GivesBlock (map builder_slots builders.old) (map builder_slots builders.new) (C.rest cursor.new) result
+        (block rows avro_fields.now projection.now (C.rest cursor.old)) }
+{
+    decode_rows(cursor, rows, avro_fields, projection, builders)?;
+    if cursor.left() > 0 {
+        return Err(DecodeFault::Bytes);
+    }
+    Ok(())
+}
+
+fn decode_rows<'a, C: Cursor<'a>>(
+    cursor: &mut C,
+    rows: usize,
+    avro_fields: &[AvroField],
+    projection: &[bool],
+    builders: &mut [MutableArray],
+) -> Result<(), DecodeFault>
+    requires lengths { length avro_fields.now ≡ length projection.now }
+    requires carried { AllCarriedToday avro_fields.now }
+    requires kinds { map builder_kind builders.old ≡ kept_kinds avro_fields.now projection.now }
+    ensures kinds { map builder_kind builders.new ≡ map builder_kind builders.old }
+    ensures data_types { map builder_type builders.new ≡ map builder_type builders.old }
+    ensures grows { RiseBy rows (counts builders.old) (counts builders.new) }
+    ensures reads { GivesRows (map builder_slots builders.old) (map builder_slots builders.new) (C.rest cursor.new) result
+        (rows_at rows avro_fields.now projection.now (C.rest cursor.old)) }
+{
+    for _ in 0..rows {
+        decode_row(cursor, avro_fields, projection, builders)?;
+    }
+    Ok(())
+}
+
+/// Reads one row: each kept field into its builder, each other field passed over.
+fn decode_row<'a, C: Cursor<'a>>(
+    cursor: &mut C,
+    avro_fields: &[AvroField],
+    projection: &[bool],
+    builders: &mut [MutableArray],
+) -> Result<(), DecodeFault>
+    requires lengths { length avro_fields.now ≡ length projection.now }
+    requires carried { AllCarriedToday avro_fields.now }
+    requires kinds { map builder_kind builders.old ≡ kept_kinds avro_fields.now projection.now }
+    ensures kinds { map builder_kind builders.new ≡ map builder_kind builders.old }
+    ensures data_types { map builder_type builders.new ≡ map builder_type builders.old }
+    ensures grows { RiseBy 1 (counts builders.old) (counts builders.new) }
+    ensures reads { GivesRow (map builder_slots builders.old) (map builder_slots builders.new) (C.rest cursor.new) result
+        (row avro_fields.now projection.now (C.rest cursor.old)) }
+{
+    let mut column = 0;
+    for i in 0..avro_fields.len() {
+        let field = &avro_fields[i];
+        if projection[i] {
+            decode_value(cursor, &field.schema, &mut builders[column])?;
+            column += 1;
+        } else {
+            skip_value(cursor, &field.schema)?;
+        }
+    }
+    Ok(())
+}

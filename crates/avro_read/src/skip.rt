@@ -1,0 +1,105 @@
+//! Values that are passed over. Their contents are jumped over and never looked at.
+
+ghost use Rattle.std.specs.Prelude.{◌≡◌, ◌⊎◌, drop};
+ghost use Rattle.avro_grammar.specs.Spells.{IsNull};
+ghost use Rattle.avro_reading.specs.Skip.{skip, jump_at, skip_number as skip_number_at, skip_sized as skip_sized_at};
+ghost use Rattle.avro_reading.specs.Listed.{skip_union_of};
+ghost use Rattle.avro_read.specs.Today.{IsFlatToday, CarriedToday, CarriedMembersOf};
+ghost use Rattle.avro_read.specs.Decoding.{Passes, passed_member, Jumps};
+
+use crate::carried::is_null;
+use crate::decode::{read_length, read_number};
+use crate::fault::DecodeFault;
+use avro_file::{AvroSchema, Cursor};
+
+/// Passes one value of a carried schema.
+#[tactic(auto, using(crate::proofs::Sets::unions))]
+pub fn skip_value<'a, C: Cursor<'a>>(cursor: &mut C, schema: &AvroSchema) -> Result<(), DecodeFault>
+    requires carried { CarriedToday schema.now }
+    ensures passes { Passes (C.rest cursor.new) result (skip schema.now (C.rest cursor.old)) }
+{
+    match schema {
+        AvroSchema::Union(members) => skip_union(cursor, members.as_slice()),
+        _ => skip_flat(cursor, schema),
+    }
+}
+
+#[tactic(auto, using(crate::proofs::Sets::choices))]
+fn skip_union<'a, C: Cursor<'a>>(cursor: &mut C, members: &[AvroSchema]) -> Result<(), DecodeFault>
+    requires carried { CarriedMembersOf members.now }
+    ensures passes { Passes (C.rest cursor.new) result (skip_union_of members.now (C.rest cursor.old)) }
+{
+    let [first, second] = members else {
+        unreachable!()
+    };
+    let Some(place) = read_number(cursor) else {
+        return Err(DecodeFault::Bytes);
+    };
+    if place == 0 {
+        skip_member(cursor, first)
+    } else if place == 1 {
+        skip_member(cursor, second)
+    } else {
+        Err(DecodeFault::Bytes)
+    }
+}
+
+/// Passes the value of one member. Null has no bytes.
+#[tactic(auto, using(crate::proofs::Sets::nulls))]
+fn skip_member<'a, C: Cursor<'a>>(cursor: &mut C, schema: &AvroSchema) -> Result<(), DecodeFault>
+    requires member { IsNull schema.now ⊎ IsFlatToday schema.now }
+    ensures passes { Passes (C.rest cursor.new) result (passed_member schema.now (C.rest cursor.old)) }
+{
+    if is_null(schema) {
+        Ok(())
+    } else {
+        skip_flat(cursor, schema)
+    }
+}
+
+#[tactic(auto, using(crate::proofs::Sets::skips))]
+fn skip_flat<'a, C: Cursor<'a>>(cursor: &mut C, schema: &AvroSchema) -> Result<(), DecodeFault>
+    requires flat { IsFlatToday schema.now }
+    ensures passes { Passes (C.rest cursor.new) result (skip schema.now (C.rest cursor.old)) }
+{
+    match schema {
+        AvroSchema::Boolean => skip_bytes(cursor, 1),
+        AvroSchema::Int(_) | AvroSchema::Long(_) => skip_number(cursor),
+        AvroSchema::String(_) => skip_sized(cursor),
+        _ => unreachable!(),
+    }
+}
+
+/// Passes a number.
+#[tactic(auto, using(crate::proofs::Sets::skips))]
+fn skip_number<'a, C: Cursor<'a>>(cursor: &mut C) -> Result<(), DecodeFault>
+    ensures passes { Passes (C.rest cursor.new) result (skip_number_at (C.rest cursor.old)) }
+{
+    match read_number(cursor) {
+        Some(_) => Ok(()),
+        None => Err(DecodeFault::Bytes),
+    }
+}
+
+/// Passes a length and so many bytes, unseen.
+#[tactic(auto, using(crate::proofs::Sets::skips))]
+fn skip_sized<'a, C: Cursor<'a>>(cursor: &mut C) -> Result<(), DecodeFault>
+    ensures passes { Passes (C.rest cursor.new) result (skip_sized_at (C.rest cursor.old)) }
+{
+    match read_length(cursor) {
+        Some(length) => skip_bytes(cursor, length),
+        None => Err(DecodeFault::Bytes),
+    }
+}
+
+/// Passes `count` bytes, unseen.
+#[tactic(auto, using(crate::proofs::Sets::fronts))]
+fn skip_bytes<'a, C: Cursor<'a>>(cursor: &mut C, count: usize) -> Result<(), DecodeFault>
+    ensures jumps { Jumps (C.rest cursor.new) result (jump_at count (C.rest cursor.old)) }
+{
+    if cursor.jump(count) {
+        Ok(())
+    } else {
+        Err(DecodeFault::Bytes)
+    }
+}
