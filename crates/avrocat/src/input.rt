@@ -1,0 +1,54 @@
+//! A source, read to its end.
+
+ghost use Rattle.std.specs.Prelude.{◌≡◌, ◌≤◌, ◌+◌, ◌⊎◌, None, Err, IfOk, IfErr, OnOk, vec_len};
+ghost use Rattle.std.specs.Io.KnownBytes.{Consumes, IsAtEnd};
+ghost use Rattle.arrow_base.specs.Outside.{RoseOrFull};
+ghost use Rattle.arrow_lists.specs.declared.error.Error.TheVariants.{ReadFault, LimitExceeded, OutOfMemory};
+ghost use Rattle.avrocat.specs.Input.{ConsumesCount};
+
+use arrow_base::{Error, Result, Source};
+use std::alloc::Global;
+
+/// The most bytes that the program takes from its source.
+pub const BYTE_LIMIT: usize = 1_073_741_824;
+
+/// How many bytes are asked for at once.
+const PIECE: usize = 65_536;
+
+/// Where a read puts its bytes.
+fn new_piece(alloc: Global) -> Result<Vec<u8>>
+    ensures len { IfOk result (λ piece. vec_len piece ≡ PIECE) }
+    ensures memory { IfErr result (λ e. e ≡ OutOfMemory) }
+{
+    Ok(vec![in alloc; 0u8; PIECE]?)
+}
+
+/// All bytes of the source. `LimitExceeded` where there are more than the limit, `ReadFault` where
+/// a read failed.
+pub fn read_all<S: Source>(alloc: Global, source: &mut S) -> Result<Vec<u8>>
+    ensures taken { IfOk result (λ bytes. Consumes (S.left source.old) (S.left source.new) bytes.items) }
+    ensures whole { OnOk result (IsAtEnd (S.left source.new)) }
+    ensures within { IfOk result (λ bytes. vec_len bytes ≤ BYTE_LIMIT) }
+
+    ensures only { IfErr result (λ e. (e ≡ ReadFault None) ⊎ ((e ≡ LimitExceeded) ⊎ (e ≡ OutOfMemory))) }
+    ensures fault { result ≡ Err (ReadFault None) → RoseOrFull (S.faults source.old) (S.faults source.new) }
+    ensures limit { result ≡ Err LimitExceeded → ConsumesCount (S.left source.old) (S.left source.new) (BYTE_LIMIT + 1) }
+    ensures never_falls { S.faults source.old ≤ S.faults source.new }
+    ensures same { S.whose source.new ≡ S.whose source.old }
+{
+    let mut bytes = Vec::new(alloc);
+    let mut piece = new_piece(alloc)?;
+    while bytes.len() <= BYTE_LIMIT {
+        let most = PIECE.min(BYTE_LIMIT + 1 - bytes.len());
+        let front = &mut piece[..most];
+        let count = match source.read(front) {
+            Ok(count) => count,
+            Err(_) => return Err(Error::ReadFault { line: None }),
+        };
+        if count == 0 {
+            return Ok(bytes);
+        }
+        bytes.extend_from_slice(&front[..count])?;
+    }
+    Err(Error::LimitExceeded)
+}
