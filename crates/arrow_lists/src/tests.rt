@@ -22,6 +22,16 @@ fn bytes_grow_at_their_end(rt: HostRuntime) -> Result<(), Fail> {
 }
 
 #[test]
+fn bytes_are_ordered_as_lists_are(rt: HostRuntime) -> Result<(), Fail> {
+    let front = Bytes::try_from_slice(rt.alloc(), &[0x01, 0x02])?;
+    let whole = Bytes::from_vec([0x01, 0x02, 0x00].to_vec(rt.alloc())?);
+    assert!(rt; front != whole);
+    assert!(rt; front < whole);
+    assert_eq!(rt; whole.into_vec().as_slice(), [0x01, 0x02, 0x00].as_slice());
+    Ok(())
+}
+
+#[test]
 fn a_key_has_its_last_value(rt: HostRuntime) -> Result<(), Fail> {
     let mut metadata = Metadata::new(rt.alloc());
     for value in ["1", "2"] {
@@ -43,7 +53,7 @@ fn lists_and_boxes_compare_as_what_they_hold(rt: HostRuntime) -> Result<(), Fail
     let large = Box::new(rt.alloc(), whole)?;
     assert!(rt; small != large);
     assert!(rt; small < large);
-    assert_eq!(rt; small.into_inner().as_slice(), [1, 2].as_slice());
+    assert_eq!(rt; small.into_inner().into_vec().as_slice(), [1, 2].as_slice());
     Ok(())
 }
 
