@@ -51,3 +51,9 @@ IsShown result shown = MatchOption result (shown ≡ None) (λ item. shown ≡ S
 -- what `next` gives after an `advance` that answered so: its error, or what is shown then
 abbrev pub IsNext : {E : Type 0} → Result (Option (Bor (List ℕ))) E → Result (Unit {0}) E → Option (List ℕ) → Type 0
 IsNext result answer shown = MatchResult result (λ item. (answer ≡ Ok tt) × IsShown item shown) (λ error. answer ≡ Err error)
+
+-- an `advance`, and what `next` then gives
+abbrev pub AdvancedNext : {S E : Type 0} → (S → Type 0) → (S → Result (Unit {0}) E → S → Type 0) → (S → Option (List ℕ)) → (S → ℕ) → (S → List (List ℕ) → Type 0)
+    → S → Result (Option (Bor (List ℕ))) E → S → Type 0
+AdvancedNext {E = E} can_advance step shown to_come items before result after =
+    (answer : Result (Unit {0}) E) × Advanced can_advance step shown to_come items before answer after × IsNext result answer (shown after)

@@ -1,7 +1,7 @@
 ghost use Rattle.std.specs.Prelude.{◌≡◌, ℕ, List, Option, Result};
 ghost use Rattle.std.specs.Borrow.{sem};
 ghost use Rattle.std.specs.Io.BufRead.{Rests};
-ghost use Rattle.lending.specs.Lending.{Advanced, IsShown, IsNext};
+ghost use Rattle.lending.specs.Lending.{Advanced, AdvancedNext, IsShown};
 
 /// An iterator that lends one item after another, each until the next is asked for, and fails with an error of its own.
 /// It ends: there is a number, `to_come`, that each item shown and each error lowers.
@@ -40,8 +40,7 @@ pub trait FallibleStreamingIterator: Drop {
     /// `advance`, and then `get`.
     fn next(&mut self) -> std::result::Result<Option<&[u8]>, Self::Error>
         requires { can_advance self.old }
-        ensures* advances { sem 𝓛 (Rests Self.row self.entry (λ new.
-            (answer : Result (Unit {0}) Self.Error) × Advanced can_advance step shown to_come items self.old answer new × IsNext result answer (shown new))) };
+        ensures* advances { sem 𝓛 (Rests Self.row self.entry (λ new. AdvancedNext can_advance step shown to_come items self.old result new)) };
 
     /// A lower and, where there is one, an upper bound of the number of items still to come.
     fn size_hint(&self) -> (usize, Option<usize>)

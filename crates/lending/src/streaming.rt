@@ -2,7 +2,7 @@ ghost use Rattle.std.specs.Prelude.{◌≡◌, ℕ, List, Option, Result};
 ghost use Rattle.std.specs.Borrow.{sem};
 ghost use Rattle.std.specs.Io.BufRead.{Rests};
 ghost use Rattle.arrow_lists.specs.declared.error.Error.{Error};
-ghost use Rattle.lending.specs.Lending.{Advanced, IsShown, IsNext};
+ghost use Rattle.lending.specs.Lending.{Advanced, AdvancedNext, IsShown};
 
 use arrow_lists::Result;
 
@@ -40,8 +40,7 @@ pub trait StreamingIterator: Drop {
     /// `advance`, and then `get`.
     fn next(&mut self) -> Result<Option<&[u8]>>
         requires { can_advance self.old }
-        ensures* advances { sem 𝓛 (Rests Self.row self.entry (λ new.
-            (answer : Result (Unit {0}) Error) × Advanced can_advance step shown to_come items self.old answer new × IsNext result answer (shown new))) };
+        ensures* advances { sem 𝓛 (Rests Self.row self.entry (λ new. AdvancedNext can_advance step shown to_come items self.old result new)) };
 
     /// A lower and, where there is one, an upper bound of the number of items still to come.
     fn size_hint(&self) -> (usize, Option<usize>)
