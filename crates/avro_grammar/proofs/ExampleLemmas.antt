@@ -8,7 +8,10 @@ use Rattle.avro_file.specs.Number.{Number}
 use Rattle.avro_grammar.specs.Parts.{Grammar, last, block, Many}
 use Rattle.avro_grammar.specs.Spells.{Spells}
 use Rattle.avro_grammar.specs.Steps.{Steps}
-use Rattle.avro_grammar.specs.Examples.{RecordExample, ArrayExample, SizedArrayExample, SkippedArrayExample, NullExample, MemberExample}
+use Rattle.avro_file.specs.declared.schema.Schema.TheBlock.{shape-the_row-Schema-0, hidden-the_row-Schema-0}
+use Rattle.avro_grammar.specs.Broken as broken
+use Rattle.avro_grammar.specs.NegativeSize.{NegativeSize}
+use Rattle.avro_grammar.specs.Examples.{fields, projection, broken_rows, BreakExample, RecordExample, ArrayExample, SizedArrayExample, SkippedArrayExample, NullExample, MemberExample}
 use Rattle.avro_grammar.specs.Steps as steps
 use Rattle.avro_grammar.proofs.ByLists.{spells_array, steps_array, spells_union}
 
@@ -26,6 +29,9 @@ number_3 = record { groups = omega arith; short = omega arith; fits = omega arit
 
 number_27 : Number (54 ∷ []) (pos 27)
 number_27 = record { groups = omega arith; short = omega arith; fits = omega arith; value = refl }
+
+number_minus_1 : Number (1 ∷ []) (negsuc 0)
+number_minus_1 = record { groups = omega arith; short = omega arith; fits = omega arith; value = refl }
 
 number_minus_2 : Number (3 ∷ []) (negsuc 1)
 number_minus_2 = record { groups = omega arith; short = omega arith; fits = omega arith; value = refl }
@@ -126,3 +132,49 @@ record_example a b e f =
         },
       );
     }
+
+breaks_off : NegativeSize 2 fields projection broken_rows
+unfolding shape-the_row-Schema-0 hidden-the_row-Schema-0 denote.Hole.Carrier.hidden
+breaks_off = record {
+  enough = omega arith;
+  whole = 1;
+  fewer = omega arith;
+  front = 2 ∷ 0 ∷ [];
+  back = 4 ∷ 4 ∷ 0 ∷ 3 ∷ 1 ∷ [];
+  joined = refl;
+  pieces = record { slots = slot.Whole (pos 1) ∷ []; kept = 1; passed = record { seen = 1; hidden = 0 } } ∷ [];
+  rows = record {
+    front = 2 ∷ 0 ∷ [];
+    back = [];
+    joined = refl;
+    value = record { slots = slot.Whole (pos 1) ∷ []; kept = 1; passed = record { seen = 1; hidden = 0 } };
+    first = record {
+      front = 2 ∷ [];
+      back = 0 ∷ [];
+      joined = refl;
+      value = (slot.Whole (pos 1), 1);
+      first = (long (2 ∷ []) (pos 1) number_1, refl);
+      second = (
+        record { slots = []; kept = 0; passed = record { seen = 1; hidden = 0 } },
+        refl,
+        record { front = 0 ∷ []; back = []; joined = refl; value = record { seen = 1; hidden = 0 }; first = steps.last number_0; second = (record { slots = []; kept = 0; passed = record { seen = 0; hidden = 0 } }, refl, (refl, refl)) },
+      );
+    };
+    second = ([], refl, (refl, refl));
+  };
+  broken = (
+    4 ∷ [],
+    4 ∷ 0 ∷ 3 ∷ 1 ∷ [],
+    refl,
+    slot.Whole (pos 2),
+    long (4 ∷ []) (pos 2) number_2,
+    inl
+        (broken.broken_item (4 ∷ []) (0 ∷ []) (3 ∷ 1 ∷ []) 1 1 (record { seen = 1; hidden = 0 }) number_2 (omega arith)
+        (record { front = 0 ∷ []; back = []; joined = refl; value = record { seen = 1; hidden = 0 }; first = steps.last number_0; second = (record { seen = 0; hidden = 0 }, refl, (refl, refl)) })
+        (broken.false_size (3 ∷ []) (1 ∷ []) [] 1 0 number_minus_2 (omega arith) number_minus_1)),
+  );
+}
+
+pub break_example : BreakExample
+unfolding breaks_off shape-the_row-Schema-0 hidden-the_row-Schema-0 denote.Hole.Carrier.hidden
+break_example = record { breaks = breaks_off; whole = refl; place = refl }

@@ -3,6 +3,7 @@ pub mod Bytes
 pub mod ExampleLemmas
 pub mod Fronts
 pub mod NeverWhole
+pub mod OnePlace
 pub mod Passes
 pub mod RowLaws
 pub mod Spelled

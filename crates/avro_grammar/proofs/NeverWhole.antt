@@ -17,17 +17,17 @@ use Rattle.avro_grammar.proofs.Spelled.{pos_is}
 abbrev pub Excludes : {A : Type 0} → (List ℕ → Type 0) → Grammar A → Type 0
 Excludes {A} B P = (bytes front back : List ℕ) (p : A) → B bytes → P front p → bytes ≡ front ++ back → ⊥
 
-negative : (n : ℕ) (k : ℕ) → negsuc n ≡ pos k → ⊥
+pub negative : (n : ℕ) (k : ℕ) → negsuc n ≡ pos k → ⊥
 negative n k e = cc
 
-not_zero : (n : ℕ) → pos (suc n) ≡ pos 0 → ⊥
+pub not_zero : (n : ℕ) → pos (suc n) ≡ pos 0 → ⊥
 not_zero n e = cc
 
 after : (f i r y : List ℕ) → (f ++ (i ++ r)) ++ y ≡ f ++ (i ++ (r ++ y))
 after f i r y = append_assoc f (i ++ r) y ∙ ap (λ z. f ++ z) (append_assoc i r y)
 
 module _ (P : Grammar Passed) (B : List ℕ → Type 0) (reads : Reads P) (excludes : Excludes B P) where
-  many_excludes : (m n : ℕ) (items rest i z : List ℕ) (p q : Passed) → m < suc n → StepsMany P m items p → B rest → StepsMany P (suc n) i q → items ++ rest ≡ i ++ z → ⊥
+  pub many_excludes : (m n : ℕ) (items rest i z : List ℕ) (p q : Passed) → m < suc n → StepsMany P m items p → B rest → StepsMany P (suc n) i q → items ++ rest ≡ i ++ z → ⊥
   many_excludes zero n items rest i z p q l h b k e =
       excludes rest k.front (k.back ++ z) k.value b k.first
       (ap (λ w. w ++ rest) (sym h.0) ∙ e ∙ ap (λ w. w ++ z) k.joined ∙ append_assoc k.front k.back z)
@@ -98,7 +98,7 @@ mutual
   record_excludes : (r : TheRecord) → Excludes (BrokenRecord r) (StepsRecord r)
   record_excludes (Record' name namespace doc shape fields) bytes front back p h k e = fields_exclude fields bytes front back p h k e
 
-  item_excludes : {m : _} (row : Row_of-Schema m) → Excludes (BrokenItem row) (StepsItem row)
+  pub item_excludes : {m : _} (row : Row_of-Schema m) → Excludes (BrokenItem row) (StepsItem row)
   item_excludes end_of-Schema bytes front back p h k e = h
   item_excludes (more_of-Schema s rest) bytes front back p h k e = broken_excludes s bytes front back p h k e
 

@@ -107,7 +107,7 @@ many_exclude P B reads excludes (suc m) (suc n) items rest i z xs ys l h b k e =
     let e2 : h.back ++ rest ≡ k.back ++ z = append_cancel_left k.front _ _ (ap (λ w. w ++ (h.back ++ rest)) (sym one.0) ∙ e1) in
     many_exclude P B reads excludes m n h.back rest k.back z h.second.0 k.second.0 (omega (arith, l)) h.second.2 b k.second.2 e2
 
-broken_row_excludes : (fs : List AvroField) (keeps : List Bool) → Excludes (BrokenRow fs keeps) (Row fs keeps)
+pub broken_row_excludes : (fs : List AvroField) (keeps : List Bool) → Excludes (BrokenRow fs keeps) (Row fs keeps)
 broken_row_excludes [] keeps bytes front back p h k e = h
 broken_row_excludes (f ∷ fs) [] bytes front back p h k e = h
 broken_row_excludes (f ∷ fs) (true ∷ keeps) bytes front back p h k e =

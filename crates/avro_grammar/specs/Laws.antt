@@ -10,6 +10,7 @@ use Rattle.avro_grammar.specs.Broken.{Broken}
 use Rattle.avro_grammar.specs.Carried.{Carried, CarriedList}
 use Rattle.avro_grammar.specs.Rows.{Pieces, Row, Rows, KeepsNoMore, narrowed}
 use Rattle.avro_grammar.specs.NegativeSize.{NegativeSize}
+use Rattle.avro_grammar.specs.Place.{place, place_in_row, pieces_before}
 
 -- under one schema no bytes of P are a proper prefix of other bytes of P
 abbrev pub NoProperPrefix : {A : Type 0} → (Schema → Grammar A) → Type 0
@@ -56,3 +57,19 @@ NarrowerRows = (n : ℕ) (fields : List AvroField) (wide narrow : List Bool) (by
 -- no bytes are rows and break off at a size below 0
 abbrev pub RowsOrNegativeSize : Type 0
 RowsOrNegativeSize = (n : ℕ) (fields : List AvroField) (projection : List Bool) (bytes : List ℕ) (t : List (List Slot)) → Rows n fields projection bytes t → NegativeSize n fields projection bytes → ⊥
+
+-- bytes break off at one place at most
+abbrev pub OneBreak : Type 0
+OneBreak = (s : Schema) (bytes : List ℕ) (a b : Broken s bytes) → place s bytes a ≡ place s bytes b
+
+-- behind the same whole rows, and in the next row behind the same whole pieces, at the same place
+pub record SameBreak (n : ℕ) (fields : List AvroField) (projection : List Bool) (bytes : List ℕ) (a b : NegativeSize n fields projection bytes) : Type 0 where
+  pub whole : a.whole ≡ b.whole
+  pub front : a.front ≡ b.front
+  pub pieces : a.pieces ≡ b.pieces
+  pub before : pieces_before fields projection a.back a.broken ≡ pieces_before fields projection b.back b.broken
+  pub place : place_in_row fields projection a.back a.broken ≡ place_in_row fields projection b.back b.broken
+
+-- rows break off at one place at most
+abbrev pub OneNegativeSize : Type 0
+OneNegativeSize = (n : ℕ) (fields : List AvroField) (projection : List Bool) (bytes : List ℕ) (a b : NegativeSize n fields projection bytes) → SameBreak n fields projection bytes a b

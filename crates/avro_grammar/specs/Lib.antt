@@ -5,6 +5,7 @@ pub mod Laws
 pub mod Listed
 pub mod NegativeSize
 pub mod Parts
+pub mod Place
 pub mod Rows
 pub mod Spells
 pub mod Steps

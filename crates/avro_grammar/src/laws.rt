@@ -1,6 +1,6 @@
-ghost use Rattle.avro_grammar.specs.Laws.{NoProperPrefix, OneValue, OneFront, KeptCanBeStepped, HasAByte, RowsHaveBytes, BrokenIsNeverWhole, OneListOfPieces, OneTable, NarrowerRows, RowsOrNegativeSize};
+ghost use Rattle.avro_grammar.specs.Laws.{NoProperPrefix, OneValue, OneFront, KeptCanBeStepped, HasAByte, RowsHaveBytes, BrokenIsNeverWhole, OneListOfPieces, OneTable, NarrowerRows, RowsOrNegativeSize, OneBreak, OneNegativeSize};
 ghost use Rattle.avro_grammar.specs.Listed.{SpellsComposites, StepsComposites, BrokenComposites, CarriedComposites};
-ghost use Rattle.avro_grammar.specs.Examples.{RecordExample, ArrayExample, SizedArrayExample, SkippedArrayExample, NullExample, MemberExample};
+ghost use Rattle.avro_grammar.specs.Examples.{RecordExample, ArrayExample, SizedArrayExample, SkippedArrayExample, NullExample, MemberExample, BreakExample};
 ghost use Rattle.avro_grammar.specs.Spells.{Spells};
 ghost use Rattle.avro_grammar.specs.Steps.{Steps};
 
@@ -50,6 +50,13 @@ pub fn rows_or_negative_size()
     ensures { RowsOrNegativeSize }
 {}
 
+/// Bytes break off at one place at most, under a schema and in the rows of a block: behind the same
+/// whole rows and whole pieces, at the same block of the same array.
+pub fn one_break()
+    ensures broken { OneBreak }
+    ensures rows { OneNegativeSize }
+{}
+
 /// What the definitions say of arrays, unions and records, in terms of the lists of members and
 /// of fields that code sees.
 pub fn composites()
@@ -59,7 +66,8 @@ pub fn composites()
     ensures carried { CarriedComposites }
 {}
 
-/// The examples of the Avro specification (1.11, "Binary Encoding") are spelled as it spells them.
+/// The examples of the Avro specification (1.11, "Binary Encoding") are spelled as it spells them,
+/// and rows of arrays break off where one states a size below 0.
 pub fn examples()
     ensures record_of_two { RecordExample }
     ensures array { ArrayExample }
@@ -67,4 +75,5 @@ pub fn examples()
     ensures skipped_array { SkippedArrayExample }
     ensures null { NullExample }
     ensures member { MemberExample }
+    ensures negative_size { BreakExample }
 {}

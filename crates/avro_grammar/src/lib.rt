@@ -7,5 +7,5 @@ mod laws;
 
 pub use laws::{
     at_least_one_byte, broken_is_never_whole, composites, examples, kept_can_be_stepped,
-    no_proper_prefix, one_slot, one_table, rows_or_negative_size,
+    no_proper_prefix, one_break, one_slot, one_table, rows_or_negative_size,
 };

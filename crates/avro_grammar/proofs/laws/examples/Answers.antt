@@ -18,3 +18,6 @@ returns-clause-null c = lemmas.null_example
 
 pub returns-clause-member : goal.returns-clause-member
 returns-clause-member c = lemmas.member_example
+
+pub returns-clause-negative_size : goal.returns-clause-negative_size
+returns-clause-negative_size c = lemmas.break_example
