@@ -6,7 +6,7 @@ use Rattle.std.proofs.lemmas.List.FromFn.{length-map-range_with_len, map-range_w
 use Rattle.arrow_types.specs.declared.slot.Slot.{Slot}
 use Rattle.arrow_types.specs.declared.slot.Slot.TheVariants as slot
 use Rattle.arrow_bitmap.specs.Bits.{Packed}
-use Rattle.arrow_columns.specs.Slots.{slots_of, shown, truth_at, native_at}
+use Rattle.arrow_array.specs.Slots.{slots_of, shown, truth_at, native_at}
 use Rattle.arrow_builders.specs.Bits.{mask_of}
 use Rattle.arrow_builders.proofs.Bits.{made_alike}
 

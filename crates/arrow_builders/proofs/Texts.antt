@@ -4,8 +4,8 @@ use Rattle.std.specs.Str.{IsUtf8}
 use Rattle.std.proofs.lemmas.Bool.{cases_eq}
 use Rattle.std.proofs.lemmas.List.{get_or_append_left, get_or_push, length_push, length-append, length-drop, take-append-le, drop-append-le, take_all, drop_at, map-append, length-map}
 use Rattle.arrow_types.specs.declared.slot.Slot.TheVariants as slot
-use Rattle.arrow_columns.specs.Offsets.{offset_at, IsWithin, IsNotAbove, between, part}
-use Rattle.arrow_columns.specs.Slots.{slots_of, text_at}
+use Rattle.arrow_array.specs.Offsets.{offset_at, IsWithin, IsNotAbove, between, part}
+use Rattle.arrow_array.specs.Slots.{slots_of, text_at}
 use Rattle.arrow_builders.specs.Bits.{mask_of}
 use Rattle.arrow_builders.specs.Texts.{HoldTexts}
 use Rattle.arrow_builders.proofs.Slots.{slots_of-push}

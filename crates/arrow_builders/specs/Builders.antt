@@ -10,7 +10,7 @@ use Rattle.arrow_types.specs.declared.physical.PrimitiveType.{PrimitiveType}
 use Rattle.arrow_types.specs.declared.physical.PrimitiveType.TheVariants as primitive
 use Rattle.arrow_types.specs.contracts.types.DataType as the_types
 use Rattle.arrow_types.specs.contracts.slot.Slot as the_slots
-use Rattle.arrow_columns.specs.Slots.{slots_of}
+use Rattle.arrow_array.specs.Slots.{slots_of}
 use Rattle.arrow_builders.specs.Bits.{mask_of}
 use Rattle.arrow_builders.specs.Nodes.{Node}
 

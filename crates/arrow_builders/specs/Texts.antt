@@ -1,6 +1,6 @@
 -- The buffers of a builder of texts (Arrow columnar format, "Variable-size Binary Layout").
 use Rattle.std.specs.Prelude.{◌≡◌, ℕ, ◌+◌, ℤ, pos, Option, None, Some, List, length}
-use Rattle.arrow_columns.specs.Offsets.{offset_at, IsOffsets, AreTexts}
+use Rattle.arrow_array.specs.Offsets.{offset_at, IsOffsets, AreTexts}
 
 -- n texts lie one after another in the bytes: the first offset is 0, and the last the end of the bytes
 pub record HoldTexts (offsets : List ℤ) (bytes : List ℕ) (n : ℕ) : Type 0 where

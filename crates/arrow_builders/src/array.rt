@@ -4,7 +4,7 @@ ghost use Rattle.std.specs.Prelude.{◌≡◌, ◌≤◌, ◌++◌, ◌∷◌, [
 ghost use Rattle.std.specs.List.{All, AllZip};
 ghost use Rattle.arrow_lists.specs.declared.error.Error.TheVariants.{OutOfMemory};
 ghost use Rattle.arrow_types.specs.declared.slot.Slot.TheVariants.{Null as NullSlot};
-ghost use Rattle.arrow_columns.specs.Arrays.{array_type, array_slots};
+ghost use Rattle.arrow_array.specs.Arrays.{array_type, array_slots};
 ghost use Rattle.arrow_builders.specs.Nodes.{Takes, Roomier, Emptied, HasRoom, IsEmpty};
 ghost use Rattle.arrow_builders.specs.MutableArrays.{builder_type, builder_slots, builder_kind, nodes, lengths_of};
 
@@ -12,7 +12,7 @@ use crate::boolean::MutableBooleanArray;
 use crate::lengths::NodeLengths;
 use crate::primitive::MutablePrimitiveArray;
 use crate::utf8::MutableUtf8Array;
-use arrow_columns::Array;
+use arrow_array::Array;
 use arrow_lists::Result;
 use arrow_types::DataType;
 

@@ -9,7 +9,7 @@ ghost use Rattle.arrow_builders.specs.Nodes.{KeepsRoom, Roomier, Emptied, HasRoo
 use crate::bitmap::{MutableBitmap, freeze_both};
 use crate::container::Container;
 use crate::lengths::NodeLengths;
-use arrow_columns::BooleanArray;
+use arrow_array::BooleanArray;
 use arrow_lists::Result;
 use arrow_types::DataType;
 use std::alloc::Global;
@@ -35,7 +35,7 @@ impl Model for MutableBooleanArray {
     ghost coded = { plain_builder_code };
 
     ghost use Rattle.arrow_types.specs.declared.types.DataType.TheVariants.{Boolean};
-    ghost use Rattle.arrow_columns.specs.Slots.{truth_at};
+    ghost use Rattle.arrow_array.specs.Slots.{truth_at};
 
     ghost view = { λ b. record {
       data_type = b.data_type;

@@ -3,14 +3,14 @@
 ghost use Rattle.std.specs.Prelude.{◌≡◌, ◌≤◌, ◌++◌, ◌∷◌, [], length, if◌then◌else◌, IsOk, IfOk, IfErr, OnOk, OnErr};
 ghost use Rattle.arrow_lists.specs.declared.error.Error.TheVariants.{OutOfMemory};
 ghost use Rattle.arrow_types.specs.declared.slot.Slot.TheVariants.{Null as NullSlot};
-ghost use Rattle.arrow_columns.specs.Parts.{IsPlain};
+ghost use Rattle.arrow_array.specs.Parts.{IsPlain};
 ghost use Rattle.arrow_builders.specs.Builders.{plain_node, plain_type, optional_slot};
 ghost use Rattle.arrow_builders.specs.Nodes.{KeepsRoom, Roomier, Emptied, HasRoom};
 
 use crate::bitmap::MutableBitmap;
 use crate::container::Container;
 use crate::lengths::NodeLengths;
-use arrow_columns::PrimitiveArray;
+use arrow_array::PrimitiveArray;
 use arrow_lists::Result;
 use arrow_types::{DataType, IntervalUnit, NativeType, PrimitiveType};
 use std::alloc::Global;
@@ -35,8 +35,8 @@ impl<T: NativeType> Model for MutablePrimitiveArray<T> {
 
     ghost coded = { plain_builder_code };
 
-    ghost use Rattle.arrow_columns.specs.Slots.{native_at};
-    ghost use Rattle.arrow_columns.specs.Parts.{IsPlain};
+    ghost use Rattle.arrow_array.specs.Slots.{native_at};
+    ghost use Rattle.arrow_array.specs.Parts.{IsPlain};
 
     ghost view = { λ b. record {
       data_type = b.data_type;

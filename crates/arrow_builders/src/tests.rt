@@ -1,6 +1,7 @@
 use crate::{Container, MutableArray, MutablePrimitiveArray, MutableUtf8Array, NodeLengths};
-use arrow_columns::Array;
+use arrow_array::Array;
 use arrow_lists::Result;
+use arrow_types::DataType;
 use std::alloc::Global;
 use std::test::Fail;
 
@@ -16,9 +17,11 @@ fn push_one_and_null(builder: &mut MutablePrimitiveArray<i32>) -> Result<()> {
 
 #[test]
 fn a_number_and_a_null_become_an_array(rt: HostRuntime) -> std::result::Result<(), Fail> {
-    let mut builder: MutablePrimitiveArray<i32> = empty(rt.alloc())?;
+    let numbers: MutablePrimitiveArray<i32> = empty(rt.alloc())?;
+    let mut builder = numbers.to(DataType::Date32);
     push_one_and_null(&mut builder)?;
     let array = builder.as_box()?;
+    assert!(rt; matches!(array.data_type(), DataType::Date32));
     assert_eq!(rt; array.len(), 2);
     assert_eq!(rt; array.value(0), 1);
     assert!(rt; array.is_valid(0) && !array.is_valid(1));
@@ -65,45 +68,52 @@ fn reserved_room_is_filled(rt: HostRuntime) -> std::result::Result<(), Fail> {
     Ok(())
 }
 
-fn cleared_and_pushed(builder: &mut MutableArray) -> Result<Array> {
+fn is_one_null(array: &Array) -> bool {
+    array.len() == 1 && !array.is_valid(0)
+}
+
+/// The one array of what came after the builder was cleared.
+fn cleared_and_pushed(alloc: Global, builder: &mut MutableArray) -> Result<Vec<Array>> {
     builder.push_null()?;
     builder.clear();
     builder.push_null()?;
-    builder.as_box()
+    let mut arrays = Vec::with_capacity(alloc, 1)?;
+    arrays.push_reserved(builder.as_box()?);
+    Ok(arrays)
 }
 
 /// Whether a builder that was cleared gives the array of what came after.
-fn starts_again(builder: &mut MutableArray) -> bool {
-    match cleared_and_pushed(builder) {
-        Ok(array) => array.len() == 1 && !array.is_valid(0),
+fn starts_again(alloc: Global, builder: &mut MutableArray) -> bool {
+    match cleared_and_pushed(alloc, builder) {
+        Ok(arrays) => arrays.as_slice().iter().any(is_one_null),
         Err(_) => false,
     }
 }
 
 fn truths_start_again(alloc: Global) -> bool {
     match empty(alloc) {
-        Ok(builder) => starts_again(&mut MutableArray::Boolean(builder)),
+        Ok(builder) => starts_again(alloc, &mut MutableArray::Boolean(builder)),
         Err(_) => false,
     }
 }
 
 fn short_numbers_start_again(alloc: Global) -> bool {
     match empty(alloc) {
-        Ok(builder) => starts_again(&mut MutableArray::Int32(builder)),
+        Ok(builder) => starts_again(alloc, &mut MutableArray::Int32(builder)),
         Err(_) => false,
     }
 }
 
 fn long_numbers_start_again(alloc: Global) -> bool {
     match empty(alloc) {
-        Ok(builder) => starts_again(&mut MutableArray::Int64(builder)),
+        Ok(builder) => starts_again(alloc, &mut MutableArray::Int64(builder)),
         Err(_) => false,
     }
 }
 
 fn texts_start_again(alloc: Global) -> bool {
     match empty(alloc) {
-        Ok(builder) => starts_again(&mut MutableArray::Utf8(builder)),
+        Ok(builder) => starts_again(alloc, &mut MutableArray::Utf8(builder)),
         Err(_) => false,
     }
 }

@@ -8,13 +8,13 @@ ghost use Rattle.arrow_types.specs.declared.slot.Slot.TheVariants.{Null as NullS
 ghost use Rattle.arrow_builders.specs.Builders.{content_node, optional_slot};
 ghost use Rattle.arrow_builders.specs.Nodes.{KeepsRoom, Roomier, Emptied, HasRoom};
 ghost use Rattle.arrow_builders.specs.Texts.{text_len};
-ghost use Rattle.arrow_columns.specs.Parts.{text_type};
+ghost use Rattle.arrow_array.specs.Parts.{text_type};
 ghost use Rattle.std.specs.Option.{option_copied};
 
 use crate::bitmap::MutableBitmap;
 use crate::container::Container;
 use crate::lengths::NodeLengths;
-use arrow_columns::Utf8Array;
+use arrow_array::Utf8Array;
 use arrow_lists::{Error, Result};
 use arrow_types::{DataType, Offset};
 use std::alloc::Global;
@@ -43,8 +43,8 @@ impl<O: Offset> Model for MutableUtf8Array<O> {
     ghost coded = { content_builder_code };
 
     ghost use Rattle.arrow_types.specs.Numbers.{last_place};
-    ghost use Rattle.arrow_columns.specs.Parts.{text_type};
-    ghost use Rattle.arrow_columns.specs.Slots.{text_at};
+    ghost use Rattle.arrow_array.specs.Parts.{text_type};
+    ghost use Rattle.arrow_array.specs.Slots.{text_at};
     ghost use Rattle.arrow_builders.specs.Texts.{HoldTexts};
 
     ghost view = { λ b. record {
@@ -85,7 +85,7 @@ fn first_offset<O: Offset>(alloc: Global, capacity: usize) -> Result<Vec<O>>
 }
 
 impl<O: Offset> Container for MutableUtf8Array<O> {
-    ghost use Rattle.arrow_columns.specs.Parts.{text_type};
+    ghost use Rattle.arrow_array.specs.Parts.{text_type};
     ghost use Rattle.arrow_builders.specs.Builders.{IsNewContent};
 
     ghost is_new = { IsNewContent (text_type O.IS_LARGE) };

@@ -1,3 +1,1 @@
-pub mod Lengths
-pub mod Rising
-pub mod Windows
+pub mod Same

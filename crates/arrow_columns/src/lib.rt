@@ -1,22 +1,19 @@
-//! Columns over shared buffers, in the layout of the Arrow columnar format, and chunks of them.
+//! Columns: arrays of all kinds, chunks of them, and whether two arrays are equal.
 //!
-//! Contracts see an array as its data type and its slots, whatever the buffers are.
+//! The arrays are those of `arrow_array`. Equality stands above them, so that what builds arrays
+//! doesn't rest on it.
 #![tactic(auto)]
 
-mod array;
-mod boolean;
-mod chunk;
-mod offsets;
-mod primitive;
-mod utf8;
-mod validity;
+mod cell;
+mod equality;
 
-pub use array::Array;
-pub use arrow_bitmap::Bitmap;
-pub use boolean::BooleanArray;
-pub use chunk::Chunk;
-pub use primitive::PrimitiveArray;
-pub use utf8::Utf8Array;
+pub use arrow_array::{
+    Array, BinaryArray, Bitmap, BooleanArray, Chunk, DictionaryArray, FixedSizeBinaryArray,
+    FixedSizeListArray, Keys, LargeListArray, ListArray, NullArray, Part, PrimitiveArray,
+    StructArray, Utf8Array,
+};
+pub use cell::{Cell, cell_at};
+pub use equality::equal;
 
 #[cfg(test)]
 mod tests;

@@ -1,40 +1,155 @@
-use crate::{Array, Bitmap, BooleanArray, Chunk, PrimitiveArray, Utf8Array};
-use arrow_lists::{Error, Reason};
-use arrow_types::DataType;
+use crate::{
+    Array, Bitmap, BooleanArray, DictionaryArray, FixedSizeListArray, Keys, LargeListArray,
+    ListArray, PrimitiveArray, StructArray, Utf8Array, equal,
+};
+use arrow_lists::{Box, Error, Items, Reason, Result as ArrowResult, Text};
+use arrow_types::{DataType, Field, IntegerType};
+use std::alloc::Global;
 use std::test::Fail;
 
+fn item(alloc: Global) -> ArrowResult<Field> {
+    let name = Text::try_from_str(alloc, "item")?;
+    Ok(Field::new(alloc, name, DataType::Int32, true))
+}
+
+fn numbers(alloc: Global, values: &[i32]) -> ArrowResult<Array> {
+    let values = Vec::from_slice(alloc, values)?;
+    let array = PrimitiveArray::<i32>::try_new(alloc, DataType::Int32, values, None)?;
+    Ok(Array::Int32(array))
+}
+
+/// The lists [1, 2] and [].
+fn lists(alloc: Global) -> ArrowResult<ListArray> {
+    let values = numbers(alloc, &[1, 2])?;
+    let offsets = Vec::from_slice(alloc, &[0, 2, 2])?;
+    let data_type = DataType::List(Box::new(alloc, item(alloc)?)?);
+    ListArray::try_new(alloc, data_type, offsets, values, None)
+}
+
+/// The same lists, with offsets of 64 bits.
+fn large_lists(alloc: Global) -> ArrowResult<LargeListArray> {
+    let values = numbers(alloc, &[1, 2])?;
+    let offsets = Vec::from_slice(alloc, &[0, 2, 2])?;
+    let data_type = DataType::LargeList(Box::new(alloc, item(alloc)?)?);
+    LargeListArray::try_new(alloc, data_type, offsets, values, None)
+}
+
+/// The record of 1.
+fn records(alloc: Global) -> ArrowResult<StructArray> {
+    let mut values = Vec::new(alloc);
+    values.push(numbers(alloc, &[1])?)?;
+    let mut fields = Vec::new(alloc);
+    fields.push(item(alloc)?)?;
+    let data_type = DataType::Struct(Items::from_vec(fields));
+    StructArray::try_new(alloc, data_type, values, None)
+}
+
+/// The list [1, 2], of two items as each list is.
+fn fixed_lists(alloc: Global) -> ArrowResult<FixedSizeListArray> {
+    let values = numbers(alloc, &[1, 2])?;
+    let data_type = DataType::FixedSizeList(Box::new(alloc, item(alloc)?)?, 2);
+    FixedSizeListArray::try_new(alloc, data_type, values, None)
+}
+
+fn letters(alloc: Global) -> ArrowResult<Array> {
+    let offsets = Vec::from_slice(alloc, &[0, 1, 2])?;
+    let values = Vec::from_slice(alloc, b"AB")?;
+    let array = Utf8Array::<i32>::try_new(alloc, DataType::Utf8, offsets, values, None)?;
+    Ok(Array::Utf8(array))
+}
+
+/// The letters A and B at these keys.
+fn dictionary(alloc: Global, keys: &[i32]) -> ArrowResult<DictionaryArray> {
+    let keys = Vec::from_slice(alloc, keys)?;
+    let keys = PrimitiveArray::<i32>::try_new(alloc, DataType::Int32, keys, None)?;
+    let values = letters(alloc)?;
+    let data_type = DataType::Dictionary(
+        IntegerType::Int32,
+        Box::new(alloc, DataType::Utf8)?,
+        false,
+    );
+    DictionaryArray::try_new(alloc, data_type, Keys::Int32(keys), values)
+}
+
 #[test]
-fn texts_lie_between_offsets(rt: HostRuntime) -> Result<(), Fail> {
-    let offsets = [0, 5, 5, 11].to_vec(rt.alloc())?;
-    let values = b"hellohello2".to_vec(rt.alloc())?;
-    let validity = Bitmap::try_from_slice(rt.alloc(), &[true, false, true])?;
-    let array = Utf8Array::<i32>::try_new(
-        rt.alloc(),
-        DataType::Utf8,
-        offsets,
-        values,
-        Some(validity),
-    )?;
-    assert_eq!(rt; array.len(), 3);
-    assert!(rt; array.is_valid(0) && !array.is_valid(1) && array.is_valid(2));
-    assert_eq!(rt; array.value(0), "hello");
-    assert_eq!(rt; array.value(2), "hello2");
-    assert_eq!(rt; array.offsets(), [0, 5, 5, 11].as_slice());
-    assert_eq!(rt; array.values(), b"hellohello2".as_slice());
+fn lists_lie_between_offsets(rt: HostRuntime) -> Result<(), Fail> {
+    let array = lists(rt.alloc())?;
+    assert_eq!(rt; array.len(), 2);
+    assert_eq!(rt; array.offsets(), [0, 2, 2].as_slice());
+    assert_eq!(rt; array.values().len(), 2);
+    let part = array.value(0);
+    assert!(rt; part.start == 0 && part.end == 2);
+    let part = array.value(1);
+    assert!(rt; part.start == 2 && part.end == 2);
     Ok(())
 }
 
 #[test]
-fn a_character_that_offsets_cut_is_refused(rt: HostRuntime) -> Result<(), Fail> {
-    let offsets = [0, 1, 2].to_vec(rt.alloc())?;
-    let values = [0xcf, 0x80].to_vec(rt.alloc())?;
-    let refused = match Utf8Array::<i32>::try_new(
-        rt.alloc(),
-        DataType::Utf8,
-        offsets,
-        values,
-        None,
-    ) {
+fn a_slice_of_lists_cuts_their_offsets(rt: HostRuntime) -> Result<(), Fail> {
+    let array = lists(rt.alloc())?;
+    assert_eq!(rt; array.len(), 2);
+    let slice = array.slice(rt.alloc(), 0, 1)?;
+    assert_eq!(rt; slice.len(), 1);
+    assert_eq!(rt; slice.offsets(), [0, 2].as_slice());
+    assert_eq!(rt; slice.value(0).end, 2);
+    assert!(rt; !equal(&Array::List(array), &Array::List(slice)));
+    Ok(())
+}
+
+#[test]
+fn large_lists_lie_between_offsets(rt: HostRuntime) -> Result<(), Fail> {
+    let array = large_lists(rt.alloc())?;
+    assert_eq!(rt; array.len(), 2);
+    let slice = array.slice(rt.alloc(), 0, 1)?;
+    assert_eq!(rt; slice.len(), 1);
+    assert_eq!(rt; slice.offsets(), [0, 2].as_slice());
+    assert_eq!(rt; slice.values().len(), 2);
+    assert_eq!(rt; slice.value(0).end, 2);
+    let slice = Array::LargeList(slice);
+    assert!(rt; equal(&slice, &slice));
+    Ok(())
+}
+
+#[test]
+fn records_have_a_slot_of_each_child(rt: HostRuntime) -> Result<(), Fail> {
+    let array = records(rt.alloc())?;
+    assert_eq!(rt; array.values().len(), 1);
+    assert_eq!(rt; array.len(), 1);
+    let slice = array.slice(rt.alloc(), 0, 1)?;
+    assert_eq!(rt; slice.len(), 1);
+    assert!(rt; slice.is_valid(0));
+    assert!(rt; equal(&Array::Struct(array), &Array::Struct(slice)));
+    Ok(())
+}
+
+#[test]
+fn lists_of_one_length_lie_side_by_side(rt: HostRuntime) -> Result<(), Fail> {
+    let array = fixed_lists(rt.alloc())?;
+    assert_eq!(rt; array.len(), 1);
+    let slice = array.slice(rt.alloc(), 0, 1)?;
+    assert_eq!(rt; slice.len(), 1);
+    let part = slice.value(0);
+    assert!(rt; part.start == 0 && part.end == 2);
+    assert!(rt; equal(&Array::FixedSizeList(array), &Array::FixedSizeList(slice)));
+    Ok(())
+}
+
+#[test]
+fn keys_are_places_of_the_values(rt: HostRuntime) -> Result<(), Fail> {
+    let array = dictionary(rt.alloc(), &[1, 0])?;
+    assert_eq!(rt; array.len(), 2);
+    let slice = array.slice(rt.alloc(), 0, 1)?;
+    assert_eq!(rt; slice.len(), 1);
+    assert!(rt; slice.is_valid(0));
+    assert_eq!(rt; slice.keys().place(0), Some(1));
+    assert_eq!(rt; slice.values().len(), 2);
+    assert!(rt; !equal(&Array::Dictionary(array), &Array::Dictionary(slice)));
+    Ok(())
+}
+
+#[test]
+fn a_key_past_the_values_is_refused(rt: HostRuntime) -> Result<(), Fail> {
+    let refused = match dictionary(rt.alloc(), &[2]) {
         Ok(_) => false,
         Err(error) => error == Error::InvalidArgumentError(Reason::ArrayParts),
     };
@@ -43,31 +158,29 @@ fn a_character_that_offsets_cut_is_refused(rt: HostRuntime) -> Result<(), Fail> 
 }
 
 #[test]
-fn a_false_validity_is_a_null(rt: HostRuntime) -> Result<(), Fail> {
-    let values = [true].to_vec(rt.alloc())?;
-    let validity = Bitmap::try_from_slice(rt.alloc(), &[false])?;
-    let array = BooleanArray::try_new(rt.alloc(), DataType::Boolean, values, Some(validity))?;
-    let array = Array::Boolean(array);
-    assert_eq!(rt; array.len(), 1);
-    assert!(rt; !array.is_valid(0));
+fn offsets_past_the_child_are_refused(rt: HostRuntime) -> Result<(), Fail> {
+    let values = numbers(rt.alloc(), &[1, 2])?;
+    let offsets = Vec::from_slice(rt.alloc(), &[0, 3])?;
+    let data_type = DataType::List(Box::new(rt.alloc(), item(rt.alloc())?)?);
+    let refused = match ListArray::try_new(rt.alloc(), data_type, offsets, values, None) {
+        Ok(_) => false,
+        Err(error) => error == Error::InvalidArgumentError(Reason::ArrayParts),
+    };
+    assert!(rt; refused);
     Ok(())
 }
 
+fn null_over(alloc: Global, truth: bool) -> ArrowResult<Array> {
+    let values = Vec::from_slice(alloc, &[truth])?;
+    let validity = Bitmap::try_from_slice(alloc, &[false])?;
+    let array = BooleanArray::try_new(alloc, DataType::Boolean, values, Some(validity))?;
+    Ok(Array::Boolean(array))
+}
+
 #[test]
-fn columns_of_a_chunk_have_one_length(rt: HostRuntime) -> Result<(), Fail> {
-    let one = [1].to_vec(rt.alloc())?;
-    let one = PrimitiveArray::<i32>::try_new(rt.alloc(), DataType::Int32, one, None)?;
-    assert_eq!(rt; one.len(), 1);
-    assert_eq!(rt; one.value(0), 1);
-    let two = [true, false].to_vec(rt.alloc())?;
-    let two = BooleanArray::try_new(rt.alloc(), DataType::Boolean, two, None)?;
-    let mut arrays = Vec::new(rt.alloc());
-    arrays.push(Array::Boolean(two))?;
-    arrays.push(Array::Int32(one))?;
-    let refused = match Chunk::try_new(arrays) {
-        Ok(_) => false,
-        Err(error) => error == Error::InvalidArgumentError(Reason::Lengths),
-    };
-    assert!(rt; refused);
+fn what_lies_beneath_a_null_plays_no_part(rt: HostRuntime) -> Result<(), Fail> {
+    let left = null_over(rt.alloc(), true)?;
+    let right = null_over(rt.alloc(), false)?;
+    assert!(rt; equal(&left, &right));
     Ok(())
 }

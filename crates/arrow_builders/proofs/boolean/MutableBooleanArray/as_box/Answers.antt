@@ -1,5 +1,5 @@
 use Rattle.std.proofs.Common.{◌≡◌, ◌∙◌, ap, Bool, length}
-use Rattle.arrow_columns.specs.Slots.{truth_at}
+use Rattle.arrow_array.specs.Slots.{truth_at}
 use Rattle.arrow_builders.specs.Room.{Growing}
 use Rattle.arrow_builders.proofs.Slots.{slots_of-frozen}
 use Rattle.arrow_builders.proofs.boolean.MutableBooleanArray.as_box.Goals as goal

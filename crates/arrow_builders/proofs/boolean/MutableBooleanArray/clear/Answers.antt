@@ -1,5 +1,5 @@
 use Rattle.std.proofs.Common.{ap, length, arith, refl}
-use Rattle.arrow_columns.specs.Slots.{truth_at}
+use Rattle.arrow_array.specs.Slots.{truth_at}
 use Rattle.arrow_builders.proofs.Slots.{length-slots_of}
 use Rattle.arrow_builders.proofs.boolean.MutableBooleanArray.clear.Goals as goal
 

@@ -1,6 +1,6 @@
 use Rattle.std.proofs.Common.{◌∙◌, ap, ◌++◌, ◌∷◌, [], length, List, Bool, arith}
 use Rattle.std.proofs.lemmas.List.{length_push}
-use Rattle.arrow_columns.specs.Slots.{truth_at}
+use Rattle.arrow_array.specs.Slots.{truth_at}
 use Rattle.arrow_builders.proofs.Slots.{truths_at-push, length-slots_of}
 use Rattle.arrow_builders.proofs.boolean.MutableBooleanArray.push_slot.Goals as goal
 

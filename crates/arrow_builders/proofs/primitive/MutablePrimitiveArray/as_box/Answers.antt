@@ -1,6 +1,6 @@
 use Rattle.std.proofs.Common.{◌≡◌, ◌∙◌, ap, Bool, length, vec_len, arith, refl}
-use Rattle.arrow_columns.specs.Columns.{Column}
-use Rattle.arrow_columns.specs.Slots.{native_at}
+use Rattle.arrow_array.specs.Columns.{Column}
+use Rattle.arrow_array.specs.Slots.{native_at}
 use Rattle.arrow_builders.specs.Room.{Growing}
 use Rattle.arrow_builders.proofs.Slots.{slots_of-frozen, IfOk-same}
 use Rattle.arrow_builders.proofs.primitive.MutablePrimitiveArray.as_box.Goals as goal

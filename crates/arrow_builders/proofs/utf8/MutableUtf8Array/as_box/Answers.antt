@@ -1,6 +1,6 @@
 use Rattle.std.proofs.Common.{◌≡◌, ◌∙◌, ap, Bool, map, length, vec_len, ◌-◌, arith, refl}
-use Rattle.arrow_columns.specs.Columns.{TextColumn}
-use Rattle.arrow_columns.specs.Slots.{text_at}
+use Rattle.arrow_array.specs.Columns.{TextColumn}
+use Rattle.arrow_array.specs.Slots.{text_at}
 use Rattle.arrow_builders.specs.Room.{Growing}
 use Rattle.arrow_builders.proofs.Slots.{slots_of-frozen, IfOk-same}
 use Rattle.arrow_builders.proofs.Texts.{HoldTexts-count}

@@ -1,5 +1,5 @@
 use Rattle.std.proofs.Common.{ap, arith, length, map}
-use Rattle.arrow_columns.specs.Slots.{text_at}
+use Rattle.arrow_array.specs.Slots.{text_at}
 use Rattle.arrow_builders.proofs.Slots.{length-slots_of}
 use Rattle.arrow_builders.proofs.Texts.{HoldTexts-cut, HoldTexts-count}
 use Rattle.arrow_builders.proofs.utf8.MutableUtf8Array.clear.Goals as goal

@@ -1,0 +1,9 @@
+pub mod Cuts
+pub mod Dictionaries
+pub mod Fits
+pub mod FixedLists
+pub mod Lengths
+pub mod ListSlots
+pub mod Records
+pub mod Rising
+pub mod Windows

@@ -1,0 +1,12 @@
+pub mod Arrays
+pub mod Chunks
+pub mod Columns
+pub mod Dictionaries
+pub mod Falls
+pub mod FixedLists
+pub mod Lent
+pub mod Lists
+pub mod Offsets
+pub mod Parts
+pub mod Slots
+pub mod Structs

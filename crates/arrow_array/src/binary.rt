@@ -1,0 +1,206 @@
+ghost use Rattle.std.specs.Prelude.{◌≡◌, ℕ, ◌+◌, ◌-◌, ◌<◌, ◌≤◌, ◌↔◌, IsTrue, IfOk, IfErr, length, map, take, drop, vec_len};
+ghost use Rattle.std.specs.Option.{option_copied};
+ghost use Rattle.arrow_lists.specs.declared.error.Error.TheVariants.{OutOfMemory};
+ghost use Rattle.arrow_types.specs.declared.slot.Slot.TheVariants.{Octets};
+ghost use Rattle.arrow_array.specs.Slots.{TellsHeld, is_held, slot_at, slots_of, octets_at};
+ghost use Rattle.arrow_array.specs.Parts.{BinaryFits, IsRefusalOf, binary_type};
+
+use crate::buffer::Buffer;
+use crate::offsets::{are_offsets, part_of};
+use crate::validity;
+use arrow_bitmap::Bitmap;
+use arrow_lists::{Error, Reason, Result};
+use arrow_types::{DataType, Offset};
+use std::alloc::Global;
+use std::marker::Model;
+
+/// Byte strings, which lie one after another in a shared buffer, between shared offsets
+/// (Arrow columnar format, "Variable-size Binary Layout").
+///
+/// The offsets of `i32` make the type Binary, and those of `i64` LargeBinary.
+#[derive(Drop)]
+pub struct BinaryArray<O: Offset> {
+    data_type: DataType,
+    offsets: Buffer<O>,
+    values: Buffer<u8>,
+    validity: Option<Bitmap>,
+}
+
+impl<O: Offset> Model for BinaryArray<O> {
+    ghost use Rattle.std.specs.Prelude.{◌-◌, length, map};
+    ghost use Rattle.arrow_array.specs.Columns.{TextColumn, text_column_code};
+    ghost use Rattle.arrow_array.specs.Slots.{slots_of, octets_at};
+    ghost use Rattle.arrow_array.specs.Parts.{BinaryFits, binary_type};
+
+    ghost Value = { TextColumn };
+
+    ghost coded = { text_column_code };
+
+    ghost view = { λ a. record {
+      data_type = a.data_type;
+      slots = slots_of (octets_at (map O.place a.offsets) a.values) a.validity 0 (length (map O.place a.offsets) - 1);
+      offsets = map O.place a.offsets;
+      bytes = a.values;
+    } };
+
+    ghost invariant = { λ a. BinaryFits (binary_type O.IS_LARGE) a.data_type (map O.place a.offsets) (length a.values) a.validity };
+}
+
+/// Whether this is the type of byte strings with such offsets.
+fn is_binary_type<O: Offset>(data_type: &DataType) -> bool
+    ensures { IsTrue result ↔ (data_type.now ≡ binary_type O.IS_LARGE) }
+{
+    if O::IS_LARGE {
+        matches!(data_type, DataType::LargeBinary)
+    } else {
+        matches!(data_type, DataType::Binary)
+    }
+}
+
+/// Whether these parts make an array of byte strings.
+fn fits<O: Offset>(
+    data_type: &DataType,
+    offsets: &[O],
+    values_len: usize,
+    validity: &Option<Bitmap>,
+) -> bool
+    ensures { IsTrue result ↔ BinaryFits (binary_type O.IS_LARGE) data_type.now (map O.place offsets.now) values_len validity.now }
+{
+    if !is_binary_type::<O>(data_type) {
+        return false;
+    }
+    if !are_offsets(offsets, values_len) {
+        return false;
+    }
+    validity::fits(validity, offsets.len() - 1)
+}
+
+impl<O: Offset> BinaryArray<O> {
+    /// The array of the bytes between each two neighbouring offsets into `values`, null where the
+    /// validity is false. It keeps the values.
+    ///
+    /// `InvalidArgumentError(ArrayParts)` where the type isn't that of such offsets; where there is
+    /// no offset, or one is negative, below the one before, or past the end; or where a given
+    /// validity hasn't one value fewer than there are offsets. `OutOfMemory`.
+    pub fn try_new(
+        _alloc: Global,
+        data_type: DataType,
+        offsets: Vec<O>,
+        values: Vec<u8>,
+        validity: Option<Bitmap>,
+    ) -> Result<BinaryArray<O>>
+        ensures data_type { IfOk result (λ a. a.data_type ≡ data_type) }
+        ensures slots { IfOk result (λ a. a.slots ≡ slots_of (octets_at (map O.place offsets.items) values.items) validity 0 (vec_len offsets - 1)) }
+        ensures offsets { IfOk result (λ a. a.offsets ≡ map O.place offsets.items) }
+        ensures bytes { IfOk result (λ a. a.bytes ≡ values.items) }
+        ensures fits { IfOk result (λ _. BinaryFits (binary_type O.IS_LARGE) data_type (map O.place offsets.items) (vec_len values) validity) }
+        ensures err { IfErr result (IsRefusalOf (BinaryFits (binary_type O.IS_LARGE) data_type (map O.place offsets.items) (vec_len values) validity)) }
+    {
+        if !fits(&data_type, offsets.as_slice(), values.len(), &validity) {
+            return Err(Error::InvalidArgumentError(Reason::ArrayParts));
+        }
+        BinaryArray::from_parts(data_type, offsets, values, validity)
+    }
+
+    /// The array of parts that fit, as `try_new` gives it, without a look at the offsets.
+    ///
+    /// `OutOfMemory` alone.
+    pub fn from_parts(
+        data_type: DataType,
+        offsets: Vec<O>,
+        values: Vec<u8>,
+        validity: Option<Bitmap>,
+    ) -> Result<BinaryArray<O>>
+        requires { BinaryFits (binary_type O.IS_LARGE) data_type (map O.place offsets.items) (vec_len values) validity }
+        ensures data_type { IfOk result (λ a. a.data_type ≡ data_type) }
+        ensures slots { IfOk result (λ a. a.slots ≡ slots_of (octets_at (map O.place offsets.items) values.items) validity 0 (vec_len offsets - 1)) }
+        ensures offsets { IfOk result (λ a. a.offsets ≡ map O.place offsets.items) }
+        ensures bytes { IfOk result (λ a. a.bytes ≡ values.items) }
+        ensures err { IfErr result (λ e. e ≡ OutOfMemory) }
+    {
+        let offsets = Buffer::try_from_vec(offsets)?;
+        let values = Buffer::try_from_vec(values)?;
+        Ok(BinaryArray {
+            data_type,
+            offsets,
+            values,
+            validity,
+        })
+    }
+
+    /// How many slots there are.
+    pub fn len(&self) -> usize
+        ensures { result ≡ length self.now.slots }
+    {
+        self.offsets.len() - 1
+    }
+
+    /// The data type.
+    pub fn data_type(&self) -> &DataType
+        ensures { result.now ≡ self.now.data_type }
+    {
+        &self.data_type
+    }
+
+    /// The offsets of the slots, one more than there are slots: a slot that isn't null is the
+    /// bytes between its offset and the next in `values`.
+    pub fn offsets(&self) -> &[O]
+        ensures offsets { map O.place result.now ≡ self.now.offsets }
+        ensures slots { (k : ℕ) → k < length self.now.slots → IsTrue (is_held (slot_at self.now.slots k)) → slot_at self.now.slots k ≡ octets_at (map O.place result.now) self.now.bytes k }
+    {
+        self.offsets.as_slice()
+    }
+
+    /// The bytes that the slots lie in.
+    pub fn values(&self) -> &[u8]
+        ensures { result.now ≡ self.now.bytes }
+    {
+        self.values.as_slice()
+    }
+
+    /// Which slots aren't null; `None` only where none is.
+    pub fn validity(&self) -> Option<&Bitmap>
+        ensures { TellsHeld (option_copied result) self.now.slots }
+    {
+        self.validity.as_ref()
+    }
+
+    /// Whether slot `i` isn't null.
+    pub fn is_valid(&self, i: usize) -> bool
+        requires { i < length self.now.slots }
+        ensures { result ≡ is_held (slot_at self.now.slots i) }
+    {
+        validity::is_valid(&self.validity, self.len(), i)
+    }
+
+    /// The bytes of slot `i`; at a null, whatever the buffer has there.
+    pub fn value(&self, i: usize) -> &[u8]
+        requires { i < length self.now.slots }
+        ensures { IsTrue (is_held (slot_at self.now.slots i)) → slot_at self.now.slots i ≡ Octets result.now }
+    {
+        part_of(self.offsets.as_slice(), self.values.as_slice(), i)
+    }
+
+    /// The `count` slots from place `offset` on. It shares the buffers.
+    ///
+    /// `OutOfMemory` alone.
+    pub fn slice(&self, alloc: Global, offset: usize, count: usize) -> Result<BinaryArray<O>>
+        requires { offset + count ≤ length self.now.slots }
+        ensures data_type { IfOk result (λ a. a.data_type ≡ self.now.data_type) }
+        ensures slots { IfOk result (λ a. a.slots ≡ take count (drop offset self.now.slots)) }
+        ensures offsets { IfOk result (λ a. a.offsets ≡ take (count + 1) (drop offset self.now.offsets)) }
+        ensures bytes { IfOk result (λ a. a.bytes ≡ self.now.bytes) }
+        ensures memory { IfErr result (λ e. e ≡ OutOfMemory) }
+    {
+        let offsets = self.offsets.slice_and_next(offset, count)?;
+        let values = self.values.try_clone()?;
+        let validity = validity::slice(&self.validity, self.len(), offset, count)?;
+        let data_type = self.data_type.try_clone(alloc)?;
+        Ok(BinaryArray {
+            data_type,
+            offsets,
+            values,
+            validity,
+        })
+    }
+}

@@ -1,0 +1,144 @@
+ghost use Rattle.std.specs.Prelude.{◌≡◌, ◌+◌, ◌<◌, ◌≤◌, ◌↔◌, IsTrue, IfOk, IfErr, length, take, drop, vec_len};
+ghost use Rattle.std.specs.Option.{option_copied};
+ghost use Rattle.arrow_lists.specs.declared.error.Error.TheVariants.{OutOfMemory};
+ghost use Rattle.arrow_types.specs.declared.slot.Slot.TheVariants.{Truth};
+ghost use Rattle.arrow_array.specs.Slots.{TellsHeld, is_held, slot_at, slots_of, truth_at};
+ghost use Rattle.arrow_array.specs.Parts.{BooleanFits, IsRefusalOf};
+
+use crate::validity;
+use arrow_bitmap::Bitmap;
+use arrow_lists::{Error, Reason, Result};
+use arrow_types::DataType;
+use std::alloc::Global;
+use std::marker::Model;
+
+/// Truth values, packed in a bitmap (Arrow columnar format, "Fixed-size Primitive Layout").
+#[derive(Drop)]
+pub struct BooleanArray {
+    data_type: DataType,
+    values: Bitmap,
+    validity: Option<Bitmap>,
+}
+
+impl Model for BooleanArray {
+    ghost use Rattle.std.specs.Prelude.{length};
+    ghost use Rattle.arrow_array.specs.Columns.{Column, column_code};
+    ghost use Rattle.arrow_array.specs.Slots.{slots_of, truth_at};
+    ghost use Rattle.arrow_array.specs.Parts.{BooleanFits};
+
+    ghost Value = { Column };
+
+    ghost coded = { column_code };
+
+    ghost view = { λ a. record { data_type = a.data_type; slots = slots_of (truth_at a.values.truths) a.validity 0 (length a.values.truths) } };
+
+    ghost invariant = { λ a. BooleanFits a.data_type (length a.values.truths) a.validity };
+}
+
+/// Whether these parts make an array of so many truth values.
+fn fits(data_type: &DataType, len: usize, validity: &Option<Bitmap>) -> bool
+    ensures { IsTrue result ↔ BooleanFits data_type.now len validity.now }
+{
+    matches!(data_type, DataType::Boolean) && validity::fits(validity, len)
+}
+
+impl BooleanArray {
+    /// The array of these truth values, one a slot, null where the validity is false.
+    ///
+    /// `InvalidArgumentError(ArrayParts)` where the type isn't Boolean, or where a given validity
+    /// has another length; `OutOfMemory`.
+    pub fn try_new(
+        alloc: Global,
+        data_type: DataType,
+        values: Vec<bool>,
+        validity: Option<Bitmap>,
+    ) -> Result<BooleanArray>
+        ensures data_type { IfOk result (λ a. a.data_type ≡ data_type) }
+        ensures slots { IfOk result (λ a. a.slots ≡ slots_of (truth_at values.items) validity 0 (vec_len values)) }
+        ensures fits { IfOk result (λ _. BooleanFits data_type (vec_len values) validity) }
+        ensures err { IfErr result (IsRefusalOf (BooleanFits data_type (vec_len values) validity)) }
+    {
+        if !fits(&data_type, values.len(), &validity) {
+            return Err(Error::InvalidArgumentError(Reason::ArrayParts));
+        }
+        let values = Bitmap::try_from_slice(alloc, &values)?;
+        Ok(BooleanArray {
+            data_type,
+            values,
+            validity,
+        })
+    }
+
+    /// The array of the truth values of a bitmap, which it keeps. It takes no memory.
+    pub fn from_bitmaps(
+        data_type: DataType,
+        values: Bitmap,
+        validity: Option<Bitmap>,
+    ) -> BooleanArray
+        requires { BooleanFits data_type (length values.truths) validity }
+        ensures data_type { result.data_type ≡ data_type }
+        ensures slots { result.slots ≡ slots_of (truth_at values.truths) validity 0 (length values.truths) }
+    {
+        BooleanArray {
+            data_type,
+            values,
+            validity,
+        }
+    }
+
+    /// How many slots there are.
+    pub fn len(&self) -> usize
+        ensures { result ≡ length self.now.slots }
+    {
+        self.values.len()
+    }
+
+    /// The data type.
+    pub fn data_type(&self) -> &DataType
+        ensures { result.now ≡ self.now.data_type }
+    {
+        &self.data_type
+    }
+
+    /// Which slots aren't null; `None` only where none is.
+    pub fn validity(&self) -> Option<&Bitmap>
+        ensures { TellsHeld (option_copied result) self.now.slots }
+    {
+        self.validity.as_ref()
+    }
+
+    /// Whether slot `i` isn't null.
+    pub fn is_valid(&self, i: usize) -> bool
+        requires { i < length self.now.slots }
+        ensures { result ≡ is_held (slot_at self.now.slots i) }
+    {
+        validity::is_valid(&self.validity, self.values.len(), i)
+    }
+
+    /// The truth value of slot `i`; at a null, whatever the buffer has there.
+    pub fn value(&self, i: usize) -> bool
+        requires { i < length self.now.slots }
+        ensures { IsTrue (is_held (slot_at self.now.slots i)) → slot_at self.now.slots i ≡ Truth result }
+    {
+        self.values.get(i)
+    }
+
+    /// The `count` slots from place `offset` on. It shares the buffers.
+    ///
+    /// `OutOfMemory` alone.
+    pub fn slice(&self, alloc: Global, offset: usize, count: usize) -> Result<BooleanArray>
+        requires { offset + count ≤ length self.now.slots }
+        ensures data_type { IfOk result (λ a. a.data_type ≡ self.now.data_type) }
+        ensures slots { IfOk result (λ a. a.slots ≡ take count (drop offset self.now.slots)) }
+        ensures memory { IfErr result (λ e. e ≡ OutOfMemory) }
+    {
+        let values = self.values.slice(offset, count)?;
+        let validity = validity::slice(&self.validity, self.len(), offset, count)?;
+        let data_type = self.data_type.try_clone(alloc)?;
+        Ok(BooleanArray {
+            data_type,
+            values,
+            validity,
+        })
+    }
+}

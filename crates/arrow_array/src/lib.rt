@@ -1,0 +1,41 @@
+//! Columns over shared buffers, in the layout of the Arrow columnar format, and chunks of them.
+//!
+//! Contracts see an array as its data type and its slots, whatever the buffers are.
+#![tactic(auto)]
+
+mod array;
+mod binary;
+mod boolean;
+mod buffer;
+mod chunk;
+mod dictionary;
+mod fixed_size_binary;
+mod fixed_size_list;
+mod keys;
+mod list;
+mod null;
+mod offsets;
+mod part;
+mod primitive;
+mod structs;
+mod utf8;
+mod validity;
+
+pub use array::Array;
+pub use arrow_bitmap::Bitmap;
+pub use binary::BinaryArray;
+pub use boolean::BooleanArray;
+pub use chunk::Chunk;
+pub use dictionary::DictionaryArray;
+pub use fixed_size_binary::FixedSizeBinaryArray;
+pub use fixed_size_list::FixedSizeListArray;
+pub use keys::Keys;
+pub use list::{LargeListArray, ListArray};
+pub use null::NullArray;
+pub use part::Part;
+pub use primitive::PrimitiveArray;
+pub use structs::StructArray;
+pub use utf8::Utf8Array;
+
+#[cfg(test)]
+mod tests;

@@ -1,0 +1,436 @@
+ghost use Rattle.std.specs.Prelude.{◌≡◌, ℕ, ◌+◌, ◌-◌, ◌<◌, ◌≤◌, ◌↔◌, false, true, IsTrue, IfOk, IfErr, length, map, take, drop, vec_len};
+ghost use Rattle.std.specs.Option.{option_copied};
+ghost use Rattle.arrow_lists.specs.declared.error.Error.TheVariants.{OutOfMemory};
+ghost use Rattle.arrow_types.specs.declared.slot.Slot.TheVariants.{Listed};
+ghost use Rattle.arrow_array.specs.Arrays.{array_type, array_slots};
+ghost use Rattle.arrow_array.specs.Lent.{IsPart, part_slots};
+ghost use Rattle.arrow_array.specs.Lists.{IsListOf, ListFits, list_at};
+ghost use Rattle.arrow_array.specs.Offsets.{IsOffsets, offset_at};
+ghost use Rattle.arrow_array.specs.Slots.{TellsHeld, is_held, slot_at, slots_of};
+ghost use Rattle.arrow_array.specs.Parts.{IsRefusalOf, IsValidityOf};
+
+use crate::array::Array;
+use crate::buffer::Buffer;
+use crate::offsets::{are_offsets, part_bounds};
+use crate::part::Part;
+use crate::validity;
+use arrow_bitmap::Bitmap;
+use arrow_lists::{Box, Error, Reason, Result};
+use arrow_types::{DataType, Offset};
+use std::alloc::Global;
+use std::marker::Model;
+
+/// Lists of neighbouring slots of a child, between shared offsets of 32 bits
+/// (Arrow columnar format, "Variable-size List Layout").
+#[cycle(arrays)]
+#[derive(Drop)]
+pub struct ListArray {
+    data_type: DataType,
+    offsets: Buffer<i32>,
+    values: Box<Array>,
+    validity: Option<Bitmap>,
+}
+
+impl Model for ListArray {
+    ghost use Rattle.std.specs.Prelude.{false, ◌-◌, length};
+    ghost use Rattle.arrow_types.specs.declared.types.DataType.{size-DataType};
+    ghost use Rattle.arrow_array.specs.Lists.{ListColumn, list_column_code, list_at, ListFits};
+    ghost use Rattle.arrow_array.specs.Slots.{slots_of};
+
+    ghost Value = { ListColumn };
+
+    ghost coded = { list_column_code };
+
+    ghost use Rattle.arrow_array.specs.Arrays.{array_type, array_slots};
+
+    ghost view = { λ a. record {
+      data_type = a.data_type;
+      slots = slots_of (list_at a.offsets (array_slots a.values)) a.validity 0 (length a.offsets - 1);
+      offsets = a.offsets;
+      items = array_slots a.values;
+    } };
+
+    ghost invariant = { λ a. ListFits false a.data_type (array_type a.values) a.offsets (array_slots a.values) a.validity };
+
+    ghost size = { λ a. size-DataType a.data_type };
+
+    ghost use Rattle.arrow_array.specs.Falls.{list_falls};
+
+    ghost size_decreases = { λ a h. list_falls false a.data_type a.values h.kind };
+}
+
+/// Lists of neighbouring slots of a child, between shared offsets of 64 bits
+/// (Arrow columnar format, "Variable-size List Layout").
+#[cycle(arrays)]
+#[derive(Drop)]
+pub struct LargeListArray {
+    data_type: DataType,
+    offsets: Buffer<i64>,
+    values: Box<Array>,
+    validity: Option<Bitmap>,
+}
+
+impl Model for LargeListArray {
+    ghost use Rattle.std.specs.Prelude.{true, ◌-◌, length};
+    ghost use Rattle.arrow_types.specs.declared.types.DataType.{size-DataType};
+    ghost use Rattle.arrow_array.specs.Lists.{ListColumn, list_column_code, list_at, ListFits};
+    ghost use Rattle.arrow_array.specs.Slots.{slots_of};
+
+    ghost Value = { ListColumn };
+
+    ghost coded = { list_column_code };
+
+    ghost use Rattle.arrow_array.specs.Arrays.{array_type, array_slots};
+
+    ghost view = { λ a. record {
+      data_type = a.data_type;
+      slots = slots_of (list_at a.offsets (array_slots a.values)) a.validity 0 (length a.offsets - 1);
+      offsets = a.offsets;
+      items = array_slots a.values;
+    } };
+
+    ghost invariant = { λ a. ListFits true a.data_type (array_type a.values) a.offsets (array_slots a.values) a.validity };
+
+    ghost size = { λ a. size-DataType a.data_type };
+
+    ghost use Rattle.arrow_array.specs.Falls.{list_falls};
+
+    ghost size_decreases = { λ a h. list_falls true a.data_type a.values h.kind };
+}
+
+/// Whether this is the type of lists of such items, with offsets of 32 bits.
+fn is_list_of(data_type: &DataType, item: &DataType) -> bool
+    ensures { IsTrue result ↔ IsListOf false data_type.now item.now }
+{
+    match data_type {
+        DataType::List(field) => field.get().data_type.is_same(item),
+        _ => false,
+    }
+}
+
+/// Whether this is the type of lists of such items, with offsets of 64 bits.
+fn is_large_list_of(data_type: &DataType, item: &DataType) -> bool
+    ensures { IsTrue result ↔ IsListOf true data_type.now item.now }
+{
+    match data_type {
+        DataType::LargeList(field) => field.get().data_type.is_same(item),
+        _ => false,
+    }
+}
+
+/// Whether these are offsets into so many items, and a given validity has a value for each part
+/// between two of them.
+fn are_bounds<O: Offset>(offsets: &[O], len: usize, validity: &Option<Bitmap>) -> bool
+    ensures { IsTrue result ↔ (IsOffsets (map O.place offsets.now) len × IsValidityOf validity.now (length offsets.now - 1)) }
+{
+    if !are_offsets(offsets, len) {
+        return false;
+    }
+    validity::fits(validity, offsets.len() - 1)
+}
+
+/// Whether these parts make an array of lists with offsets of 32 bits.
+fn fits(data_type: &DataType, offsets: &[i32], values: &Array, validity: &Option<Bitmap>) -> bool
+    ensures { IsTrue result ↔ ListFits false data_type.now (array_type values.now) offsets.now (array_slots values.now) validity.now }
+{
+    if !is_list_of(data_type, values.data_type()) {
+        return false;
+    }
+    are_bounds(offsets, values.len(), validity)
+}
+
+/// Whether these parts make an array of lists with offsets of 64 bits.
+fn large_fits(
+    data_type: &DataType,
+    offsets: &[i64],
+    values: &Array,
+    validity: &Option<Bitmap>,
+) -> bool
+    ensures { IsTrue result ↔ ListFits true data_type.now (array_type values.now) offsets.now (array_slots values.now) validity.now }
+{
+    if !is_large_list_of(data_type, values.data_type()) {
+        return false;
+    }
+    are_bounds(offsets, values.len(), validity)
+}
+
+/// The offsets and the child, to be shared.
+///
+/// `OutOfMemory` alone.
+fn shared<T: Drop>(alloc: Global, offsets: Vec<T>, values: Array) -> Result<(Buffer<T>, Box<Array>)>
+    ensures offsets { IfOk result (λ p. p.0 ≡ offsets.items) }
+    ensures values { IfOk result (λ p. p.1 ≡ values) }
+    ensures memory { IfErr result (λ e. e ≡ OutOfMemory) }
+{
+    let values = Box::new(alloc, values)?;
+    let offsets = Buffer::try_from_vec(offsets)?;
+    Ok((offsets, values))
+}
+
+/// Lets go of a type and a validity that make no array. A call in place of the drops keeps the
+/// early ends of the constructors short.
+fn let_go(_data_type: DataType, _validity: Option<Bitmap>) {}
+
+/// The slots of the child between offset `i` and the next.
+fn part_of<'a, O: Offset>(offsets: &[O], values: &'a Array, i: usize) -> Part<'a>
+    requires offsets { IsOffsets (map O.place offsets.now) (length (array_slots values.now)) }
+    requires within { i + 1 < length offsets.now }
+    ensures array { result.array.now ≡ values.now }
+    ensures part { IsPart result }
+    ensures slots { Listed (part_slots result) ≡ list_at (map O.place offsets.now) (array_slots values.now) i }
+{
+    let (start, end) = part_bounds(offsets, i, values.len());
+    Part {
+        array: values,
+        start,
+        end,
+    }
+}
+
+impl ListArray {
+    /// The array of the lists of the child's slots between each two neighbouring offsets, null
+    /// where the validity is false.
+    ///
+    /// `InvalidArgumentError(ArrayParts)` where the type isn't that of lists with such offsets of
+    /// the child's type; where there is no offset, or one is negative, below the one before, or
+    /// past the end of the child; or where a given validity hasn't one value fewer than there are
+    /// offsets. `OutOfMemory`.
+    pub fn try_new(
+        alloc: Global,
+        data_type: DataType,
+        offsets: Vec<i32>,
+        values: Array,
+        validity: Option<Bitmap>,
+    ) -> Result<ListArray>
+        ensures data_type { IfOk result (λ a. a.data_type ≡ data_type) }
+        ensures slots { IfOk result (λ a. a.slots ≡ slots_of (list_at offsets.items (array_slots values)) validity 0 (vec_len offsets - 1)) }
+        ensures offsets { IfOk result (λ a. a.offsets ≡ offsets.items) }
+        ensures items { IfOk result (λ a. a.items ≡ array_slots values) }
+        ensures fits { IfOk result (λ _. ListFits false data_type (array_type values) offsets.items (array_slots values) validity) }
+        ensures err { IfErr result (IsRefusalOf (ListFits false data_type (array_type values) offsets.items (array_slots values) validity)) }
+    {
+        if !fits(&data_type, offsets.as_slice(), &values, &validity) {
+            let_go(data_type, validity);
+            return Err(Error::InvalidArgumentError(Reason::ArrayParts));
+        }
+        match shared(alloc, offsets, values) {
+            Err(error) => {
+                let_go(data_type, validity);
+                Err(error)
+            }
+            Ok((offsets, values)) => Ok(ListArray {
+                data_type,
+                offsets,
+                values,
+                validity,
+            }),
+        }
+    }
+
+    /// How many slots there are.
+    pub fn len(&self) -> usize
+        ensures { result ≡ length self.now.slots }
+    {
+        self.offsets.len() - 1
+    }
+
+    /// The data type.
+    pub fn data_type(&self) -> &DataType
+        ensures { result.now ≡ self.now.data_type }
+    {
+        &self.data_type
+    }
+
+    /// The offsets of the slots, one more than there are slots: a slot that isn't null is the list
+    /// of the slots of `values` between its offset and the next.
+    pub fn offsets(&self) -> &[i32]
+        ensures offsets { result.now ≡ self.now.offsets }
+        ensures slots { (k : ℕ) → k < length self.now.slots → IsTrue (is_held (slot_at self.now.slots k)) → slot_at self.now.slots k ≡ list_at result.now self.now.items k }
+    {
+        self.offsets.as_slice()
+    }
+
+    /// The child that the lists lie in.
+    pub fn values(&self) -> &Array
+        ensures data_type { IsListOf false self.now.data_type (array_type result.now) }
+        ensures items { array_slots result.now ≡ self.now.items }
+    {
+        self.values.get()
+    }
+
+    /// Which slots aren't null; `None` only where none is.
+    pub fn validity(&self) -> Option<&Bitmap>
+        ensures { TellsHeld (option_copied result) self.now.slots }
+    {
+        self.validity.as_ref()
+    }
+
+    /// Whether slot `i` isn't null.
+    pub fn is_valid(&self, i: usize) -> bool
+        requires { i < length self.now.slots }
+        ensures { result ≡ is_held (slot_at self.now.slots i) }
+    {
+        validity::is_valid(&self.validity, self.len(), i)
+    }
+
+    /// The items of the list in slot `i`; at a null, whatever lies between its offsets.
+    pub fn value(&self, i: usize) -> Part<'_>
+        requires { i < length self.now.slots }
+        ensures data_type { IsListOf false self.now.data_type (array_type result.array.now) }
+        ensures part { IsPart result }
+        ensures slot { IsTrue (is_held (slot_at self.now.slots i)) → slot_at self.now.slots i ≡ Listed (part_slots result) }
+    {
+        part_of(self.offsets.as_slice(), self.values.get(), i)
+    }
+
+    /// The `count` slots from place `offset` on. It shares the offsets and the buffers of the
+    /// child, of which it keeps all slots.
+    ///
+    /// `OutOfMemory` alone.
+    #[cycle(slices)]
+    pub fn slice(&self, alloc: Global, offset: usize, count: usize) -> Result<ListArray>
+        requires { offset + count ≤ length self.now.slots }
+        ensures data_type { IfOk result (λ a. a.data_type ≡ self.now.data_type) }
+        ensures slots { IfOk result (λ a. a.slots ≡ take count (drop offset self.now.slots)) }
+        ensures offsets { IfOk result (λ a. a.offsets ≡ take (count + 1) (drop offset self.now.offsets)) }
+        ensures items { IfOk result (λ a. a.items ≡ self.now.items) }
+        ensures memory { IfErr result (λ e. e ≡ OutOfMemory) }
+    {
+        let offsets = self.offsets.slice_and_next(offset, count)?;
+        let validity = validity::slice(&self.validity, self.len(), offset, count)?;
+        let child = self.values.get();
+        let values = child.slice(alloc, 0, child.len())?;
+        let values = Box::new(alloc, values)?;
+        let data_type = self.data_type.try_clone(alloc)?;
+        Ok(ListArray {
+            data_type,
+            offsets,
+            values,
+            validity,
+        })
+    }
+}
+
+impl LargeListArray {
+    /// The array of the lists of the child's slots between each two neighbouring offsets, null
+    /// where the validity is false.
+    ///
+    /// `InvalidArgumentError(ArrayParts)` where the type isn't that of lists with such offsets of
+    /// the child's type; where there is no offset, or one is negative, below the one before, or
+    /// past the end of the child; or where a given validity hasn't one value fewer than there are
+    /// offsets. `OutOfMemory`.
+    pub fn try_new(
+        alloc: Global,
+        data_type: DataType,
+        offsets: Vec<i64>,
+        values: Array,
+        validity: Option<Bitmap>,
+    ) -> Result<LargeListArray>
+        ensures data_type { IfOk result (λ a. a.data_type ≡ data_type) }
+        ensures slots { IfOk result (λ a. a.slots ≡ slots_of (list_at offsets.items (array_slots values)) validity 0 (vec_len offsets - 1)) }
+        ensures offsets { IfOk result (λ a. a.offsets ≡ offsets.items) }
+        ensures items { IfOk result (λ a. a.items ≡ array_slots values) }
+        ensures fits { IfOk result (λ _. ListFits true data_type (array_type values) offsets.items (array_slots values) validity) }
+        ensures err { IfErr result (IsRefusalOf (ListFits true data_type (array_type values) offsets.items (array_slots values) validity)) }
+    {
+        if !large_fits(&data_type, offsets.as_slice(), &values, &validity) {
+            let_go(data_type, validity);
+            return Err(Error::InvalidArgumentError(Reason::ArrayParts));
+        }
+        match shared(alloc, offsets, values) {
+            Err(error) => {
+                let_go(data_type, validity);
+                Err(error)
+            }
+            Ok((offsets, values)) => Ok(LargeListArray {
+                data_type,
+                offsets,
+                values,
+                validity,
+            }),
+        }
+    }
+
+    /// How many slots there are.
+    pub fn len(&self) -> usize
+        ensures { result ≡ length self.now.slots }
+    {
+        self.offsets.len() - 1
+    }
+
+    /// The data type.
+    pub fn data_type(&self) -> &DataType
+        ensures { result.now ≡ self.now.data_type }
+    {
+        &self.data_type
+    }
+
+    /// The offsets of the slots, one more than there are slots: a slot that isn't null is the list
+    /// of the slots of `values` between its offset and the next.
+    pub fn offsets(&self) -> &[i64]
+        ensures offsets { result.now ≡ self.now.offsets }
+        ensures slots { (k : ℕ) → k < length self.now.slots → IsTrue (is_held (slot_at self.now.slots k)) → slot_at self.now.slots k ≡ list_at result.now self.now.items k }
+    {
+        self.offsets.as_slice()
+    }
+
+    /// The child that the lists lie in.
+    pub fn values(&self) -> &Array
+        ensures data_type { IsListOf true self.now.data_type (array_type result.now) }
+        ensures items { array_slots result.now ≡ self.now.items }
+    {
+        self.values.get()
+    }
+
+    /// Which slots aren't null; `None` only where none is.
+    pub fn validity(&self) -> Option<&Bitmap>
+        ensures { TellsHeld (option_copied result) self.now.slots }
+    {
+        self.validity.as_ref()
+    }
+
+    /// Whether slot `i` isn't null.
+    pub fn is_valid(&self, i: usize) -> bool
+        requires { i < length self.now.slots }
+        ensures { result ≡ is_held (slot_at self.now.slots i) }
+    {
+        validity::is_valid(&self.validity, self.len(), i)
+    }
+
+    /// The items of the list in slot `i`; at a null, whatever lies between its offsets.
+    pub fn value(&self, i: usize) -> Part<'_>
+        requires { i < length self.now.slots }
+        ensures data_type { IsListOf true self.now.data_type (array_type result.array.now) }
+        ensures part { IsPart result }
+        ensures slot { IsTrue (is_held (slot_at self.now.slots i)) → slot_at self.now.slots i ≡ Listed (part_slots result) }
+    {
+        part_of(self.offsets.as_slice(), self.values.get(), i)
+    }
+
+    /// The `count` slots from place `offset` on. It shares the offsets and the buffers of the
+    /// child, of which it keeps all slots.
+    ///
+    /// `OutOfMemory` alone.
+    #[cycle(slices)]
+    pub fn slice(&self, alloc: Global, offset: usize, count: usize) -> Result<LargeListArray>
+        requires { offset + count ≤ length self.now.slots }
+        ensures data_type { IfOk result (λ a. a.data_type ≡ self.now.data_type) }
+        ensures slots { IfOk result (λ a. a.slots ≡ take count (drop offset self.now.slots)) }
+        ensures offsets { IfOk result (λ a. a.offsets ≡ take (count + 1) (drop offset self.now.offsets)) }
+        ensures items { IfOk result (λ a. a.items ≡ self.now.items) }
+        ensures memory { IfErr result (λ e. e ≡ OutOfMemory) }
+    {
+        let offsets = self.offsets.slice_and_next(offset, count)?;
+        let validity = validity::slice(&self.validity, self.len(), offset, count)?;
+        let child = self.values.get();
+        let values = child.slice(alloc, 0, child.len())?;
+        let values = Box::new(alloc, values)?;
+        let data_type = self.data_type.try_clone(alloc)?;
+        Ok(LargeListArray {
+            data_type,
+            offsets,
+            values,
+            validity,
+        })
+    }
+}

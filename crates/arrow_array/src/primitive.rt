@@ -1,0 +1,149 @@
+ghost use Rattle.std.specs.Prelude.{◌≡◌, ◌+◌, ◌<◌, ◌≤◌, ◌↔◌, IsTrue, IfOk, IfErr, length, take, drop, vec_len};
+ghost use Rattle.std.specs.Option.{option_copied};
+ghost use Rattle.arrow_lists.specs.declared.error.Error.TheVariants.{OutOfMemory};
+ghost use Rattle.arrow_array.specs.Slots.{TellsHeld, is_held, native_at, slot_at, slots_of};
+ghost use Rattle.arrow_array.specs.Parts.{IsPlain, IsRefusalOf, PrimitiveFits, is_extension};
+
+use crate::buffer::Buffer;
+use crate::validity;
+use arrow_bitmap::Bitmap;
+use arrow_lists::{Error, Reason, Result};
+use arrow_types::{DataType, NativeType, PhysicalType};
+use std::alloc::Global;
+use std::marker::Model;
+
+/// Numbers, one after another in a shared buffer (Arrow columnar format,
+/// "Fixed-size Primitive Layout").
+#[derive(Drop)]
+pub struct PrimitiveArray<T: NativeType> {
+    data_type: DataType,
+    values: Buffer<T>,
+    validity: Option<Bitmap>,
+}
+
+impl<T: NativeType> Model for PrimitiveArray<T> {
+    ghost use Rattle.std.specs.Prelude.{length};
+    ghost use Rattle.arrow_array.specs.Columns.{Column, column_code};
+    ghost use Rattle.arrow_array.specs.Slots.{slots_of, native_at};
+    ghost use Rattle.arrow_array.specs.Parts.{PrimitiveFits};
+
+    ghost Value = { Column };
+
+    ghost coded = { column_code };
+
+    ghost view = { λ a. record { data_type = a.data_type; slots = slots_of (native_at T.native_slot a.values) a.validity 0 (length a.values) } };
+
+    ghost invariant = { λ a. PrimitiveFits T.PRIMITIVE a.data_type (length a.values) a.validity };
+}
+
+fn is_extension_type(data_type: &DataType) -> bool
+    ensures { result ≡ is_extension data_type.now }
+{
+    matches!(data_type, DataType::Extension(_, _, _))
+}
+
+/// Whether values of this type are kept as a `T`.
+fn is_plain<T: NativeType>(data_type: &DataType) -> bool
+    ensures { IsTrue result ↔ IsPlain T.PRIMITIVE data_type.now }
+{
+    if is_extension_type(data_type) {
+        return false;
+    }
+    match data_type.to_physical_type() {
+        PhysicalType::Primitive(primitive) => primitive == T::PRIMITIVE,
+        _ => false,
+    }
+}
+
+/// Whether these parts make an array of so many numbers.
+fn fits<T: NativeType>(data_type: &DataType, len: usize, validity: &Option<Bitmap>) -> bool
+    ensures { IsTrue result ↔ PrimitiveFits T.PRIMITIVE data_type.now len validity.now }
+{
+    is_plain::<T>(data_type) && validity::fits(validity, len)
+}
+
+impl<T: NativeType> PrimitiveArray<T> {
+    /// The array of these values, one a slot, null where the validity is false. It keeps the
+    /// values.
+    ///
+    /// `InvalidArgumentError(ArrayParts)` where values of the type lie in memory as another
+    /// primitive type, where the type is an extension, or where a given validity has another
+    /// length; `OutOfMemory`.
+    pub fn try_new(
+        _alloc: Global,
+        data_type: DataType,
+        values: Vec<T>,
+        validity: Option<Bitmap>,
+    ) -> Result<PrimitiveArray<T>>
+        ensures data_type { IfOk result (λ a. a.data_type ≡ data_type) }
+        ensures slots { IfOk result (λ a. a.slots ≡ slots_of (native_at T.native_slot values.items) validity 0 (vec_len values)) }
+        ensures fits { IfOk result (λ _. PrimitiveFits T.PRIMITIVE data_type (vec_len values) validity) }
+        ensures err { IfErr result (IsRefusalOf (PrimitiveFits T.PRIMITIVE data_type (vec_len values) validity)) }
+    {
+        if !fits::<T>(&data_type, values.len(), &validity) {
+            return Err(Error::InvalidArgumentError(Reason::ArrayParts));
+        }
+        let values = Buffer::try_from_vec(values)?;
+        Ok(PrimitiveArray {
+            data_type,
+            values,
+            validity,
+        })
+    }
+
+    /// How many slots there are.
+    pub fn len(&self) -> usize
+        ensures { result ≡ length self.now.slots }
+    {
+        self.values.len()
+    }
+
+    /// The data type.
+    pub fn data_type(&self) -> &DataType
+        ensures { result.now ≡ self.now.data_type }
+    {
+        &self.data_type
+    }
+
+    /// Which slots aren't null; `None` only where none is.
+    pub fn validity(&self) -> Option<&Bitmap>
+        ensures { TellsHeld (option_copied result) self.now.slots }
+    {
+        self.validity.as_ref()
+    }
+
+    /// Whether slot `i` isn't null.
+    pub fn is_valid(&self, i: usize) -> bool
+        requires { i < length self.now.slots }
+        ensures { result ≡ is_held (slot_at self.now.slots i) }
+    {
+        validity::is_valid(&self.validity, self.len(), i)
+    }
+
+    /// The value of slot `i`; at a null, whatever the buffer has there.
+    pub fn value(&self, i: usize) -> T
+        requires { i < length self.now.slots }
+        ensures { IsTrue (is_held (slot_at self.now.slots i)) → slot_at self.now.slots i ≡ T.native_slot result }
+    {
+        self.values.as_slice()[i]
+    }
+
+    /// The `count` slots from place `offset` on. It shares the buffers.
+    ///
+    /// `OutOfMemory` alone.
+    pub fn slice(&self, alloc: Global, offset: usize, count: usize) -> Result<PrimitiveArray<T>>
+        requires { offset + count ≤ length self.now.slots }
+        ensures data_type { IfOk result (λ a. a.data_type ≡ self.now.data_type) }
+        ensures slots { IfOk result (λ a. a.slots ≡ take count (drop offset self.now.slots)) }
+        ensures memory { IfErr result (λ e. e ≡ OutOfMemory) }
+    {
+        let values = self.values.slice(offset, count)?;
+        let validity = validity::slice(&self.validity, self.len(), offset, count)?;
+        let data_type = self.data_type.try_clone(alloc)?;
+        Ok(PrimitiveArray {
+            data_type,
+            values,
+            validity,
+        })
+    }
+}

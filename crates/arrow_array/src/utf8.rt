@@ -1,0 +1,228 @@
+ghost use Rattle.std.specs.Prelude.{◌≡◌, ℕ, ◌+◌, ◌-◌, ◌<◌, ◌≤◌, ◌↔◌, IsTrue, IfOk, IfErr, length, map, take, drop, vec_len};
+ghost use Rattle.std.specs.Option.{option_copied};
+ghost use Rattle.arrow_lists.specs.declared.error.Error.TheVariants.{OutOfMemory};
+ghost use Rattle.arrow_types.specs.declared.slot.Slot.TheVariants.{Words};
+ghost use Rattle.arrow_array.specs.Offsets.{IsOffsets, AreTexts};
+ghost use Rattle.arrow_array.specs.Slots.{TellsHeld, is_held, slot_at, slots_of, text_at};
+ghost use Rattle.arrow_array.specs.Parts.{TextFits, IsRefusalOf, text_type};
+
+use crate::buffer::Buffer;
+use crate::offsets::{are_offsets, part_of};
+use crate::validity;
+use arrow_bitmap::Bitmap;
+use arrow_lists::{Error, Reason, Result};
+use arrow_types::{DataType, Offset};
+use simdutf8::compat::from_utf8;
+use std::alloc::Global;
+use std::marker::Model;
+
+/// Texts, which lie one after another in a shared buffer of bytes, between shared offsets
+/// (Arrow columnar format, "Variable-size Binary Layout").
+///
+/// The offsets of `i32` make the type Utf8, and those of `i64` LargeUtf8.
+#[derive(Drop)]
+pub struct Utf8Array<O: Offset> {
+    data_type: DataType,
+    offsets: Buffer<O>,
+    values: Buffer<u8>,
+    validity: Option<Bitmap>,
+}
+
+impl<O: Offset> Model for Utf8Array<O> {
+    ghost use Rattle.std.specs.Prelude.{◌-◌, length, map};
+    ghost use Rattle.arrow_array.specs.Columns.{TextColumn, text_column_code};
+    ghost use Rattle.arrow_array.specs.Slots.{slots_of, text_at};
+    ghost use Rattle.arrow_array.specs.Parts.{TextFits, text_type};
+
+    ghost Value = { TextColumn };
+
+    ghost coded = { text_column_code };
+
+    ghost view = { λ a. record {
+      data_type = a.data_type;
+      slots = slots_of (text_at (map O.place a.offsets) a.values) a.validity 0 (length (map O.place a.offsets) - 1);
+      offsets = map O.place a.offsets;
+      bytes = a.values;
+    } };
+
+    ghost invariant = { λ a. TextFits (text_type O.IS_LARGE) a.data_type (map O.place a.offsets) a.values a.validity };
+}
+
+/// Whether this is the type of texts with such offsets.
+fn is_text_type<O: Offset>(data_type: &DataType) -> bool
+    ensures { IsTrue result ↔ (data_type.now ≡ text_type O.IS_LARGE) }
+{
+    if O::IS_LARGE {
+        matches!(data_type, DataType::LargeUtf8)
+    } else {
+        matches!(data_type, DataType::Utf8)
+    }
+}
+
+/// Whether the bytes between each two neighbouring offsets are UTF-8.
+fn are_texts<O: Offset>(offsets: &[O], values: &[u8]) -> bool
+    requires { IsOffsets (map O.place offsets.now) (length values.now) }
+    ensures { IsTrue result ↔ AreTexts (map O.place offsets.now) values.now }
+{
+    for i in 1..offsets.len() {
+        match from_utf8(part_of(offsets, values, i - 1)) {
+            Ok(_) => {}
+            Err(_) => return false,
+        }
+    }
+    true
+}
+
+/// Whether these parts make an array of texts.
+fn fits<O: Offset>(
+    data_type: &DataType,
+    offsets: &[O],
+    values: &[u8],
+    validity: &Option<Bitmap>,
+) -> bool
+    ensures { IsTrue result ↔ TextFits (text_type O.IS_LARGE) data_type.now (map O.place offsets.now) values.now validity.now }
+{
+    if !is_text_type::<O>(data_type) {
+        return false;
+    }
+    if !are_offsets(offsets, values.len()) {
+        return false;
+    }
+    if !validity::fits(validity, offsets.len() - 1) {
+        return false;
+    }
+    are_texts(offsets, values)
+}
+
+impl<O: Offset> Utf8Array<O> {
+    /// The array of the texts between each two neighbouring offsets into the bytes of `values`,
+    /// null where the validity is false.
+    ///
+    /// `InvalidArgumentError(ArrayParts)` where the type isn't that of such offsets; where there is
+    /// no offset, or one is negative, below the one before, or past the end; where the bytes
+    /// between two neighbouring offsets aren't UTF-8; or where a given validity hasn't one value
+    /// fewer than there are offsets. `OutOfMemory`.
+    pub fn try_new(
+        _alloc: Global,
+        data_type: DataType,
+        offsets: Vec<O>,
+        values: Vec<u8>,
+        validity: Option<Bitmap>,
+    ) -> Result<Utf8Array<O>>
+        ensures data_type { IfOk result (λ a. a.data_type ≡ data_type) }
+        ensures slots { IfOk result (λ a. a.slots ≡ slots_of (text_at (map O.place offsets.items) values.items) validity 0 (vec_len offsets - 1)) }
+        ensures offsets { IfOk result (λ a. a.offsets ≡ map O.place offsets.items) }
+        ensures bytes { IfOk result (λ a. a.bytes ≡ values.items) }
+        ensures fits { IfOk result (λ _. TextFits (text_type O.IS_LARGE) data_type (map O.place offsets.items) values.items validity) }
+        ensures err { IfErr result (IsRefusalOf (TextFits (text_type O.IS_LARGE) data_type (map O.place offsets.items) values.items validity)) }
+    {
+        if !fits(&data_type, offsets.as_slice(), values.as_slice(), &validity) {
+            return Err(Error::InvalidArgumentError(Reason::ArrayParts));
+        }
+        Utf8Array::from_parts(data_type, offsets, values, validity)
+    }
+
+    /// The array of parts that fit, as `try_new` gives it, without a look at the bytes.
+    ///
+    /// `OutOfMemory` alone.
+    pub fn from_parts(
+        data_type: DataType,
+        offsets: Vec<O>,
+        values: Vec<u8>,
+        validity: Option<Bitmap>,
+    ) -> Result<Utf8Array<O>>
+        requires { TextFits (text_type O.IS_LARGE) data_type (map O.place offsets.items) values.items validity }
+        ensures data_type { IfOk result (λ a. a.data_type ≡ data_type) }
+        ensures slots { IfOk result (λ a. a.slots ≡ slots_of (text_at (map O.place offsets.items) values.items) validity 0 (vec_len offsets - 1)) }
+        ensures offsets { IfOk result (λ a. a.offsets ≡ map O.place offsets.items) }
+        ensures bytes { IfOk result (λ a. a.bytes ≡ values.items) }
+        ensures err { IfErr result (λ e. e ≡ OutOfMemory) }
+    {
+        let offsets = Buffer::try_from_vec(offsets)?;
+        let values = Buffer::try_from_vec(values)?;
+        Ok(Utf8Array {
+            data_type,
+            offsets,
+            values,
+            validity,
+        })
+    }
+
+    /// How many slots there are.
+    pub fn len(&self) -> usize
+        ensures { result ≡ length self.now.slots }
+    {
+        self.offsets.len() - 1
+    }
+
+    /// The data type.
+    pub fn data_type(&self) -> &DataType
+        ensures { result.now ≡ self.now.data_type }
+    {
+        &self.data_type
+    }
+
+    /// The offsets of the slots, one more than there are slots: a slot that isn't null is the
+    /// text between its offset and the next in `values`.
+    pub fn offsets(&self) -> &[O]
+        ensures offsets { map O.place result.now ≡ self.now.offsets }
+        ensures slots { (k : ℕ) → k < length self.now.slots → IsTrue (is_held (slot_at self.now.slots k)) → slot_at self.now.slots k ≡ text_at (map O.place result.now) self.now.bytes k }
+    {
+        self.offsets.as_slice()
+    }
+
+    /// The bytes that the texts lie in.
+    pub fn values(&self) -> &[u8]
+        ensures { result.now ≡ self.now.bytes }
+    {
+        self.values.as_slice()
+    }
+
+    /// Which slots aren't null; `None` only where none is.
+    pub fn validity(&self) -> Option<&Bitmap>
+        ensures { TellsHeld (option_copied result) self.now.slots }
+    {
+        self.validity.as_ref()
+    }
+
+    /// Whether slot `i` isn't null.
+    pub fn is_valid(&self, i: usize) -> bool
+        requires { i < length self.now.slots }
+        ensures { result ≡ is_held (slot_at self.now.slots i) }
+    {
+        validity::is_valid(&self.validity, self.len(), i)
+    }
+
+    /// The text of slot `i`; at a null, whatever the buffer has there.
+    pub fn value(&self, i: usize) -> &str
+        requires { i < length self.now.slots }
+        ensures { IsTrue (is_held (slot_at self.now.slots i)) → slot_at self.now.slots i ≡ Words result.now }
+    {
+        let text = part_of(self.offsets.as_slice(), self.values.as_slice(), i);
+        // The constructors have seen that these bytes are UTF-8.
+        unsafe { str::from_utf8_unchecked(text) }
+    }
+
+    /// The `count` slots from place `offset` on. It shares the buffers.
+    ///
+    /// `OutOfMemory` alone.
+    pub fn slice(&self, alloc: Global, offset: usize, count: usize) -> Result<Utf8Array<O>>
+        requires { offset + count ≤ length self.now.slots }
+        ensures data_type { IfOk result (λ a. a.data_type ≡ self.now.data_type) }
+        ensures slots { IfOk result (λ a. a.slots ≡ take count (drop offset self.now.slots)) }
+        ensures offsets { IfOk result (λ a. a.offsets ≡ take (count + 1) (drop offset self.now.offsets)) }
+        ensures bytes { IfOk result (λ a. a.bytes ≡ self.now.bytes) }
+        ensures memory { IfErr result (λ e. e ≡ OutOfMemory) }
+    {
+        let offsets = self.offsets.slice_and_next(offset, count)?;
+        let values = self.values.try_clone()?;
+        let validity = validity::slice(&self.validity, self.len(), offset, count)?;
+        let data_type = self.data_type.try_clone(alloc)?;
+        Ok(Utf8Array {
+            data_type,
+            offsets,
+            values,
+            validity,
+        })
+    }
+}

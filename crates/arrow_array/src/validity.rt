@@ -1,0 +1,50 @@
+//! A validity bitmap, which may be missing (Arrow columnar format, "Validity bitmaps").
+ghost use Rattle.std.specs.Prelude.{◌≡◌, ◌+◌, ◌<◌, ◌≤◌, ◌↔◌, IsTrue, IfOk, IfErr};
+ghost use Rattle.arrow_lists.specs.declared.error.Error.TheVariants.{OutOfMemory};
+ghost use Rattle.arrow_array.specs.Parts.{IsCutOf, IsValidityOf};
+ghost use Rattle.arrow_array.specs.Slots.{valid_at};
+
+use arrow_bitmap::Bitmap;
+use arrow_lists::Result;
+
+/// Whether a validity that is given has this length.
+pub(crate) fn fits(validity: &Option<Bitmap>, len: usize) -> bool
+    ensures { IsTrue result ↔ IsValidityOf validity.now len }
+{
+    match validity {
+        None => true,
+        Some(bitmap) => bitmap.len() == len,
+    }
+}
+
+/// Whether slot `i` isn't null.
+pub(crate) fn is_valid(validity: &Option<Bitmap>, len: usize, i: usize) -> bool
+    requires fits { IsValidityOf validity.now len }
+    requires within { i < len }
+    ensures { result ≡ valid_at validity.now i }
+{
+    match validity {
+        None => true,
+        Some(bitmap) => bitmap.get(i),
+    }
+}
+
+/// The `count` values from place `offset` on, of a validity that is given.
+///
+/// `OutOfMemory` alone.
+pub(crate) fn slice(
+    validity: &Option<Bitmap>,
+    len: usize,
+    offset: usize,
+    count: usize,
+) -> Result<Option<Bitmap>>
+    requires fits { IsValidityOf validity.now len }
+    requires within { offset + count ≤ len }
+    ensures cut { IfOk result (IsCutOf validity.now offset count) }
+    ensures memory { IfErr result (λ e. e ≡ OutOfMemory) }
+{
+    match validity {
+        None => Ok(None),
+        Some(bitmap) => Ok(Some(bitmap.slice(offset, count)?)),
+    }
+}

@@ -1,6 +1,0 @@
-use Rattle.std.proofs.Common.{map}
-use Rattle.arrow_columns.proofs.Rising.{OffsetsBelow}
-use Rattle.arrow_columns.proofs.offsets.are_offsets.Given as goal
-
-abbrev pub invariant-loop-i : goal.invariant-loop-i
-invariant-loop-i g l = OffsetsBelow (map g.O.Offset.place l.offsets) l.len l.i l.before
