@@ -1,10 +1,13 @@
+pub mod Counting
 pub mod Growth
+pub mod Inferring
 pub mod Making
 pub mod Numbers
-pub mod Risen
+pub mod Pushes
+pub mod Room
 pub mod RowSteps
 pub mod Sets
 pub mod Today
 pub mod Unfolded
-pub mod Wholes
 pub mod Valid
+pub mod Wholes

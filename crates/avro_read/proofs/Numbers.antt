@@ -1,6 +1,6 @@
 -- Numbers and texts in front, as the code takes them.
-use Rattle.std.proofs.Common.{◌≡◌, arith, ℕ, zero, suc, ◌-◌, ◌<◌, ◌≤◌, take, drop, length, Ok, Err, Result, ℤ, pos, negsuc, List, ◌∷◌, [], ◌++◌, Option, Some, None, Bool, true, false, refl, sym, ap, ◌∙◌}
-use Rattle.std.specs.Prelude.{if◌then◌else◌, IfSome, IfNone, MatchOption, MatchResult}
+use Rattle.std.proofs.Common.{◌≡◌, arith, ℕ, zero, suc, ◌+◌, ◌-◌, ◌<◌, ◌≤◌, take, drop, length, Ok, Err, Result, ℤ, pos, negsuc, List, ◌∷◌, [], ◌++◌, Option, Some, None, Bool, true, false, refl, sym, ap, ◌∙◌}
+use Rattle.std.specs.Prelude.{if◌then◌else◌, IfSome, IfNone, OnOk, MatchOption, MatchResult}
 use Rattle.std.proofs.lemmas.Option.{some_pair_parts}
 use Rattle.std.proofs.lemmas.Bool.{lt-ltb, le-ltb}
 use Rattle.std.specs.Str.{is_utf8, IsUtf8}
@@ -20,6 +20,8 @@ use Rattle.avro_reading.specs.Listed.{read_union_of, skip_union_of}
 use Rattle.avro_reading.proofs.Exact.{reads_all, reads_no_more}
 use Rattle.avro_reading.proofs.Fronts.{number_sound, number_complete}
 use Rattle.avro_read.specs.Decoding.{Gives, IsTextFault, as_length, length_at, Passes, Jumps, member_at, passed_member}
+use Rattle.avro_read.specs.Counting.{Costs, CostsNumber}
+use Rattle.avro_read.proofs.Counting.{costs_none, costs_more, number_costs, hidden_costs, raw_costs}
 use Rattle.avro_read.specs.declared.fault.DecodeFault.{DecodeFault}
 use Rattle.avro_read.specs.declared.fault.DecodeFault.TheVariants.{Bytes, Memory}
 
@@ -95,19 +97,21 @@ text_pushed old new bytes mid text rest n (Err Memory) e p h = tt
 
 -- ---- stepping over
 
-pub number_passes : (bytes rest : List ℕ) (v : ℤ) → number_at bytes ≡ Some (v, rest) → (p : Passed) × (skip_number bytes ≡ Ok (p, rest))
-unfolding skip_number measured_at or_bad
-number_passes bytes rest v e = (seen_only (length bytes - length rest), rw e refl)
+module _ {X : Type 0} (rest : X → List ℕ) (shown calls : X → ℕ) where
+  pub number_passes : (x y : X) (v : ℤ) → number_at (rest x) ≡ Some (v, rest y) → CostsNumber rest shown calls x y → (p : Passed) × (skip_number (rest x) ≡ Ok (p, rest y)) × Costs rest shown calls x y p.seen p.hidden
+  unfolding skip_number measured_at or_bad
+  number_passes x y v e c = (seen_only (length (rest x) - length (rest y)), rw e refl, number_costs rest shown calls x y c)
 
 pub number_bad : (bytes : List ℕ) → number_at bytes ≡ None → skip_number bytes ≡ Err Bad
 unfolding skip_number measured_at or_bad
 number_bad bytes e = rw e refl
 
-pub raw_passes : {X : Type 0} (n seen : ℕ) (bytes rest : List ℕ) (r : Result X DecodeFault) → Jumps rest r (jump_at n bytes) → Passes rest r (skip_raw n seen bytes)
-unfolding skip_raw
-raw_passes n seen bytes rest (Ok x) e = (seen_only seen, rw e refl)
-raw_passes n seen bytes rest (Err Bytes) e = rw e refl
-raw_passes n seen bytes rest (Err Memory) e = tt
+module _ {X Y : Type 0} (rest : X → List ℕ) (shown calls : X → ℕ) where
+  pub raw_passes : (n seen : ℕ) (x y : X) (r : Result Y DecodeFault) → 0 < n → Jumps (rest y) r (jump_at n (rest x)) → OnOk r (length (rest y) + n ≡ length (rest x)) → shown y ≡ shown x → calls y ≤ calls x + 1 → Passes rest shown calls x y r (skip_raw n seen (rest x))
+  unfolding skip_raw
+  raw_passes n seen x y (Ok z) some e d s c = (seen_only seen, rw e refl, raw_costs rest shown calls x y n seen some d s c)
+  raw_passes n seen x y (Err Bytes) some e d s c = rw e refl
+  raw_passes n seen x y (Err Memory) some e d s c = tt
 
 number_of_length : (bytes mid : List ℕ) (n : ℕ) → length_at bytes ≡ Some (n, mid) → number_at bytes ≡ Some (pos n, mid)
 unfolding length_at
@@ -118,11 +122,13 @@ number_of_length bytes mid n e = from (number_at bytes) e
     from (Some (pos k, rest)) h = let p = some_pair_parts k n rest mid h in rw (p.0, p.1) refl
     from (Some (negsuc k, rest)) h = absurd cc
 
-pub sized_passes : {X : Type 0} (bytes mid rest : List ℕ) (n : ℕ) (r : Result X DecodeFault) → length_at bytes ≡ Some (n, mid) → Jumps rest r (jump_at n mid) → Passes rest r (skip_sized bytes)
-unfolding skip_sized measured_at jump_counted or_bad
-sized_passes bytes mid rest n (Ok x) l e = (seen_only (length bytes - length mid), rw (number_of_length bytes mid n l, e) refl)
-sized_passes bytes mid rest n (Err Bytes) l e = rw (number_of_length bytes mid n l, e) refl
-sized_passes bytes mid rest n (Err Memory) l e = tt
+module _ {X Y : Type 0} (rest : X → List ℕ) (shown calls : X → ℕ) where
+  pub sized_passes : (x y z : X) (n : ℕ) (r : Result Y DecodeFault) → length_at (rest x) ≡ Some (n, rest y) → CostsNumber rest shown calls x y → Jumps (rest z) r (jump_at n (rest y)) → OnOk r (length (rest z) + n ≡ length (rest y)) → shown z ≡ shown y → calls z ≤ calls y + 1 → Passes rest shown calls x z r (skip_sized (rest x))
+  unfolding skip_sized measured_at jump_counted or_bad
+  sized_passes x y z n (Ok w) l k e d s c =
+      (seen_only (length (rest x) - length (rest y)), rw (number_of_length (rest x) (rest y) n l, e) refl, hidden_costs rest shown calls x y z n k d s c)
+  sized_passes x y z n (Err Bytes) l k e d s c = rw (number_of_length (rest x) (rest y) n l, e) refl
+  sized_passes x y z n (Err Memory) l k e d s c = tt
 
 pub sized_bad : (bytes : List ℕ) → length_at bytes ≡ None → skip_sized bytes ≡ Err Bad
 unfolding skip_sized measured_at jump_counted or_bad length_at
@@ -135,17 +141,22 @@ sized_bad bytes e = from (number_at bytes) refl e
 
 -- ---- unions
 
-pub first_passes : {X : Type 0} (s u : Schema) (bytes mid rest : List ℕ) (r : Result X DecodeFault) → number_at bytes ≡ Some (pos 0, mid) → Passes rest r (passed_member s mid) → Passes rest r (skip_union_of (s ∷ u ∷ []) bytes)
-unfolding measured_at or_bad
-first_passes s u bytes mid rest (Ok x) e p = (both (seen_only (length bytes - length mid)) p.0, rw (e, p.1) refl)
-first_passes s u bytes mid rest (Err Bytes) e p = rw (e, p) refl
-first_passes s u bytes mid rest (Err Memory) e p = tt
+module _ {X Y : Type 0} (rest : X → List ℕ) (shown calls : X → ℕ) where
+  pub first_passes : (s u : Schema) (x y z : X) (r : Result Y DecodeFault) → number_at (rest x) ≡ Some (pos 0, rest y) → CostsNumber rest shown calls x y → Passes rest shown calls y z r (passed_member s (rest y)) → Passes rest shown calls x z r (skip_union_of (s ∷ u ∷ []) (rest x))
+  unfolding measured_at or_bad
+  first_passes s u x y z (Ok w) e k p =
+      let n = seen_only (length (rest x) - length (rest y)) in
+      (both n p.0, rw (e, p.1) refl, costs_more rest shown calls x y z n.seen n.hidden p.0.seen p.0.hidden (number_costs rest shown calls x y k) p.2)
+  first_passes s u x y z (Err Bytes) e k p = rw (e, p) refl
+  first_passes s u x y z (Err Memory) e k p = tt
 
-pub second_passes : {X : Type 0} (s u : Schema) (bytes mid rest : List ℕ) (r : Result X DecodeFault) → number_at bytes ≡ Some (pos 1, mid) → Passes rest r (passed_member u mid) → Passes rest r (skip_union_of (s ∷ u ∷ []) bytes)
-unfolding measured_at or_bad
-second_passes s u bytes mid rest (Ok x) e p = (both (seen_only (length bytes - length mid)) p.0, rw (e, p.1) refl)
-second_passes s u bytes mid rest (Err Bytes) e p = rw (e, p) refl
-second_passes s u bytes mid rest (Err Memory) e p = tt
+  pub second_passes : (s u : Schema) (x y z : X) (r : Result Y DecodeFault) → number_at (rest x) ≡ Some (pos 1, rest y) → CostsNumber rest shown calls x y → Passes rest shown calls y z r (passed_member u (rest y)) → Passes rest shown calls x z r (skip_union_of (s ∷ u ∷ []) (rest x))
+  unfolding measured_at or_bad
+  second_passes s u x y z (Ok w) e k p =
+      let n = seen_only (length (rest x) - length (rest y)) in
+      (both n p.0, rw (e, p.1) refl, costs_more rest shown calls x y z n.seen n.hidden p.0.seen p.0.hidden (number_costs rest shown calls x y k) p.2)
+  second_passes s u x y z (Err Bytes) e k p = rw (e, p) refl
+  second_passes s u x y z (Err Memory) e k p = tt
 
 pub union_bad : (members : List Schema) (bytes : List ℕ) → number_at bytes ≡ None → skip_union_of members bytes ≡ Err Bad
 unfolding measured_at or_bad
@@ -177,8 +188,9 @@ read_second s u bytes mid e = rw e refl
 pub null_read : (s : Schema) (bytes : List ℕ) → IsNull s → member_at s bytes ≡ Some (slot.Null, bytes)
 null_read s bytes h = rw (null_told s h) refl
 
-pub null_skipped : (s : Schema) (bytes : List ℕ) → IsNull s → (p : Passed) × (passed_member s bytes ≡ Ok (p, bytes))
-null_skipped s bytes h = (nothing, rw (null_told s h) refl)
+module _ {X : Type 0} (rest : X → List ℕ) (shown calls : X → ℕ) where
+  pub null_skipped : (s : Schema) (x : X) → IsNull s → (p : Passed) × (passed_member s (rest x) ≡ Ok (p, rest x)) × Costs rest shown calls x x p.seen p.hidden
+  null_skipped s x h = (nothing, rw (null_told s h) refl, costs_none rest shown calls x)
 
 pub union_read : (members : List Schema) (bytes : List ℕ) → read (Union members) bytes ≡ read_union_of members bytes
 union_read members bytes = ap (λ f. f bytes) (read_union members)

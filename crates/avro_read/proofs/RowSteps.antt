@@ -9,27 +9,29 @@ use Rattle.arrow_builders.specs.declared.array.MutableArray.{MutableArray}
 use Rattle.arrow_builders.specs.MutableArrays.{builder_slots, builder_kind}
 use Rattle.avro_file.specs.declared.schema.AvroField.{AvroField}
 use Rattle.avro_grammar.specs.Steps.{Passed}
-use Rattle.avro_grammar.specs.Rows.{Pieces, no_pieces}
+use Rattle.avro_grammar.specs.Rows.{Pieces, no_pieces, total_kept, total_seen, total_hidden}
 use Rattle.avro_reading.specs.Read.{read, push_one}
 use Rattle.avro_reading.specs.Skip.{Bad, skip}
 use Rattle.avro_reading.specs.Block.{row, rows, rows_after, block, add_kept, add_skipped}
 use Rattle.avro_reading.proofs.RowSteps.{row_left, kept_next, kept_bad, skipped_next, skipped_err, row_done, rows_next, rows_err, rows_done, block_ended, block_left, block_err}
 use Rattle.avro_read.specs.Columns.{grown, grown_by}
+use Rattle.avro_read.specs.Counting.{Costs, CostsKept}
 use Rattle.avro_read.specs.Today.{CarriedToday, AllCarriedToday, kind_of, kept_kinds}
 use Rattle.avro_read.specs.Decoding.{Fails, IsBad, AreWide}
 use Rattle.avro_read.specs.declared.fault.DecodeFault.{DecodeFault}
 use Rattle.avro_read.specs.declared.fault.DecodeFault.TheVariants.{Bytes, Memory}
+use Rattle.avro_read.proofs.Counting.{costs_none, kept_more, skipped_more, rows_more}
 use Rattle.avro_read.proofs.Growth.{grown_none, length-grown, grown_next, grown_by_next, wide_next}
 
 -- ---- the fields of a row
 
 -- k slots of a row are in their columns, and the fields from place i on are left
-abbrev pub RowSoFar : ℕ → ℕ → List AvroField → List Bool → List (List Slot) → List (List Slot) → List ℕ → List ℕ → Type 0
-RowSoFar k i fields projection before now start rest =
-    (old : Pieces) × (row_left i fields projection old rest ≡ row fields projection start) × (now ≡ grown before old.slots) × (length old.slots ≡ k)
+abbrev pub RowSoFar : {X : Type 0} → (X → List ℕ) → (X → ℕ) → (X → ℕ) → X → X → ℕ → ℕ → List AvroField → List Bool → List (List Slot) → List (List Slot) → Type 0
+RowSoFar rest shown calls start here k i fields projection before now =
+    (old : Pieces) × (row_left i fields projection old (rest here) ≡ row fields projection (rest start)) × (now ≡ grown before old.slots) × (length old.slots ≡ k) × Costs rest shown calls start here (old.kept + old.passed.seen) old.passed.hidden
 
-pub row_begun : (fields : List AvroField) (projection : List Bool) (before : List (List Slot)) (start : List ℕ) → RowSoFar 0 0 fields projection before before start start
-row_begun fields projection before start = (no_pieces, refl, sym (grown_none before), refl)
+pub row_begun : {X : Type 0} (rest : X → List ℕ) (shown calls : X → ℕ) (start : X) (fields : List AvroField) (projection : List Bool) (before : List (List Slot)) → RowSoFar rest shown calls start start 0 0 fields projection before before
+row_begun rest shown calls start fields projection before = (no_pieces, refl, sym (grown_none before), refl, costs_none rest shown calls start)
 
 push_parts : (old new : List Slot) (o : Option (Slot × List ℕ)) (rest : List ℕ) → push_one old o ≡ Some (new, rest) → (x : Slot) × (o ≡ Some (x, rest)) × (new ≡ old ++ x ∷ [])
 unfolding push_one
@@ -41,37 +43,38 @@ unfolding push_one
 push_none_parts old None h = refl
 push_none_parts old (Some (x, r)) h = absurd cc
 
-module _ (k i : ℕ) (fields : List AvroField) (projection : List Bool) (before now : List (List Slot)) (start rest : List ℕ) (f : AvroField) (lt : i < length fields) (same : length fields ≡ length projection) (is : f ≡ get_or fields i f) where
-  pub kept_step : get_or projection i false ≡ true → k < length before → (new : List Slot) (r : List ℕ) → push_one (get_or now k []) (read f.schema rest) ≡ Some (new, r) → RowSoFar k i fields projection before now start rest → RowSoFar (k + 1) (i + 1) fields projection before (set now k new) start r
-  kept_step taken lk new r e so =
+module _ {X : Type 0} (rest : X → List ℕ) (shown calls : X → ℕ) (start here : X) (k i : ℕ) (fields : List AvroField) (projection : List Bool) (before now : List (List Slot)) (f : AvroField) (lt : i < length fields) (same : length fields ≡ length projection) (is : f ≡ get_or fields i f) (so : RowSoFar rest shown calls start here k i fields projection before now) where
+  pub kept_step : get_or projection i false ≡ true → k < length before → (new : List Slot) (next : X) → push_one (get_or now k []) (read f.schema (rest here)) ≡ Some (new, rest next) → CostsKept rest shown calls here next → RowSoFar rest shown calls start next (k + 1) (i + 1) fields projection before (set now k new)
+  kept_step taken lk new next e c =
       let old = so.0 in
-      let p = push_parts (get_or now k []) new (read f.schema rest) r e in
-      let n = kept_next i fields projection f old rest lt same is taken p.0 r p.1 in
+      let p = push_parts (get_or now k []) new (read f.schema (rest here)) (rest next) e in
+      let n = kept_next i fields projection f old (rest here) lt same is taken p.0 (rest next) p.1 in
       let g : set now k new ≡ grown before (old.slots ++ p.0 ∷ []) =
       ap (λ (xs : List Slot). set now k xs) p.2 ∙ ap (λ (cs : List (List Slot)). set cs k (get_or cs k [] ++ p.0 ∷ [])) so.2 ∙ grown_next before old.slots p.0 k so.3 lk in
-      (add_kept old (p.0, length rest - length r), sym n ∙ so.1, g, length_more old.slots p.0 k so.3)
+      (add_kept old (p.0, length (rest here) - length (rest next)), sym n ∙ so.1, g, length_more old.slots p.0 k so.3, kept_more rest shown calls start here next old.kept old.passed.seen old.passed.hidden so.4 c)
     where
       length_more : (xs : List Slot) (x : Slot) (m : ℕ) → length xs ≡ m → length (xs ++ x ∷ []) ≡ m + 1
       length_more xs x m h = omega (arith, h, length-append xs (x ∷ []))
 
-  pub kept_fault : get_or projection i false ≡ true → (d : DecodeFault) → Fails d (push_one (get_or now k []) (read f.schema rest)) → RowSoFar k i fields projection before now start rest → IsBad d (row fields projection start)
-  kept_fault taken Bytes e so =
-      sym so.1 ∙ kept_bad i fields projection f so.0 rest lt same is taken (push_none_parts (get_or now k []) (read f.schema rest) e)
-  kept_fault taken Memory e so = tt
+  pub kept_fault : get_or projection i false ≡ true → (d : DecodeFault) → Fails d (push_one (get_or now k []) (read f.schema (rest here))) → IsBad d (row fields projection (rest start))
+  kept_fault taken Bytes e =
+      sym so.1 ∙ kept_bad i fields projection f so.0 (rest here) lt same is taken (push_none_parts (get_or now k []) (read f.schema (rest here)) e)
+  kept_fault taken Memory e = tt
 
-  pub skipped_step : get_or projection i false ≡ false → (p : Passed) (r : List ℕ) → skip f.schema rest ≡ Ok (p, r) → RowSoFar k i fields projection before now start rest → RowSoFar k (i + 1) fields projection before now start r
-  skipped_step passed p r e so =
-      (add_skipped so.0 p, sym (skipped_next i fields projection f so.0 rest lt same is passed p r e) ∙ so.1, so.2, so.3)
+  pub skipped_step : get_or projection i false ≡ false → (next : X) → (p : Passed) × (skip f.schema (rest here) ≡ Ok (p, rest next)) × Costs rest shown calls here next p.seen p.hidden → RowSoFar rest shown calls start next k (i + 1) fields projection before now
+  skipped_step passed next q =
+      let old = so.0 in
+      let p = q.0 in
+      (add_skipped old p, sym (skipped_next i fields projection f old (rest here) lt same is passed p (rest next) q.1) ∙ so.1, so.2, so.3, skipped_more rest shown calls start here next old.kept old.passed.seen old.passed.hidden p.seen p.hidden so.4 q.2)
 
-  pub skipped_fault : get_or projection i false ≡ false → (d : DecodeFault) → IsBad d (skip f.schema rest) → RowSoFar k i fields projection before now start rest → IsBad d (row fields projection start)
-  skipped_fault passed Bytes e so =
-      sym so.1 ∙ skipped_err i fields projection f so.0 rest lt same is passed Bad e
-  skipped_fault passed Memory e so = tt
+  pub skipped_fault : get_or projection i false ≡ false → (d : DecodeFault) → IsBad d (skip f.schema (rest here)) → IsBad d (row fields projection (rest start))
+  skipped_fault passed Bytes e = sym so.1 ∙ skipped_err i fields projection f so.0 (rest here) lt same is passed Bad e
+  skipped_fault passed Memory e = tt
 
-pub row_ended : (k i : ℕ) (fields : List AvroField) (projection : List Bool) (before now : List (List Slot)) (start rest : List ℕ) → length fields ≤ i → length fields ≡ length projection → length before ≡ k → RowSoFar k i fields projection before now start rest → (y : Pieces) × (row fields projection start ≡ Ok (y, rest)) × (now ≡ grown before y.slots) × (length y.slots ≡ length now)
-row_ended k i fields projection before now start rest le same all so =
+pub row_ended : {X : Type 0} (rest : X → List ℕ) (shown calls : X → ℕ) (start here : X) (k i : ℕ) (fields : List AvroField) (projection : List Bool) (before now : List (List Slot)) → length fields ≤ i → length fields ≡ length projection → length before ≡ k → RowSoFar rest shown calls start here k i fields projection before now → (y : Pieces) × (row fields projection (rest start) ≡ Ok (y, rest here)) × (now ≡ grown before y.slots) × (length y.slots ≡ length now) × Costs rest shown calls start here (y.kept + y.passed.seen) y.passed.hidden
+row_ended rest shown calls start here k i fields projection before now le same all so =
     let l : length now ≡ length before = ap length so.2 ∙ length-grown before so.0.slots in
-    (so.0, sym so.1 ∙ row_done i fields projection so.0 rest le same, so.2, so.3 ∙ sym all ∙ sym l)
+    (so.0, sym so.1 ∙ row_done i fields projection so.0 (rest here) le same, so.2, so.3 ∙ sym all ∙ sym l, so.4)
 
 -- ---- the kinds of the builders that are left
 
@@ -126,15 +129,15 @@ pub slots_here : (k : ℕ) (builders : List MutableArray) (d : MutableArray) →
 slots_here k builders d lt = get_or-map builder_slots builders k d [] lt
 
 -- a field's step, told of the builders
-module _ (k i : ℕ) (fields : List AvroField) (projection : List Bool) (before : List (List Slot)) (builders : List MutableArray) (d : MutableArray) (start rest : List ℕ) (f : AvroField) (lt : i < length fields) (same : length fields ≡ length projection) (is : f ≡ get_or fields i f) (taken : get_or projection i false ≡ true) (lk : k < length builders) where
-  pub builder_step : k < length before → (b : MutableArray) (r : List ℕ) → push_one (builder_slots (get_or builders k d)) (read f.schema rest) ≡ Some (builder_slots b, r) → RowSoFar k i fields projection before (map builder_slots builders) start rest → RowSoFar (k + 1) (i + 1) fields projection before (map builder_slots (set builders k b)) start r
-  builder_step lb b r e so =
-      let h = kept_step k i fields projection before (map builder_slots builders) start rest f lt same is taken lb (builder_slots b) r (rw (slots_here k builders d lk) e) so in
-      (h.0, h.1, map-set builder_slots builders k b ∙ h.2, h.3)
+module _ {X : Type 0} (rest : X → List ℕ) (shown calls : X → ℕ) (start here : X) (k i : ℕ) (fields : List AvroField) (projection : List Bool) (before : List (List Slot)) (builders : List MutableArray) (d : MutableArray) (f : AvroField) (lt : i < length fields) (same : length fields ≡ length projection) (is : f ≡ get_or fields i f) (taken : get_or projection i false ≡ true) (lk : k < length builders) (so : RowSoFar rest shown calls start here k i fields projection before (map builder_slots builders)) where
+  pub builder_step : k < length before → (b : MutableArray) (next : X) → push_one (builder_slots (get_or builders k d)) (read f.schema (rest here)) ≡ Some (builder_slots b, rest next) → CostsKept rest shown calls here next → RowSoFar rest shown calls start next (k + 1) (i + 1) fields projection before (map builder_slots (set builders k b))
+  builder_step lb b next e c =
+      let h = kept_step rest shown calls start here k i fields projection before (map builder_slots builders) f lt same is so taken lb (builder_slots b) next (rw (slots_here k builders d lk) e) c in
+      (h.0, h.1, map-set builder_slots builders k b ∙ h.2, h.3, h.4)
 
-  pub builder_fault : (t : DecodeFault) → Fails t (push_one (builder_slots (get_or builders k d)) (read f.schema rest)) → RowSoFar k i fields projection before (map builder_slots builders) start rest → IsBad t (row fields projection start)
-  builder_fault t e so =
-      kept_fault k i fields projection before (map builder_slots builders) start rest f lt same is taken t (rw (slots_here k builders d lk) e) so
+  pub builder_fault : (t : DecodeFault) → Fails t (push_one (builder_slots (get_or builders k d)) (read f.schema (rest here))) → IsBad t (row fields projection (rest start))
+  builder_fault t e =
+      kept_fault rest shown calls start here k i fields projection before (map builder_slots builders) f lt same is so taken t (rw (slots_here k builders d lk) e)
 
 pub carried_at : (fields : List AvroField) (i : ℕ) (f : AvroField) → i < length fields → f ≡ get_or fields i f → AllCarriedToday fields → CarriedToday f.schema
 carried_at fields i f lt is all = subst (λ (x : AvroField). CarriedToday x.schema) (sym is) (all i f lt)
@@ -142,52 +145,53 @@ carried_at fields i f lt is all = subst (λ (x : AvroField). CarriedToday x.sche
 -- ---- rows
 
 -- m rows are left
-abbrev pub RowsSoFar : ℕ → ℕ → List AvroField → List Bool → List (List Slot) → List (List Slot) → List ℕ → List ℕ → Type 0
-RowsSoFar n m fields projection before now start rest =
-    (ys : List Pieces) × (rows_after ys m fields projection rest ≡ rows n fields projection start) × (now ≡ grown_by before (map (λ y. y.slots) ys)) × AreWide (length now) (map (λ y. y.slots) ys)
+abbrev pub RowsSoFar : {X : Type 0} → (X → List ℕ) → (X → ℕ) → (X → ℕ) → X → X → ℕ → ℕ → List AvroField → List Bool → List (List Slot) → List (List Slot) → Type 0
+RowsSoFar rest shown calls start here n m fields projection before now =
+    (ys : List Pieces) × (rows_after ys m fields projection (rest here) ≡ rows n fields projection (rest start)) × (now ≡ grown_by before (map (λ y. y.slots) ys)) × AreWide (length now) (map (λ y. y.slots) ys) × Costs rest shown calls start here (total_kept ys + total_seen ys) (total_hidden ys)
 
-pub rows_begun : (n m : ℕ) (fields : List AvroField) (projection : List Bool) (before : List (List Slot)) (start : List ℕ) → m ≡ n → RowsSoFar n m fields projection before before start start
-rows_begun n m fields projection before start e = ([], rw e refl, refl, tt)
+pub rows_begun : {X : Type 0} (rest : X → List ℕ) (shown calls : X → ℕ) (start : X) (n m : ℕ) (fields : List AvroField) (projection : List Bool) (before : List (List Slot)) → m ≡ n → RowsSoFar rest shown calls start start n m fields projection before before
+rows_begun rest shown calls start n m fields projection before e = ([], rw e refl, refl, tt, costs_none rest shown calls start)
 
 wide_same : (m n : ℕ) (rs : List (List Slot)) → m ≡ n → AreWide m rs → AreWide n rs
 wide_same m n rs e w = rw (sym e) w
 
-pub rows_step : (n m l : ℕ) (fields : List AvroField) (projection : List Bool) (before now new : List (List Slot)) (start rest r : List ℕ) → m ≡ suc l → RowsSoFar n m fields projection before now start rest → (y : Pieces) × (row fields projection rest ≡ Ok (y, r)) × (new ≡ grown now y.slots) × (length y.slots ≡ length new) → RowsSoFar n l fields projection before new start r
-rows_step n m l fields projection before now new start rest r s so g =
-    let ys = so.0 in
-    let y = g.0 in
-    let more : map (λ (q : Pieces). q.slots) (ys ++ y ∷ []) ≡ map (λ (q : Pieces). q.slots) ys ++ y.slots ∷ [] = map-append (λ (q : Pieces). q.slots) ys (y ∷ []) in
-    let e : rows_after (ys ++ y ∷ []) l fields projection r ≡ rows n fields projection start =
-    sym (rows_next l fields projection ys y rest r g.1) ∙ ap (λ (j : ℕ). rows_after ys j fields projection rest) (sym s) ∙ so.1 in
-    let same : length new ≡ length now = ap length g.2 ∙ length-grown now y.slots in
-    let grow : new ≡ grown_by before (map (λ (q : Pieces). q.slots) ys ++ y.slots ∷ []) =
-    g.2 ∙ ap (λ (cs : List (List Slot)). grown cs y.slots) so.2 ∙ sym (grown_by_next (map (λ (q : Pieces). q.slots) ys) before y.slots) in
-    let wide = wide_next (length new) (map (λ (q : Pieces). q.slots) ys) y.slots (wide_same (length now) (length new) (map (λ (q : Pieces). q.slots) ys) (sym same) so.3) g.3 in
-    (ys ++ y ∷ [], e, rw more grow, rw more wide)
+module _ {X : Type 0} (rest : X → List ℕ) (shown calls : X → ℕ) (start here : X) (n m l : ℕ) (fields : List AvroField) (projection : List Bool) (before now : List (List Slot)) (s : m ≡ suc l) (so : RowsSoFar rest shown calls start here n m fields projection before now) where
+  pub rows_step : (next : X) (new : List (List Slot)) → (y : Pieces) × (row fields projection (rest here) ≡ Ok (y, rest next)) × (new ≡ grown now y.slots) × (length y.slots ≡ length new) × Costs rest shown calls here next (y.kept + y.passed.seen) y.passed.hidden → RowsSoFar rest shown calls start next n l fields projection before new
+  rows_step next new g =
+      let ys = so.0 in
+      let y = g.0 in
+      let more : map (λ (q : Pieces). q.slots) (ys ++ y ∷ []) ≡ map (λ (q : Pieces). q.slots) ys ++ y.slots ∷ [] = map-append (λ (q : Pieces). q.slots) ys (y ∷ []) in
+      let e : rows_after (ys ++ y ∷ []) l fields projection (rest next) ≡ rows n fields projection (rest start) =
+      sym (rows_next l fields projection ys y (rest here) (rest next) g.1) ∙ ap (λ (j : ℕ). rows_after ys j fields projection (rest here)) (sym s) ∙ so.1 in
+      let same : length new ≡ length now = ap length g.2 ∙ length-grown now y.slots in
+      let grow : new ≡ grown_by before (map (λ (q : Pieces). q.slots) ys ++ y.slots ∷ []) =
+      g.2 ∙ ap (λ (cs : List (List Slot)). grown cs y.slots) so.2 ∙ sym (grown_by_next (map (λ (q : Pieces). q.slots) ys) before y.slots) in
+      let wide = wide_next (length new) (map (λ (q : Pieces). q.slots) ys) y.slots (wide_same (length now) (length new) (map (λ (q : Pieces). q.slots) ys) (sym same) so.3) g.3 in
+      (ys ++ y ∷ [], e, rw more grow, rw more wide, rows_more rest shown calls start here next ys y so.4 g.4)
 
-pub rows_fault : (n m l : ℕ) (fields : List AvroField) (projection : List Bool) (before now : List (List Slot)) (start rest : List ℕ) (d : DecodeFault) → m ≡ suc l → RowsSoFar n m fields projection before now start rest → IsBad d (row fields projection rest) → IsBad d (rows n fields projection start)
-rows_fault n m l fields projection before now start rest Bytes s so e =
-    sym so.1 ∙ ap (λ (j : ℕ). rows_after so.0 j fields projection rest) s ∙ rows_err l fields projection so.0 rest Bad e
-rows_fault n m l fields projection before now start rest Memory s so e = tt
+  pub rows_fault : (d : DecodeFault) → IsBad d (row fields projection (rest here)) → IsBad d (rows n fields projection (rest start))
+  rows_fault Bytes e =
+      sym so.1 ∙ ap (λ (j : ℕ). rows_after so.0 j fields projection (rest here)) s ∙ rows_err l fields projection so.0 (rest here) Bad e
+  rows_fault Memory e = tt
 
-pub rows_ended : (n m : ℕ) (fields : List AvroField) (projection : List Bool) (before now : List (List Slot)) (start rest : List ℕ) → m ≡ 0 → RowsSoFar n m fields projection before now start rest → (ys : List Pieces) × (rows n fields projection start ≡ Ok (ys, rest)) × (now ≡ grown_by before (map (λ y. y.slots) ys)) × AreWide (length now) (map (λ y. y.slots) ys)
-rows_ended n m fields projection before now start rest z so =
-    (so.0, sym so.1 ∙ ap (λ (j : ℕ). rows_after so.0 j fields projection rest) z ∙ rows_done fields projection so.0 rest, so.2, so.3)
+pub rows_ended : {X : Type 0} (rest : X → List ℕ) (shown calls : X → ℕ) (start here : X) (n m : ℕ) (fields : List AvroField) (projection : List Bool) (before now : List (List Slot)) → m ≡ 0 → RowsSoFar rest shown calls start here n m fields projection before now → (ys : List Pieces) × (rows n fields projection (rest start) ≡ Ok (ys, rest here)) × (now ≡ grown_by before (map (λ y. y.slots) ys)) × AreWide (length now) (map (λ y. y.slots) ys) × Costs rest shown calls start here (total_kept ys + total_seen ys) (total_hidden ys)
+rows_ended rest shown calls start here n m fields projection before now z so =
+    (so.0, sym so.1 ∙ ap (λ (j : ℕ). rows_after so.0 j fields projection (rest here)) z ∙ rows_done fields projection so.0 (rest here), so.2, so.3, so.4)
 
 -- ---- a block
 
-module _ (n : ℕ) (fields : List AvroField) (projection : List Bool) (before now : List (List Slot)) (start rest : List ℕ) (enough : n ≤ length start) where
-  pub block_read : length rest ≡ 0 → (ys : List Pieces) × (rows n fields projection start ≡ Ok (ys, rest)) × (now ≡ grown_by before (map (λ y. y.slots) ys)) × AreWide (length now) (map (λ y. y.slots) ys) → (rest ≡ []) × (ys : List Pieces) × (block n fields projection start ≡ Ok ys) × (now ≡ grown_by before (map (λ y. y.slots) ys)) × AreWide (length now) (map (λ y. y.slots) ys)
-  block_read z g =
-      let e : rest ≡ [] = empty rest z in
-      (e, g.0, block_ended n fields projection start enough g.0 (rw e at g.1), g.2, g.3)
+module _ {X : Type 0} (rest : X → List ℕ) (shown calls : X → ℕ) (start here : X) (n : ℕ) (fields : List AvroField) (projection : List Bool) (before now : List (List Slot)) (enough : n ≤ length (rest start)) (g : (ys : List Pieces) × (rows n fields projection (rest start) ≡ Ok (ys, rest here)) × (now ≡ grown_by before (map (λ y. y.slots) ys)) × AreWide (length now) (map (λ y. y.slots) ys) × Costs rest shown calls start here (total_kept ys + total_seen ys) (total_hidden ys)) where
+  pub block_read : length (rest here) ≡ 0 → (rest here ≡ []) × (ys : List Pieces) × (block n fields projection (rest start) ≡ Ok ys) × (now ≡ grown_by before (map (λ y. y.slots) ys)) × AreWide (length now) (map (λ y. y.slots) ys) × Costs rest shown calls start here (total_kept ys + total_seen ys) (total_hidden ys)
+  block_read z =
+      let e : rest here ≡ [] = empty (rest here) z in
+      (e, g.0, block_ended n fields projection (rest start) enough g.0 (rw e at g.1), g.2, g.3, g.4)
     where
       empty : (xs : List ℕ) → length xs ≡ 0 → xs ≡ []
       empty [] h = refl
       empty (x ∷ xs) h = absurd (omega (arith, h))
 
-  pub block_more : 0 < length rest → (ys : List Pieces) × (rows n fields projection start ≡ Ok (ys, rest)) × (now ≡ grown_by before (map (λ y. y.slots) ys)) × AreWide (length now) (map (λ y. y.slots) ys) → block n fields projection start ≡ Err Bad
-  block_more some g = block_left n fields projection start enough g.0 rest some g.1
+  pub block_more : 0 < length (rest here) → block n fields projection (rest start) ≡ Err Bad
+  block_more some = block_left n fields projection (rest start) enough g.0 (rest here) some g.1
 
 pub block_fault : (n : ℕ) (fields : List AvroField) (projection : List Bool) (start : List ℕ) → n ≤ length start → (d : DecodeFault) → IsBad d (rows n fields projection start) → IsBad d (block n fields projection start)
 block_fault n fields projection start enough Bytes e = block_err n fields projection start enough Bad e

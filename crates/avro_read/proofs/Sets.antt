@@ -1,18 +1,26 @@
-use Rattle.avro_read.proofs.Risen.{plain_one_more, builder_one_more}
 use Rattle.avro_read.proofs.Today.{carried_union, union_kind}
-use Rattle.avro_read.proofs.Numbers.{string_good, string_wrong, string_short, string_none, number_passes, number_bad, raw_passes, sized_passes, sized_bad, first_passes, second_passes, union_bad, skip_other, read_other, read_no_place, read_first, read_second, null_read, null_skipped, union_read, union_skipped}
+use Rattle.avro_read.proofs.Counting.{next_moves, next_costs, moves_none, kept_none, number_costs, number_first, kept_on_ok, byte_moves, ended_moves, byte_costs, still_moves, drop_moves, drop_shorter, forward_none}
+use Rattle.avro_read.proofs.Pushes.{fills_none, takes_none, number_fills, byte_fills, number_has_memory, byte_has_memory, text_takes, null_grows, null_has_memory}
+use Rattle.avro_read.proofs.Room.{grows_none, one_grows, grows_one_wider, memory_with_one_more, member_reach, member_grows, member_has_memory, few_slots_left, few_slots_passed, few_content_left, few_content_passed, room_left, room_kept}
+use Rattle.avro_read.proofs.Numbers.{number_is, string_good, string_wrong, string_short, string_none, number_passes, number_bad, raw_passes, sized_passes, sized_bad, first_passes, second_passes, union_bad, skip_other, read_other, read_no_place, read_first, read_second, null_read, null_skipped, union_read, union_skipped}
 use Rattle.avro_read.proofs.Unfolded.{push_none, push_some, boolean_none, boolean_some, int_is, long_is, bytes_are, jump_is}
+
+pub ruleset numbers = (number_is, next_moves, next_costs)
 
 pub ruleset unions = (union_read, union_skipped, carried_union, union_kind)
 
-pub ruleset nulls = (builder_one_more, push_none, push_some, null_read, null_skipped)
+pub ruleset nulls = (null_grows, null_has_memory, grows_one_wider, memory_with_one_more, moves_none, kept_none, push_none, push_some, null_read, null_skipped)
 
-pub ruleset flats = (plain_one_more, push_none, push_some, boolean_none, boolean_some, int_is, long_is)
+pub ruleset kinds = (one_grows)
 
-pub ruleset texts = (push_none, push_some, string_good, string_wrong, string_short, string_none)
+pub ruleset flats = (fills_none, number_fills, byte_fills, number_has_memory, byte_has_memory, number_costs, byte_moves, ended_moves, byte_costs, push_none, push_some, boolean_none, boolean_some, int_is, long_is)
 
-pub ruleset fronts = (bytes_are, jump_is)
+pub ruleset texts = (fills_none, push_none, push_some, string_good, string_wrong, string_short, string_none)
 
-pub ruleset choices = (push_none, push_some, first_passes, second_passes, union_bad, skip_other, read_other, read_no_place, read_first, read_second)
+pub ruleset fronts = (still_moves, drop_moves, drop_shorter, bytes_are, jump_is)
 
-pub ruleset skips = (number_passes, number_bad, raw_passes, sized_passes, sized_bad)
+pub ruleset choices = (grows_none, member_reach, member_grows, member_has_memory, number_first, kept_on_ok, push_none, push_some, first_passes, second_passes, union_bad, skip_other, read_other, read_no_place, read_first, read_second)
+
+pub ruleset skips = (number_first, number_passes, number_bad, raw_passes, sized_passes, sized_bad)
+
+pub ruleset wholes = (forward_none, few_slots_left, few_slots_passed, few_content_left, few_content_passed, room_left, room_kept)

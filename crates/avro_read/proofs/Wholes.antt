@@ -1,30 +1,34 @@
 -- A block's columns, and the arrays of its builders.
-use Rattle.std.proofs.Common.{◌≡◌, ◌∙◌, ℕ, zero, suc, ◌+◌, ◌<◌, ◌≤◌, Bool, List, [], ◌∷◌, ◌++◌, length, get_or, drop, set, map, All, Result, Ok, Err, refl, sym, ap, subst, add-one, arith}
+use Rattle.std.proofs.Common.{◌≡◌, ◌∙◌, ℕ, zero, suc, ◌+◌, ◌<◌, ◌≤◌, Bool, List, [], ◌∷◌, ◌++◌, length, get_or, drop, set, map, Result, Ok, Err, refl, sym, ap, subst, add-one, arith}
 use Rattle.std.specs.Prelude.{IfErr}
 use Rattle.std.proofs.lemmas.List.{append-nil, length-map, get_or-map, drop-set-lt}
 use Rattle.std.proofs.lemmas.List.FromFn.{get_or-map-range_with_len}
 use Rattle.std.proofs.Math.Seq.{drop-cons}
 use Rattle.arrow_types.specs.declared.slot.Slot.{Slot}
-use Rattle.arrow_columns.specs.declared.array.Array.{Array}
-use Rattle.arrow_columns.specs.Arrays.{array_slots}
-use Rattle.arrow_columns.specs.Chunks.{AreSameLength}
+use Rattle.arrow_array.specs.declared.array.Array.{Array}
+use Rattle.arrow_array.specs.Arrays.{array_slots}
+use Rattle.arrow_array.specs.Chunks.{AreSameLength}
 use Rattle.arrow_builders.specs.declared.array.MutableArray.{MutableArray}
+use Rattle.arrow_builders.specs.Nodes.{IsEmpty}
 use Rattle.arrow_builders.specs.MutableArrays.{builder_slots}
 use Rattle.avro_file.specs.declared.schema.AvroField.{AvroField}
-use Rattle.avro_grammar.specs.Rows.{Pieces, Rows, column}
+use Rattle.avro_grammar.specs.Rows.{Pieces, Rows, column, total_kept, total_seen, total_hidden}
 use Rattle.avro_reading.specs.Skip.{Bad}
 use Rattle.avro_reading.specs.Block.{block}
 use Rattle.avro_reading.proofs.Exact.{block_gives_rows, block_is_bad}
 use Rattle.avro_read.specs.Columns.{grown_by, columns, AreColumns}
+use Rattle.avro_read.specs.Counting.{Costs, ShowsAtMost, CallsAtMost}
 use Rattle.avro_read.specs.Decoding.{IsBad, AreWide}
+use Rattle.avro_read.specs.Room.{AtNodes}
 use Rattle.avro_read.specs.declared.fault.DecodeFault.{DecodeFault}
 use Rattle.avro_read.specs.declared.fault.DecodeFault.TheVariants.{Bytes}
 use Rattle.avro_read.specs.Refusals.{AreCounted}
+use Rattle.avro_read.proofs.Room.{empty_slots}
 use Rattle.avro_read.proofs.Growth.{AreEmpty, grown_columns, length-grown_by}
 
-pub slots_empty : (builders : List MutableArray) → All (λ b. builder_slots b ≡ []) builders → AreEmpty (map builder_slots builders)
+pub slots_empty : (builders : List MutableArray) → AtNodes IsEmpty builders → AreEmpty (map builder_slots builders)
 slots_empty [] h = tt
-slots_empty (b ∷ bs) h = (h 0 b (omega arith), slots_empty bs (λ k d lt. h (suc k) d (omega (arith, lt))))
+slots_empty (b ∷ bs) h = (empty_slots b (h 0 b (omega arith)), slots_empty bs (λ k d lt. h (suc k) d (omega (arith, lt))))
 
 wide_same : (m n : ℕ) (rs : List (List Slot)) → m ≡ n → AreWide m rs → AreWide n rs
 wide_same m n rs e w = rw (sym e) w
@@ -40,6 +44,28 @@ pub block_refused : (n : ℕ) (fields : List AvroField) (projection : List Bool)
 block_refused n fields projection start d is c e =
     let bad : block n fields projection start ≡ Err Bad = subst (λ (x : DecodeFault). IsBad x (block n fields projection start)) is e in
     (c, λ table r. ((block_is_bad n fields projection start).0 bad).0 table c.1 r)
+
+-- ---- what a block costs
+
+-- a block has one way to be cut into pieces
+same_pieces : (n : ℕ) (fields : List AvroField) (projection : List Bool) (start : List ℕ) (ys : List Pieces) → n ≤ length start → block n fields projection start ≡ Ok ys → (table : List (List Slot)) (r : Rows n fields projection start table) → ys ≡ r.pieces
+same_pieces n fields projection start ys le e table r =
+    ok_same (block n fields projection start) e ((block_gives_rows n fields projection start r.pieces).1 (le, record { pieces = r.pieces; spelled = r.spelled; told = refl }, refl))
+  where
+    ok_same : {E : Type 0} {x y : List Pieces} → (r : Result (List Pieces) E) → r ≡ Ok x → r ≡ Ok y → x ≡ y
+    ok_same r h k = same (sym h ∙ k)
+      where
+        same : {E : Type 0} {x y : List Pieces} → ◌≡◌ {A = Result (List Pieces) E} (Ok x) (Ok y) → x ≡ y
+        same q = cc
+
+module _ {X : Type 0} (rest : X → List ℕ) (shown calls : X → ℕ) (start here : X) (n : ℕ) (fields : List AvroField) (projection : List Bool) (ys : List Pieces) (le : n ≤ length (rest start)) (e : block n fields projection (rest start) ≡ Ok ys) (c : Costs rest shown calls start here (total_kept ys + total_seen ys) (total_hidden ys)) where
+  pub shows_at_most : ShowsAtMost n fields projection (rest start) (shown start) (shown here)
+  shows_at_most = λ table r. rw (same_pieces n fields projection (rest start) ys le e table r) at c.few_shown
+
+  pub calls_at_most : CallsAtMost n fields projection (rest start) (calls start) (calls here)
+  calls_at_most = λ table r.
+      let k = rw (same_pieces n fields projection (rest start) ys le e table r) at c.few_calls in
+      omega (arith, k)
 
 -- ---- the arrays of builders, one at a time
 

@@ -1,9 +1,7 @@
 -- The columns of a table of rows.
-use Rattle.std.specs.Prelude.{◌+◌, ◌≤◌, slice_index_or, ◌≡◌, ℕ, List, [], ◌∷◌, ◌++◌, length, map, Bool}
+use Rattle.std.specs.Prelude.{◌≡◌, ℕ, List, [], ◌∷◌, ◌++◌, length, map, Bool}
 use Rattle.std.specs.List.{range_with_len}
 use Rattle.arrow_types.specs.declared.slot.Slot.{Slot}
-use Rattle.arrow_builders.specs.declared.array.MutableArray.{MutableArray}
-use Rattle.arrow_builders.specs.MutableArrays.{builder_slots}
 use Rattle.avro_file.specs.declared.schema.AvroField.{AvroField}
 use Rattle.avro_grammar.specs.Rows.{Rows, column}
 
@@ -25,13 +23,3 @@ columns n table = map (column table) (range_with_len 0 n)
 abbrev pub AreColumns : ℕ → List AvroField → List Bool → List ℕ → List (List Slot) → Type 0
 AreColumns n fields projection bytes cs =
     (table : List (List Slot)) × Rows n fields projection bytes table × (cs ≡ columns (length cs) table)
-
--- ---- how much builders grow
-
--- how many slots each builder has
-abbrev pub counts : List MutableArray → List ℕ
-counts builders = map (λ b. length (builder_slots b)) builders
-
--- none has more than n slots more than before
-abbrev pub RiseBy : ℕ → List ℕ → List ℕ → Type 0
-RiseBy n old new = (k : ℕ) → slice_index_or new k 0 ≤ slice_index_or old k 0 + n

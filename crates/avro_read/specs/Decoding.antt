@@ -1,16 +1,17 @@
 -- What a call of the decoder gives, in terms of a reading function on the bytes ahead. Want of memory
 -- says nothing of the bytes.
-use Rattle.std.specs.Prelude.{◌≡◌, ℕ, ℤ, pos, negsuc, List, [], ◌∷◌, length, map, Option, Some, None, Result, Ok, Err, if◌then◌else◌}
+use Rattle.std.specs.Prelude.{◌≡◌, ◌+◌, ℕ, ℤ, pos, negsuc, List, [], ◌∷◌, length, map, Option, Some, None, Result, Ok, Err, if◌then◌else◌}
 use Rattle.std.specs.Str.{IsUtf8}
 use Rattle.arrow_types.specs.declared.slot.Slot.{Slot}
 use Rattle.arrow_types.specs.declared.slot.Slot.TheVariants as slot
 use Rattle.avro_file.specs.declared.schema.Schema.{Schema}
-use Rattle.avro_grammar.specs.Rows.{Pieces}
+use Rattle.avro_grammar.specs.Rows.{Pieces, total_kept, total_seen, total_hidden}
 use Rattle.avro_grammar.specs.Steps.{nothing, Passed}
 use Rattle.avro_reading.specs.Front.{◌>>=◌, Reader, number_at}
 use Rattle.avro_reading.specs.Read.{is_null, read}
 use Rattle.avro_reading.specs.Skip.{Fault, Bad, Stepper, skip}
 use Rattle.avro_read.specs.Columns.{grown, grown_by}
+use Rattle.avro_read.specs.Counting.{Costs}
 use Rattle.avro_read.specs.declared.fault.DecodeFault.{DecodeFault}
 use Rattle.avro_read.specs.declared.fault.DecodeFault.TheVariants.{Bytes, Memory}
 
@@ -56,25 +57,28 @@ abbrev pub Jumps : {X : Type 0} → List ℕ → Result X DecodeFault → Result
 Jumps rest (Ok _) jumping = jumping ≡ Ok rest
 Jumps rest (Err e) jumping = IsBad e jumping
 
--- rest is what is behind the value
-abbrev pub Passes : {X : Type 0} → List ℕ → Result X DecodeFault → Result (Passed × List ℕ) Fault → Type 0
-Passes rest (Ok _) stepping = (p : Passed) × (stepping ≡ Ok (p, rest))
-Passes rest (Err e) stepping = IsBad e stepping
+-- the value is passed, for what it costs
+abbrev pub Passes : {X Y : Type 0} → (X → List ℕ) → (X → ℕ) → (X → ℕ) → X → X → Result Y DecodeFault → Result (Passed × List ℕ) Fault → Type 0
+Passes rest shown calls old new (Ok _) stepping = (p : Passed) × (stepping ≡ Ok (p, rest new)) × Costs rest shown calls old new p.seen p.hidden
+Passes rest shown calls old new (Err e) stepping = IsBad e stepping
 
 -- the columns before and now: each kept field's slot has come to the end of its column
-abbrev pub GivesRow : {X : Type 0} → List (List Slot) → List (List Slot) → List ℕ → Result X DecodeFault → Result (Pieces × List ℕ) Fault → Type 0
-GivesRow before now rest (Ok _) stepping = (y : Pieces) × (stepping ≡ Ok (y, rest)) × (now ≡ grown before y.slots) × (length y.slots ≡ length now)
-GivesRow before now rest (Err e) stepping = IsBad e stepping
+abbrev pub GivesRow : {X Y : Type 0} → (X → List ℕ) → (X → ℕ) → (X → ℕ) → X → X → List (List Slot) → List (List Slot) → Result Y DecodeFault → Result (Pieces × List ℕ) Fault → Type 0
+GivesRow rest shown calls old new before now (Ok _) stepping =
+    (y : Pieces) × (stepping ≡ Ok (y, rest new)) × (now ≡ grown before y.slots) × (length y.slots ≡ length now) × Costs rest shown calls old new (y.kept + y.passed.seen) y.passed.hidden
+GivesRow rest shown calls old new before now (Err e) stepping = IsBad e stepping
 
 abbrev pub AreWide : ℕ → List (List Slot) → Type 0
 AreWide n [] = Unit {0}
 AreWide n (row ∷ rows) = (length row ≡ n) × AreWide n rows
 
-abbrev pub GivesRows : {X : Type 0} → List (List Slot) → List (List Slot) → List ℕ → Result X DecodeFault → Result (List Pieces × List ℕ) Fault → Type 0
-GivesRows before now rest (Ok _) stepping = (ys : List Pieces) × (stepping ≡ Ok (ys, rest)) × (now ≡ grown_by before (map (λ y. y.slots) ys)) × AreWide (length now) (map (λ y. y.slots) ys)
-GivesRows before now rest (Err e) stepping = IsBad e stepping
+abbrev pub GivesRows : {X Y : Type 0} → (X → List ℕ) → (X → ℕ) → (X → ℕ) → X → X → List (List Slot) → List (List Slot) → Result Y DecodeFault → Result (List Pieces × List ℕ) Fault → Type 0
+GivesRows rest shown calls old new before now (Ok _) stepping =
+    (ys : List Pieces) × (stepping ≡ Ok (ys, rest new)) × (now ≡ grown_by before (map (λ y. y.slots) ys)) × AreWide (length now) (map (λ y. y.slots) ys) × Costs rest shown calls old new (total_kept ys + total_seen ys) (total_hidden ys)
+GivesRows rest shown calls old new before now (Err e) stepping = IsBad e stepping
 
 -- nothing is behind a block
-abbrev pub GivesBlock : {X : Type 0} → List (List Slot) → List (List Slot) → List ℕ → Result X DecodeFault → Result (List Pieces) Fault → Type 0
-GivesBlock before now rest (Ok _) reading = (rest ≡ []) × (ys : List Pieces) × (reading ≡ Ok ys) × (now ≡ grown_by before (map (λ y. y.slots) ys)) × AreWide (length now) (map (λ y. y.slots) ys)
-GivesBlock before now rest (Err e) reading = IsBad e reading
+abbrev pub GivesBlock : {X Y : Type 0} → (X → List ℕ) → (X → ℕ) → (X → ℕ) → X → X → List (List Slot) → List (List Slot) → Result Y DecodeFault → Result (List Pieces) Fault → Type 0
+GivesBlock rest shown calls old new before now (Ok _) reading =
+    (rest new ≡ []) × (ys : List Pieces) × (reading ≡ Ok ys) × (now ≡ grown_by before (map (λ y. y.slots) ys)) × AreWide (length now) (map (λ y. y.slots) ys) × Costs rest shown calls old new (total_kept ys + total_seen ys) (total_hidden ys)
+GivesBlock rest shown calls old new before now (Err e) reading = IsBad e reading

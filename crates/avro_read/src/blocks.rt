@@ -1,18 +1,22 @@
 //! Blocks of rows into columns.
 
-ghost use Rattle.std.specs.Prelude.{◌≡◌, [], length, map, All, OnOk, IfOk, IfErr};
+ghost use Rattle.std.specs.Prelude.{◌≡◌, ◌≤◌, ◌+◌, ◌*◌, [], length, map, OnOk, IfOk, IfErr};
 ghost use Rattle.arrow_lists.specs.declared.error.Error.TheVariants.{OutOfMemory};
-ghost use Rattle.arrow_columns.specs.Arrays.{array_type, array_slots};
+ghost use Rattle.arrow_array.specs.Arrays.{array_type, array_slots};
+ghost use Rattle.arrow_builders.specs.Nodes.{IsEmpty, KeepsRoom, HasRoom};
 ghost use Rattle.arrow_builders.specs.MutableArrays.{builder_type, builder_slots, builder_kind};
 ghost use Rattle.avro_read.specs.Today.{AllCarriedToday, kept_kinds, kept_types};
-ghost use Rattle.avro_read.specs.Columns.{AreColumns, counts, RiseBy};
+ghost use Rattle.avro_file.specs.Number.{MovesForward};
+ghost use Rattle.avro_read.specs.Columns.{AreColumns};
+ghost use Rattle.avro_read.specs.Counting.{ShowsAtMost, CallsAtMost};
 ghost use Rattle.avro_read.specs.Refusals.{BelongTogether, AreCounted, BytesRefused, BlockRefused};
+ghost use Rattle.avro_read.specs.Room.{AtNodes, BetweenNodes, total_content};
 
 use crate::fault::DecodeFault;
 use crate::nested::make_builders;
 use crate::rows::decode_block;
+use arrow_array::{Array, Chunk};
 use arrow_builders::MutableArray;
-use arrow_columns::{Array, Chunk};
 use arrow_lists::{Error, Reason, Result};
 use arrow_types::Field;
 use avro_file::{AvroField, Block, Cursor, SliceCursor};
@@ -54,11 +58,19 @@ pub fn deserialize(
 
 /// Reads `rows` rows from all bytes ahead, each kept value into one more slot of its builder.
 ///
-/// The builders are empty, and of the kinds that `make_builders` gives for these lists. Ok: no
-/// byte is left, and the builders hold the columns. The refusals are those of `deserialize` from
-/// `Overflow` on, over the bytes ahead. Kinds and data types of the builders stay on every answer,
-/// and no builder has more slots than there were bytes;
-/// after an Err the builders take only `node_lengths`, `clear` and drop.
+/// The builders are empty at every node, and of the kinds that `make_builders` gives for these
+/// lists. Ok: no byte is left, and the builders hold the columns. The refusals are those of
+/// `deserialize` from `Overflow` on, over the bytes ahead.
+///
+/// With n bytes ahead, on every answer: kinds and data types of the builders stay; no node has more
+/// than n slots, all nodes together have no more than n content bytes, and none has lost room; the
+/// cursor has only moved forward, and was called at most 2n + 1 times. With room for n slots and n
+/// content bytes at each node there is no want of memory. After an Err the builders take only
+/// `node_lengths`, `clear` and drop.
+///
+/// On Ok no more bytes were shown than those of kept fields and those that tell how long the others
+/// are: texts that aren't kept are jumped over.
+#[tactic(auto, using(crate::proofs::Sets::wholes))]
 pub fn deserialize_into<'a, C: Cursor<'a>>(
     cursor: &mut C,
     rows: usize,
@@ -70,14 +82,25 @@ pub fn deserialize_into<'a, C: Cursor<'a>>(
     requires lengths { length avro_fields.now ≡ length projection.now }
     requires carried { AllCarriedToday avro_fields.now }
     requires kinds { map builder_kind builders.old ≡ kept_kinds avro_fields.now projection.now }
-    requires empty { All (λ b. builder_slots b ≡ []) builders.old }
+    requires empty { AtNodes IsEmpty builders.old }
     ensures kinds { map builder_kind builders.new ≡ map builder_kind builders.old }
     ensures data_types { map builder_type builders.new ≡ map builder_type builders.old }
-    ensures grows { RiseBy (length (C.rest cursor.old)) (counts builders.old) (counts builders.new) }
     ensures counted { OnOk result (AreCounted rows (C.rest cursor.old)) }
     ensures columns { OnOk result (AreColumns rows avro_fields.now projection.now (C.rest cursor.old) (map builder_slots builders.new)) }
     ensures done { OnOk result (C.rest cursor.new ≡ []) }
     ensures err { IfErr result (BytesRefused rows avro_fields.now projection.now (C.rest cursor.old)) }
+
+    // What is not kept is jumped over.
+    ensures shown { OnOk result (ShowsAtMost rows avro_fields.now projection.now (C.rest cursor.old) (C.shown cursor.old) (C.shown cursor.new)) }
+    ensures few_calls { OnOk result (CallsAtMost rows avro_fields.now projection.now (C.rest cursor.old) (C.calls cursor.old) (C.calls cursor.new)) }
+    ensures forward { MovesForward (C.rest cursor.old) (C.rest cursor.new) }
+    ensures calls { C.calls cursor.new ≤ C.calls cursor.old + (2 * length (C.rest cursor.old) + 1) }
+
+    // Growth is bounded by the bytes, and in reserved room there is no want of memory.
+    ensures slots { AtNodes (λ x. x.slots ≤ length (C.rest cursor.old)) builders.new }
+    ensures content { total_content builders.new ≤ length (C.rest cursor.old) }
+    ensures room { BetweenNodes KeepsRoom builders.old builders.new }
+    ensures roomy { AtNodes (HasRoom (length (C.rest cursor.old))) builders.old → IfErr result (λ e. e ≡ OutOfMemory → ⊥) }
 {
     if cursor.left() > MOST_BYTES {
         return Err(Error::Overflow);

@@ -1,15 +1,20 @@
 //! Kept values, from the front of the bytes into builders.
 
-ghost use Rattle.std.specs.Prelude.{◌+◌, ◌≤◌, length, ◌≡◌, ◌⊎◌, Some, None, ◌++◌, ◌∷◌, [], MatchOption, MatchResult, OnOk, OnErr, IfErr};
+ghost use Rattle.std.specs.Prelude.{◌+◌, ◌≤◌, length, ◌≡◌, ◌⊎◌, Some, None, ◌++◌, ◌∷◌, [], All, MatchOption, MatchResult, OnSome, OnOk, OnErr, IsOk, IfErr};
 ghost use Rattle.std.specs.Str.{IsUtf8};
+ghost use Rattle.arrow_lists.specs.declared.error.Error.TheVariants.{OutOfMemory};
 ghost use Rattle.arrow_types.specs.declared.slot.Slot.TheVariants.{Words};
 ghost use Rattle.avro_grammar.specs.Spells.{IsNull};
 ghost use Rattle.avro_reading.specs.Front.{number_at};
 ghost use Rattle.avro_reading.specs.Read.{push_one, boolean_at, int_at, long_at, string_at, read};
 ghost use Rattle.avro_reading.specs.Listed.{read_union_of};
-ghost use Rattle.arrow_builders.specs.MutableArrays.{builder_type, builder_slots, builder_kind};
+ghost use Rattle.arrow_builders.specs.Builders.{plain_node, content_node};
+ghost use Rattle.arrow_builders.specs.Nodes.{Takes, HasRoom};
+ghost use Rattle.arrow_builders.specs.MutableArrays.{builder_type, builder_slots, builder_kind, nodes};
 ghost use Rattle.avro_read.specs.Today.{IsFlatToday, CarriedToday, CarriedMembersOf, flat_kind, kind_of, members_kind_of};
+ghost use Rattle.avro_read.specs.Counting.{passed, Moves, CostsKept, CostsNumber};
 ghost use Rattle.avro_read.specs.Decoding.{Gives, IsTextFault, length_at, member_at};
+ghost use Rattle.avro_read.specs.Room.{OffsetsReach, Fills, Grows, HasMemory};
 
 use crate::carried::is_null;
 use crate::fault::DecodeFault;
@@ -27,9 +32,13 @@ pub fn decode_value<'a, C: Cursor<'a>>(
 ) -> Result<(), DecodeFault>
     requires carried { CarriedToday schema.now }
     requires kind { builder_kind builder.old ≡ kind_of schema.now }
+    requires offsets { All (OffsetsReach (length (C.rest cursor.old))) (nodes builder.old) }
     ensures kind { builder_kind builder.new ≡ builder_kind builder.old }
     ensures data_type { builder_type builder.new ≡ builder_type builder.old }
-    ensures grows { length (builder_slots builder.new) ≤ length (builder_slots builder.old) + 1 }
+    ensures grows { Grows (passed (C.rest cursor.old) (C.rest cursor.new)) (nodes builder.old) (nodes builder.new) }
+    ensures roomy { All (HasRoom (length (C.rest cursor.old))) (nodes builder.old) → HasMemory result }
+    ensures moves { Moves C.rest C.calls cursor.old cursor.new }
+    ensures costs { OnOk result (CostsKept C.rest C.shown C.calls cursor.old cursor.new) }
     ensures reads { Gives (λ _. (builder_slots builder.new, C.rest cursor.new)) result
         (push_one (builder_slots builder.old) (read schema.now (C.rest cursor.old))) }
 {
@@ -47,9 +56,13 @@ fn decode_union<'a, C: Cursor<'a>>(
 ) -> Result<(), DecodeFault>
     requires carried { CarriedMembersOf members.now }
     requires kind { builder_kind builder.old ≡ members_kind_of members.now }
+    requires offsets { All (OffsetsReach (length (C.rest cursor.old))) (nodes builder.old) }
     ensures kind { builder_kind builder.new ≡ builder_kind builder.old }
     ensures data_type { builder_type builder.new ≡ builder_type builder.old }
-    ensures grows { length (builder_slots builder.new) ≤ length (builder_slots builder.old) + 1 }
+    ensures grows { Grows (passed (C.rest cursor.old) (C.rest cursor.new)) (nodes builder.old) (nodes builder.new) }
+    ensures roomy { All (HasRoom (length (C.rest cursor.old))) (nodes builder.old) → HasMemory result }
+    ensures moves { Moves C.rest C.calls cursor.old cursor.new }
+    ensures costs { OnOk result (CostsKept C.rest C.shown C.calls cursor.old cursor.new) }
     ensures reads { Gives (λ _. (builder_slots builder.new, C.rest cursor.new)) result
         (push_one (builder_slots builder.old) (read_union_of members.now (C.rest cursor.old))) }
 {
@@ -76,9 +89,13 @@ fn decode_member<'a, C: Cursor<'a>>(
     builder: &mut MutableArray,
 ) -> Result<(), DecodeFault>
     requires member { IsNull schema.now ⊎ (IsFlatToday schema.now × (builder_kind builder.old ≡ flat_kind schema.now)) }
+    requires offsets { All (OffsetsReach (length (C.rest cursor.old))) (nodes builder.old) }
     ensures kind { builder_kind builder.new ≡ builder_kind builder.old }
     ensures data_type { builder_type builder.new ≡ builder_type builder.old }
-    ensures grows { length (builder_slots builder.new) ≤ length (builder_slots builder.old) + 1 }
+    ensures grows { Grows (passed (C.rest cursor.old) (C.rest cursor.new) + 1) (nodes builder.old) (nodes builder.new) }
+    ensures roomy { All (HasRoom (length (C.rest cursor.old) + 1)) (nodes builder.old) → HasMemory result }
+    ensures moves { Moves C.rest C.calls cursor.old cursor.new }
+    ensures costs { OnOk result (CostsKept C.rest C.shown C.calls cursor.old cursor.new) }
     ensures reads { Gives (λ _. (builder_slots builder.new, C.rest cursor.new)) result
         (push_one (builder_slots builder.old) (member_at schema.now (C.rest cursor.old))) }
 {
@@ -89,6 +106,7 @@ fn decode_member<'a, C: Cursor<'a>>(
     }
 }
 
+#[tactic(auto, using(crate::proofs::Sets::kinds))]
 fn decode_flat<'a, C: Cursor<'a>>(
     cursor: &mut C,
     schema: &AvroSchema,
@@ -96,9 +114,13 @@ fn decode_flat<'a, C: Cursor<'a>>(
 ) -> Result<(), DecodeFault>
     requires flat { IsFlatToday schema.now }
     requires kind { builder_kind builder.old ≡ flat_kind schema.now }
+    requires offsets { All (OffsetsReach (length (C.rest cursor.old))) (nodes builder.old) }
     ensures kind { builder_kind builder.new ≡ builder_kind builder.old }
     ensures data_type { builder_type builder.new ≡ builder_type builder.old }
-    ensures grows { length (builder_slots builder.new) ≤ length (builder_slots builder.old) + 1 }
+    ensures grows { Grows (passed (C.rest cursor.old) (C.rest cursor.new)) (nodes builder.old) (nodes builder.new) }
+    ensures roomy { All (HasRoom (length (C.rest cursor.old))) (nodes builder.old) → HasMemory result }
+    ensures moves { Moves C.rest C.calls cursor.old cursor.new }
+    ensures costs { OnOk result (CostsKept C.rest C.shown C.calls cursor.old cursor.new) }
     ensures reads { Gives (λ _. (builder_slots builder.new, C.rest cursor.new)) result
         (push_one (builder_slots builder.old) (read schema.now (C.rest cursor.old))) }
 {
@@ -137,7 +159,10 @@ fn decode_boolean<'a, C: Cursor<'a>>(
     values: &mut MutableBooleanArray,
 ) -> Result<(), DecodeFault>
     ensures data_type { values.new.data_type ≡ values.old.data_type }
-    ensures grows { length values.new.slots ≤ length values.old.slots + 1 }
+    ensures grows { Fills (passed (C.rest cursor.old) (C.rest cursor.new)) (plain_node values.old) (plain_node values.new) }
+    ensures roomy { HasRoom (length (C.rest cursor.old)) (plain_node values.old) → HasMemory result }
+    ensures moves { Moves C.rest C.calls cursor.old cursor.new }
+    ensures costs { OnOk result (CostsKept C.rest C.shown C.calls cursor.old cursor.new) }
     ensures reads { Gives (λ _. (values.new.slots, C.rest cursor.new)) result
         (push_one values.old.slots (boolean_at (C.rest cursor.old))) }
 {
@@ -154,7 +179,10 @@ fn decode_int<'a, C: Cursor<'a>>(
     values: &mut MutablePrimitiveArray<i32>,
 ) -> Result<(), DecodeFault>
     ensures data_type { values.new.data_type ≡ values.old.data_type }
-    ensures grows { length values.new.slots ≤ length values.old.slots + 1 }
+    ensures grows { Fills (passed (C.rest cursor.old) (C.rest cursor.new)) (plain_node values.old) (plain_node values.new) }
+    ensures roomy { HasRoom (length (C.rest cursor.old)) (plain_node values.old) → HasMemory result }
+    ensures moves { Moves C.rest C.calls cursor.old cursor.new }
+    ensures costs { OnOk result (CostsKept C.rest C.shown C.calls cursor.old cursor.new) }
     ensures reads { Gives (λ _. (values.new.slots, C.rest cursor.new)) result
         (push_one values.old.slots (int_at (C.rest cursor.old))) }
 {
@@ -173,7 +201,10 @@ fn decode_long<'a, C: Cursor<'a>>(
     values: &mut MutablePrimitiveArray<i64>,
 ) -> Result<(), DecodeFault>
     ensures data_type { values.new.data_type ≡ values.old.data_type }
-    ensures grows { length values.new.slots ≤ length values.old.slots + 1 }
+    ensures grows { Fills (passed (C.rest cursor.old) (C.rest cursor.new)) (plain_node values.old) (plain_node values.new) }
+    ensures roomy { HasRoom (length (C.rest cursor.old)) (plain_node values.old) → HasMemory result }
+    ensures moves { Moves C.rest C.calls cursor.old cursor.new }
+    ensures costs { OnOk result (CostsKept C.rest C.shown C.calls cursor.old cursor.new) }
     ensures reads { Gives (λ _. (values.new.slots, C.rest cursor.new)) result
         (push_one values.old.slots (long_at (C.rest cursor.old))) }
 {
@@ -188,8 +219,12 @@ fn decode_string<'a, C: Cursor<'a>>(
     cursor: &mut C,
     values: &mut MutableUtf8Array<i32>,
 ) -> Result<(), DecodeFault>
+    requires offsets { OffsetsReach (length (C.rest cursor.old)) (content_node values.old) }
     ensures data_type { values.new.data_type ≡ values.old.data_type }
-    ensures grows { length values.new.slots ≤ length values.old.slots + 1 }
+    ensures grows { Fills (passed (C.rest cursor.old) (C.rest cursor.new)) (content_node values.old) (content_node values.new) }
+    ensures roomy { HasRoom (length (C.rest cursor.old)) (content_node values.old) → HasMemory result }
+    ensures moves { Moves C.rest C.calls cursor.old cursor.new }
+    ensures costs { OnOk result (CostsKept C.rest C.shown C.calls cursor.old cursor.new) }
     ensures reads { Gives (λ _. (values.new.slots, C.rest cursor.new)) result
         (push_one values.old.slots (string_at (C.rest cursor.old))) }
 {
@@ -203,10 +238,12 @@ fn decode_string<'a, C: Cursor<'a>>(
 }
 
 /// Pushes a text, which has to be UTF-8.
-#[tactic(auto, using(crate::proofs::Risen::one_more))]
+#[tactic(auto, using(crate::proofs::Pushes::takes_none))]
 fn push_text(values: &mut MutableUtf8Array<i32>, bytes: &[u8]) -> Result<(), DecodeFault>
+    requires offsets { OffsetsReach (length bytes.now) (content_node values.old) }
     ensures data_type { values.new.data_type ≡ values.old.data_type }
-    ensures grows { length values.new.slots ≤ length values.old.slots + 1 }
+    ensures grows { Takes 1 (length bytes.now) (content_node values.old) (content_node values.new) }
+    ensures roomy { 1 ≤ values.old.spare → length bytes.now ≤ values.old.byte_spare → HasMemory result }
     ensures text { MatchResult result
         (λ _. IsUtf8 bytes.now × (values.new.slots ≡ values.old.slots ++ Words bytes.now ∷ []))
         (λ e. IsTextFault e bytes.now) }
@@ -218,9 +255,11 @@ fn push_text(values: &mut MutableUtf8Array<i32>, bytes: &[u8]) -> Result<(), Dec
 }
 
 /// The number in front (Avro 1.11, "Primitive Types").
-#[tactic(auto, using(crate::proofs::Numbers::number_is))]
+#[tactic(auto, using(crate::proofs::Sets::numbers))]
 pub fn read_number<'a, C: Cursor<'a>>(cursor: &mut C) -> Option<i64>
-    ensures { MatchOption result (number_at (C.rest cursor.old) ≡ None) (λ v. number_at (C.rest cursor.old) ≡ Some (v, C.rest cursor.new)) }
+    ensures moves { Moves C.rest C.calls cursor.old cursor.new }
+    ensures costs { OnSome result (CostsNumber C.rest C.shown C.calls cursor.old cursor.new) }
+    ensures reads { MatchOption result (number_at (C.rest cursor.old) ≡ None) (λ v. number_at (C.rest cursor.old) ≡ Some (v, C.rest cursor.new)) }
 {
     next_number(cursor)
 }
@@ -228,7 +267,9 @@ pub fn read_number<'a, C: Cursor<'a>>(cursor: &mut C) -> Option<i64>
 /// The length in front of a text or a byte string, which isn't negative.
 #[tactic(auto, unfolding(crate::specs::Decoding::length_at))]
 pub fn read_length<'a, C: Cursor<'a>>(cursor: &mut C) -> Option<usize>
-    ensures { MatchOption result (length_at (C.rest cursor.old) ≡ None) (λ n. length_at (C.rest cursor.old) ≡ Some (n, C.rest cursor.new)) }
+    ensures moves { Moves C.rest C.calls cursor.old cursor.new }
+    ensures costs { OnSome result (CostsNumber C.rest C.shown C.calls cursor.old cursor.new) }
+    ensures reads { MatchOption result (length_at (C.rest cursor.old) ≡ None) (λ n. length_at (C.rest cursor.old) ≡ Some (n, C.rest cursor.new)) }
 {
     match read_number(cursor) {
         Some(number) => match usize::try_from(number) {
@@ -239,11 +280,12 @@ pub fn read_length<'a, C: Cursor<'a>>(cursor: &mut C) -> Option<usize>
     }
 }
 
-/// The answer of a push, as a fault of the decoder. No text is too long here, since offsets count
-/// each block's bytes.
+/// The answer of a push that only want of memory can refuse, as the decoder tells it.
 fn pushed(answer: Result<(), Error>) -> Result<(), DecodeFault>
+    requires memory { IfErr answer (λ e. e ≡ OutOfMemory) }
     ensures ok { OnOk result (OnErr answer ⊥) }
     ensures err { IfErr result (λ e. e ≡ DecodeFault.Memory) }
+    ensures answered { IsOk answer → HasMemory result }
 {
     match answer {
         Ok(()) => Ok(()),

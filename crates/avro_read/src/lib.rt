@@ -14,6 +14,6 @@ mod skip;
 mod tests;
 
 pub use blocks::{deserialize, deserialize_into};
-pub use laws::valid_blocks_are_read;
+pub use laws::{reserved_room_stays, valid_blocks_are_read};
 pub use nested::make_builders;
 pub use schema::infer_schema;

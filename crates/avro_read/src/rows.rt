@@ -1,11 +1,13 @@
 //! Rows, each value into the builder of its column.
 
 ghost use Rattle.std.specs.Prelude.{◌≡◌, ◌≤◌, length, map};
+ghost use Rattle.arrow_builders.specs.Nodes.{HasRoom};
 ghost use Rattle.avro_reading.specs.Block.{row, rows as rows_at, block};
 ghost use Rattle.arrow_builders.specs.MutableArrays.{builder_type, builder_slots, builder_kind};
 ghost use Rattle.avro_read.specs.Today.{AllCarriedToday, kept_kinds};
-ghost use Rattle.avro_read.specs.Columns.{counts, RiseBy};
+ghost use Rattle.avro_read.specs.Counting.{passed, Moves};
 ghost use Rattle.avro_read.specs.Decoding.{GivesRow, GivesRows, GivesBlock};
+ghost use Rattle.avro_read.specs.Room.{OffsetsReach, AtNodes, AllGrow, HasMemory};
 
 use crate::decode::decode_value;
 use crate::fault::DecodeFault;
@@ -24,11 +26,14 @@ pub fn decode_block<'a, C: Cursor<'a>>(
     requires lengths { length avro_fields.now ≡ length projection.now }
     requires carried { AllCarriedToday avro_fields.now }
     requires kinds { map builder_kind builders.old ≡ kept_kinds avro_fields.now projection.now }
+    requires offsets { AtNodes (OffsetsReach (length (C.rest cursor.old))) builders.old }
     requires enough { rows ≤ length (C.rest cursor.old) }
     ensures kinds { map builder_kind builders.new ≡ map builder_kind builders.old }
     ensures data_types { map builder_type builders.new ≡ map builder_type builders.old }
-    ensures grows { RiseBy rows (counts builders.old) (counts builders.new) }
-    ensures reads { GivesBlock (map builder_slots builders.old) (map builder_slots builders.new) (C.rest cursor.new) result
+    ensures grows { AllGrow (passed (C.rest cursor.old) (C.rest cursor.new)) builders.old builders.new }
+    ensures roomy { AtNodes (HasRoom (length (C.rest cursor.old))) builders.old → HasMemory result }
+    ensures moves { Moves C.rest C.calls cursor.old cursor.new }
+    ensures reads { GivesBlock C.rest C.shown C.calls cursor.old cursor.new (map builder_slots builders.old) (map builder_slots builders.new) result
         (block rows avro_fields.now projection.now (C.rest cursor.old)) }
 {
     decode_rows(cursor, rows, avro_fields, projection, builders)?;
@@ -48,10 +53,13 @@ fn decode_rows<'a, C: Cursor<'a>>(
     requires lengths { length avro_fields.now ≡ length projection.now }
     requires carried { AllCarriedToday avro_fields.now }
     requires kinds { map builder_kind builders.old ≡ kept_kinds avro_fields.now projection.now }
+    requires offsets { AtNodes (OffsetsReach (length (C.rest cursor.old))) builders.old }
     ensures kinds { map builder_kind builders.new ≡ map builder_kind builders.old }
     ensures data_types { map builder_type builders.new ≡ map builder_type builders.old }
-    ensures grows { RiseBy rows (counts builders.old) (counts builders.new) }
-    ensures reads { GivesRows (map builder_slots builders.old) (map builder_slots builders.new) (C.rest cursor.new) result
+    ensures grows { AllGrow (passed (C.rest cursor.old) (C.rest cursor.new)) builders.old builders.new }
+    ensures roomy { AtNodes (HasRoom (length (C.rest cursor.old))) builders.old → HasMemory result }
+    ensures moves { Moves C.rest C.calls cursor.old cursor.new }
+    ensures reads { GivesRows C.rest C.shown C.calls cursor.old cursor.new (map builder_slots builders.old) (map builder_slots builders.new) result
         (rows_at rows avro_fields.now projection.now (C.rest cursor.old)) }
 {
     for _ in 0..rows {
@@ -70,10 +78,13 @@ fn decode_row<'a, C: Cursor<'a>>(
     requires lengths { length avro_fields.now ≡ length projection.now }
     requires carried { AllCarriedToday avro_fields.now }
     requires kinds { map builder_kind builders.old ≡ kept_kinds avro_fields.now projection.now }
+    requires offsets { AtNodes (OffsetsReach (length (C.rest cursor.old))) builders.old }
     ensures kinds { map builder_kind builders.new ≡ map builder_kind builders.old }
     ensures data_types { map builder_type builders.new ≡ map builder_type builders.old }
-    ensures grows { RiseBy 1 (counts builders.old) (counts builders.new) }
-    ensures reads { GivesRow (map builder_slots builders.old) (map builder_slots builders.new) (C.rest cursor.new) result
+    ensures grows { AllGrow (passed (C.rest cursor.old) (C.rest cursor.new)) builders.old builders.new }
+    ensures roomy { AtNodes (HasRoom (length (C.rest cursor.old))) builders.old → HasMemory result }
+    ensures moves { Moves C.rest C.calls cursor.old cursor.new }
+    ensures reads { GivesRow C.rest C.shown C.calls cursor.old cursor.new (map builder_slots builders.old) (map builder_slots builders.new) result
         (row avro_fields.now projection.now (C.rest cursor.old)) }
 {
     let mut column = 0;

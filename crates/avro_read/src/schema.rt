@@ -1,5 +1,15 @@
 //! The schema of columns for an Avro schema.
 
+ghost use Rattle.std.specs.Prelude.{◌≡◌, [], Some, None, IfOk, IfErr, OnOk};
+ghost use Rattle.std.specs.Option.{option_copied};
+ghost use Rattle.arrow_lists.specs.declared.error.Error.TheVariants.{OutOfMemory};
+ghost use Rattle.avro_file.specs.declared.schema.Record.{out-Record};
+ghost use Rattle.avro_file.specs.declared.schema.Schema.{Record as RecordSchema};
+ghost use Rattle.avro_reading.specs.Types.{int_type as int_type_of, long_type as long_type_of, utc, fixed_type as fixed_type_of, is_union};
+ghost use Rattle.avro_reading.specs.TypeLaws.{inferred_member_of};
+ghost use Rattle.avro_reading.specs.Inferred.{inferred, columns_of, inferred_columns, own_doc as own_doc_of, is_item as is_item_of, HasMapOrUnion};
+ghost use Rattle.avro_read.specs.Inference.{SchemaRefused, doc_entries, HasNoParts};
+
 use arrow_lists::{Box, Error, Items, Metadata, Reason, Result, Text};
 use arrow_types::{DataType, Field, IntegerType, IntervalUnit, Schema, TimeUnit};
 use avro_file::{
@@ -24,21 +34,33 @@ const DOC: &str = "avro::doc";
 ///
 /// `NotYetImplemented(MapOrUnion)` exactly where, at any depth, a map stands, or a union that
 /// isn't two members of which one is null and the other neither null nor a union.
-pub fn infer_schema(alloc: Global, root: &Record) -> Result<Schema> {
+pub fn infer_schema(alloc: Global, root: &Record) -> Result<Schema>
+    ensures fields { IfOk result (λ schema. inferred_columns (out-Record root.now).fields ≡ Some schema.fields) }
+    ensures metadata { IfOk result (λ schema. schema.metadata ≡ []) }
+    ensures ok { OnOk result (HasMapOrUnion (RecordSchema root.now) → ⊥) }
+    ensures err { IfErr result (SchemaRefused (HasMapOrUnion (RecordSchema root.now))) }
+{
     let mut fields = Vec::new(alloc);
     for field in root.fields.as_slice() {
-        let doc = match &field.schema {
-            AvroSchema::Record(record) => record.doc.as_ref(),
-            AvroSchema::Enum(symbols) => symbols.doc.as_ref(),
-            _ => None,
-        };
         let (data_type, is_nullable) = infer_column(alloc, &field.schema)?;
+        let doc = own_doc(field);
         fields.push(named_field(alloc, &field.name, data_type, is_nullable, doc)?)?;
     }
     Ok(Schema {
         fields: Items::from_vec(fields),
         metadata: Metadata::new(alloc),
     })
+}
+
+/// The doc that a field's record or enum has itself.
+fn own_doc(field: &AvroField) -> Option<&Text>
+    ensures { option_copied result ≡ own_doc_of field.now }
+{
+    match &field.schema {
+        AvroSchema::Record(record) => record.doc.as_ref(),
+        AvroSchema::Enum(symbols) => symbols.doc.as_ref(),
+        _ => None,
+    }
 }
 
 /// The field of this name and type, with the doc in its metadata.
@@ -48,7 +70,10 @@ fn named_field(
     data_type: DataType,
     is_nullable: bool,
     doc: Option<&Text>,
-) -> Result<Field> {
+) -> Result<Field>
+    ensures ok { IfOk result (λ f. f ≡ record { name = name.now; data_type = data_type; is_nullable = is_nullable; metadata = doc_entries (option_copied doc.entry) }) }
+    ensures memory { IfErr result (λ e. e ≡ OutOfMemory) }
+{
     let mut metadata = Metadata::new(alloc);
     if let Some(doc) = doc {
         metadata.insert(Text::try_from_str(alloc, DOC)?, doc.try_clone(alloc)?)?;
@@ -59,7 +84,11 @@ fn named_field(
 
 /// The type of a column that holds values of `schema`, and whether it is nullable.
 #[cycle(infer)]
-fn infer_column(alloc: Global, schema: &AvroSchema) -> Result<(DataType, bool)> {
+fn infer_column(alloc: Global, schema: &AvroSchema) -> Result<(DataType, bool)>
+    ensures data_type { IfOk result (λ c. inferred schema.now ≡ Some c.0) }
+    ensures nullable { IfOk result (λ c. c.1 ≡ is_union schema.now) }
+    ensures err { IfErr result (SchemaRefused (inferred schema.now ≡ None)) }
+{
     match schema {
         AvroSchema::Union(members) => Ok((infer_union(alloc, members)?, true)),
         AvroSchema::Record(record) => {
@@ -72,6 +101,7 @@ fn infer_column(alloc: Global, schema: &AvroSchema) -> Result<(DataType, bool)> 
             let field = named_field(alloc, &name, data_type, is_nullable, None)?;
             Ok((DataType::List(Box::new(alloc, field)?), false))
         }
+        AvroSchema::Map(_) => Err(Error::NotYetImplemented(Reason::MapOrUnion)),
         _ => Ok((flat_type(alloc, schema)?, false)),
     }
 }
@@ -79,7 +109,10 @@ fn infer_column(alloc: Global, schema: &AvroSchema) -> Result<(DataType, bool)> 
 /// The type of the member that isn't null, in a union of null and one type that is neither null
 /// nor a union.
 #[cycle(infer)]
-fn infer_union(alloc: Global, members: &Items<AvroSchema>) -> Result<DataType> {
+fn infer_union(alloc: Global, members: &Items<AvroSchema>) -> Result<DataType>
+    ensures data_type { IfOk result (λ t. inferred_member_of members.now ≡ Some t) }
+    ensures err { IfErr result (SchemaRefused (inferred_member_of members.now ≡ None)) }
+{
     match members.as_slice() {
         [AvroSchema::Null, item] | [item, AvroSchema::Null] if is_item(item) => {
             let (data_type, _) = infer_column(alloc, item)?;
@@ -90,13 +123,18 @@ fn infer_union(alloc: Global, members: &Items<AvroSchema>) -> Result<DataType> {
 }
 
 /// Whether a schema may stand beside null in a union.
-fn is_item(schema: &AvroSchema) -> bool {
+fn is_item(schema: &AvroSchema) -> bool
+    ensures { result ≡ is_item_of schema.now }
+{
     !matches!(schema, AvroSchema::Null | AvroSchema::Union(_))
 }
 
 /// The fields of a nested record. Each keeps its Avro field's doc in its metadata.
 #[cycle(infer)]
-fn infer_fields(alloc: Global, avro_fields: &Items<AvroField>) -> Result<Items<Field>> {
+fn infer_fields(alloc: Global, avro_fields: &Items<AvroField>) -> Result<Items<Field>>
+    ensures fields { IfOk result (λ fields. columns_of (λ a. a.doc) avro_fields.now ≡ Some fields) }
+    ensures err { IfErr result (SchemaRefused (columns_of (λ a. a.doc) avro_fields.now ≡ None)) }
+{
     let mut fields = Vec::new(alloc);
     for field in avro_fields.as_slice() {
         let (data_type, is_nullable) = infer_column(alloc, &field.schema)?;
@@ -107,7 +145,11 @@ fn infer_fields(alloc: Global, avro_fields: &Items<AvroField>) -> Result<Items<F
 }
 
 /// The type of a column that holds values of a schema without parts.
-fn flat_type(alloc: Global, schema: &AvroSchema) -> Result<DataType> {
+fn flat_type(alloc: Global, schema: &AvroSchema) -> Result<DataType>
+    requires flat { HasNoParts schema.now }
+    ensures data_type { IfOk result (λ t. inferred schema.now ≡ Some t) }
+    ensures memory { IfErr result (λ e. e ≡ OutOfMemory) }
+{
     match schema {
         AvroSchema::Null => Ok(DataType::Null),
         AvroSchema::Boolean => Ok(DataType::Boolean),
@@ -125,12 +167,13 @@ fn flat_type(alloc: Global, schema: &AvroSchema) -> Result<DataType> {
             Ok(DataType::Dictionary(IntegerType::Int32, text, false))
         }
         AvroSchema::Fixed(fixed) => Ok(fixed_type(fixed)),
-        AvroSchema::Map(_) | AvroSchema::Union(_) | AvroSchema::Record(_) | AvroSchema::Array(_) =>
-            Err(Error::NotYetImplemented(Reason::MapOrUnion)),
+        _ => unreachable!(),
     }
 }
 
-fn int_type(logical: Option<IntLogical>) -> DataType {
+fn int_type(logical: Option<IntLogical>) -> DataType
+    ensures { result ≡ int_type_of logical }
+{
     match logical {
         None => DataType::Int32,
         Some(IntLogical::Date) => DataType::Date32,
@@ -138,7 +181,10 @@ fn int_type(logical: Option<IntLogical>) -> DataType {
     }
 }
 
-fn long_type(alloc: Global, logical: Option<LongLogical>) -> Result<DataType> {
+fn long_type(alloc: Global, logical: Option<LongLogical>) -> Result<DataType>
+    ensures data_type { IfOk result (λ t. t ≡ long_type_of logical) }
+    ensures memory { IfErr result (λ e. e ≡ OutOfMemory) }
+{
     match logical {
         None => Ok(DataType::Int64),
         Some(LongLogical::Time) => Ok(DataType::Time64(TimeUnit::Microsecond)),
@@ -152,17 +198,24 @@ fn long_type(alloc: Global, logical: Option<LongLogical>) -> Result<DataType> {
 }
 
 /// Instants, told in UTC.
-fn utc_type(alloc: Global, unit: TimeUnit) -> Result<DataType> {
+fn utc_type(alloc: Global, unit: TimeUnit) -> Result<DataType>
+    ensures data_type { IfOk result (λ t. t ≡ DataType.Timestamp unit utc) }
+    ensures memory { IfErr result (λ e. e ≡ OutOfMemory) }
+{
     let zone = Text::try_from_str(alloc, UTC)?;
     Ok(DataType::Timestamp(unit, Some(zone)))
 }
 
 /// Readings of a local clock.
-fn local_type(unit: TimeUnit) -> DataType {
+fn local_type(unit: TimeUnit) -> DataType
+    ensures { result ≡ DataType.Timestamp unit None }
+{
     DataType::Timestamp(unit, None)
 }
 
-fn fixed_type(fixed: &Fixed) -> DataType {
+fn fixed_type(fixed: &Fixed) -> DataType
+    ensures { result ≡ fixed_type_of fixed.now.size fixed.now.logical }
+{
     match fixed.logical {
         None => DataType::FixedSizeBinary(fixed.size),
         Some(FixedLogical::Decimal(precision, scale)) => DataType::Decimal(precision, scale),

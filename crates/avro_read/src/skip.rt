@@ -1,11 +1,13 @@
 //! Values that are passed over. Their contents are jumped over and never looked at.
 
-ghost use Rattle.std.specs.Prelude.{◌≡◌, ◌⊎◌, drop};
+ghost use Rattle.std.specs.Prelude.{◌≡◌, ◌⊎◌, ◌+◌, ◌≤◌, length, OnOk};
 ghost use Rattle.avro_grammar.specs.Spells.{IsNull};
 ghost use Rattle.avro_reading.specs.Skip.{skip, jump_at, skip_number as skip_number_at, skip_sized as skip_sized_at};
 ghost use Rattle.avro_reading.specs.Listed.{skip_union_of};
 ghost use Rattle.avro_read.specs.Today.{IsFlatToday, CarriedToday, CarriedMembersOf};
+ghost use Rattle.avro_read.specs.Counting.{Moves};
 ghost use Rattle.avro_read.specs.Decoding.{Passes, passed_member, Jumps};
+ghost use Rattle.avro_read.specs.Room.{HasMemory};
 
 use crate::carried::is_null;
 use crate::decode::{read_length, read_number};
@@ -16,7 +18,9 @@ use avro_file::{AvroSchema, Cursor};
 #[tactic(auto, using(crate::proofs::Sets::unions))]
 pub fn skip_value<'a, C: Cursor<'a>>(cursor: &mut C, schema: &AvroSchema) -> Result<(), DecodeFault>
     requires carried { CarriedToday schema.now }
-    ensures passes { Passes (C.rest cursor.new) result (skip schema.now (C.rest cursor.old)) }
+    ensures memory { HasMemory result }
+    ensures moves { Moves C.rest C.calls cursor.old cursor.new }
+    ensures passes { Passes C.rest C.shown C.calls cursor.old cursor.new result (skip schema.now (C.rest cursor.old)) }
 {
     match schema {
         AvroSchema::Union(members) => skip_union(cursor, members.as_slice()),
@@ -27,7 +31,9 @@ pub fn skip_value<'a, C: Cursor<'a>>(cursor: &mut C, schema: &AvroSchema) -> Res
 #[tactic(auto, using(crate::proofs::Sets::choices))]
 fn skip_union<'a, C: Cursor<'a>>(cursor: &mut C, members: &[AvroSchema]) -> Result<(), DecodeFault>
     requires carried { CarriedMembersOf members.now }
-    ensures passes { Passes (C.rest cursor.new) result (skip_union_of members.now (C.rest cursor.old)) }
+    ensures memory { HasMemory result }
+    ensures moves { Moves C.rest C.calls cursor.old cursor.new }
+    ensures passes { Passes C.rest C.shown C.calls cursor.old cursor.new result (skip_union_of members.now (C.rest cursor.old)) }
 {
     let [first, second] = members else {
         unreachable!()
@@ -48,7 +54,9 @@ fn skip_union<'a, C: Cursor<'a>>(cursor: &mut C, members: &[AvroSchema]) -> Resu
 #[tactic(auto, using(crate::proofs::Sets::nulls))]
 fn skip_member<'a, C: Cursor<'a>>(cursor: &mut C, schema: &AvroSchema) -> Result<(), DecodeFault>
     requires member { IsNull schema.now ⊎ IsFlatToday schema.now }
-    ensures passes { Passes (C.rest cursor.new) result (passed_member schema.now (C.rest cursor.old)) }
+    ensures memory { HasMemory result }
+    ensures moves { Moves C.rest C.calls cursor.old cursor.new }
+    ensures passes { Passes C.rest C.shown C.calls cursor.old cursor.new result (passed_member schema.now (C.rest cursor.old)) }
 {
     if is_null(schema) {
         Ok(())
@@ -60,7 +68,9 @@ fn skip_member<'a, C: Cursor<'a>>(cursor: &mut C, schema: &AvroSchema) -> Result
 #[tactic(auto, using(crate::proofs::Sets::skips))]
 fn skip_flat<'a, C: Cursor<'a>>(cursor: &mut C, schema: &AvroSchema) -> Result<(), DecodeFault>
     requires flat { IsFlatToday schema.now }
-    ensures passes { Passes (C.rest cursor.new) result (skip schema.now (C.rest cursor.old)) }
+    ensures memory { HasMemory result }
+    ensures moves { Moves C.rest C.calls cursor.old cursor.new }
+    ensures passes { Passes C.rest C.shown C.calls cursor.old cursor.new result (skip schema.now (C.rest cursor.old)) }
 {
     match schema {
         AvroSchema::Boolean => skip_bytes(cursor, 1),
@@ -73,7 +83,9 @@ fn skip_flat<'a, C: Cursor<'a>>(cursor: &mut C, schema: &AvroSchema) -> Result<(
 /// Passes a number.
 #[tactic(auto, using(crate::proofs::Sets::skips))]
 fn skip_number<'a, C: Cursor<'a>>(cursor: &mut C) -> Result<(), DecodeFault>
-    ensures passes { Passes (C.rest cursor.new) result (skip_number_at (C.rest cursor.old)) }
+    ensures memory { HasMemory result }
+    ensures moves { Moves C.rest C.calls cursor.old cursor.new }
+    ensures passes { Passes C.rest C.shown C.calls cursor.old cursor.new result (skip_number_at (C.rest cursor.old)) }
 {
     match read_number(cursor) {
         Some(_) => Ok(()),
@@ -84,7 +96,9 @@ fn skip_number<'a, C: Cursor<'a>>(cursor: &mut C) -> Result<(), DecodeFault>
 /// Passes a length and so many bytes, unseen.
 #[tactic(auto, using(crate::proofs::Sets::skips))]
 fn skip_sized<'a, C: Cursor<'a>>(cursor: &mut C) -> Result<(), DecodeFault>
-    ensures passes { Passes (C.rest cursor.new) result (skip_sized_at (C.rest cursor.old)) }
+    ensures memory { HasMemory result }
+    ensures moves { Moves C.rest C.calls cursor.old cursor.new }
+    ensures passes { Passes C.rest C.shown C.calls cursor.old cursor.new result (skip_sized_at (C.rest cursor.old)) }
 {
     match read_length(cursor) {
         Some(length) => skip_bytes(cursor, length),
@@ -95,6 +109,11 @@ fn skip_sized<'a, C: Cursor<'a>>(cursor: &mut C) -> Result<(), DecodeFault>
 /// Passes `count` bytes, unseen.
 #[tactic(auto, using(crate::proofs::Sets::fronts))]
 fn skip_bytes<'a, C: Cursor<'a>>(cursor: &mut C, count: usize) -> Result<(), DecodeFault>
+    ensures memory { HasMemory result }
+    ensures moves { Moves C.rest C.calls cursor.old cursor.new }
+    ensures shown { C.shown cursor.new ≡ C.shown cursor.old }
+    ensures calls { C.calls cursor.new ≤ C.calls cursor.old + 1 }
+    ensures shorter { OnOk result (length (C.rest cursor.new) + count ≡ length (C.rest cursor.old)) }
     ensures jumps { Jumps (C.rest cursor.new) result (jump_at count (C.rest cursor.old)) }
 {
     if cursor.jump(count) {

@@ -1,5 +1,5 @@
 use Rattle.std.proofs.Common.{map}
-use Rattle.arrow_columns.specs.Arrays.{array_type, array_slots}
+use Rattle.arrow_array.specs.Arrays.{array_type, array_slots}
 use Rattle.arrow_builders.specs.MutableArrays.{builder_type, builder_slots}
 use Rattle.avro_read.proofs.Wholes.{DoneSoFar}
 use Rattle.avro_read.proofs.blocks.freeze.Given as goal

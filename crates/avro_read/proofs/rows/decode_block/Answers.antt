@@ -8,10 +8,15 @@ returns-in_err-decode_rows-clause-reads g c =
     let p = err_from_is_err_and c.from_residual.result c.from_residual.ensures.1 in
     rw (p.1, p.2) (block_fault c.args.rows _ _ _ c.requires.enough _ c.in_err-decode_rows.ensures.reads)
 
+pub returns-in_err-decode_rows-clause-roomy : goal.returns-in_err-decode_rows-clause-roomy
+returns-in_err-decode_rows-clause-roomy g c =
+    let p = err_from_is_err_and c.from_residual.result c.from_residual.ensures.1 in
+    rw (p.1, p.2) c.in_err-decode_rows.ensures.roomy
+
 pub returns-then-left-gt0-clause-reads : goal.returns-then-left-gt0-clause-reads
 returns-then-left-gt0-clause-reads g c =
-    block_more c.args.rows _ _ _ _ _ _ c.requires.enough (omega (arith, c.left.ensures, c.if-left-gt0.true)) c.in_ok-decode_rows.ensures.reads
+    block_more _ _ _ _ _ c.args.rows _ _ _ _ c.requires.enough c.in_ok-decode_rows.ensures.reads (omega (arith, c.left.ensures, c.if-left-gt0.true))
 
 pub returns-clause-reads : goal.returns-clause-reads
 returns-clause-reads g c =
-    block_read c.args.rows _ _ _ _ _ _ c.requires.enough (omega (arith, c.left.ensures, c.if-left-gt0.false)) c.in_ok-decode_rows.ensures.reads
+    block_read _ _ _ _ _ c.args.rows _ _ _ _ c.requires.enough c.in_ok-decode_rows.ensures.reads (omega (arith, c.left.ensures, c.if-left-gt0.false))

@@ -1,9 +1,10 @@
 use Rattle.std.proofs.Common.{◌≡◌, ◌≤◌, length, map, drop}
 use Rattle.arrow_builders.specs.MutableArrays.{builder_type, builder_slots, builder_kind}
+use Rattle.avro_file.specs.Number.{MovesForward}
+use Rattle.avro_read.specs.Counting.{passed}
+use Rattle.avro_read.specs.Room.{AllGrow}
 use Rattle.avro_read.specs.Today.{kept_kinds}
 use Rattle.avro_read.proofs.RowSteps.{RowSoFar}
-use Rattle.avro_read.specs.Columns.{counts}
-use Rattle.avro_read.proofs.Risen.{RiseBelow}
 use Rattle.avro_read.proofs.rows.decode_row.Given as goal
 
 abbrev pub invariant-loop-i : goal.invariant-loop-i
@@ -13,6 +14,7 @@ invariant-loop-i g l = record {
   few : l.column ≤ l.i;
   within : l.column ≤ length l.fn.builders;
   left : drop l.column (map builder_kind l.fn.builders) ≡ kept_kinds (drop l.i l.avro_fields) (drop l.i l.projection);
-  reads : RowSoFar l.column l.i l.avro_fields l.projection (map builder_slots l.fn.builders) (map builder_slots l.builders) (g.C.Cursor.rest l.fn.cursor) (g.C.Cursor.rest l.cursor);
-  grows : RiseBelow l.column (counts l.fn.builders) (counts l.builders);
+  reads : RowSoFar g.C.Cursor.rest g.C.Cursor.shown g.C.Cursor.calls l.fn.cursor l.cursor l.column l.i l.avro_fields l.projection (map builder_slots l.fn.builders) (map builder_slots l.builders);
+  forward : MovesForward (g.C.Cursor.rest l.fn.cursor) (g.C.Cursor.rest l.cursor);
+  grows : AllGrow (passed (g.C.Cursor.rest l.fn.cursor) (g.C.Cursor.rest l.cursor)) l.fn.builders l.builders;
 }
