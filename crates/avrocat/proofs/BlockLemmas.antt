@@ -1,8 +1,8 @@
 -- The lines of the kept fields of a block.
 use Rattle.std.proofs.Common.{◌≡◌, ℕ, suc, Bool, true, false, List, [], ◌∷◌, ◌++◌, length, map, refl, sym, ap, ◌∙◌, arith}
 use Rattle.arrow_types.specs.declared.types.Field.{Field}
-use Rattle.arrow_columns.specs.declared.array.Array.{Array}
-use Rattle.arrow_columns.specs.Arrays.{array_type, array_slots}
+use Rattle.arrow_array.specs.declared.array.Array.{Array}
+use Rattle.arrow_array.specs.Arrays.{array_type, array_slots}
 use Rattle.avro_file.specs.declared.schema.AvroField.{AvroField}
 use Rattle.avro_reading.specs.ValidBlock.{kept}
 use Rattle.avro_read.specs.Columns.{AreColumns}

@@ -2,7 +2,7 @@
 use Rattle.std.proofs.Common.{◌≡◌, ℕ, zero, suc, ◌+◌, ◌<◌, ◌==◌, List, [], ◌∷◌, ◌++◌, length, take, map, codes, if◌then◌else◌, sym, ap, ◌∙◌, refl, append_assoc, add-one, arith, false}
 use Rattle.std.proofs.lemmas.Bool.Decides.{nat_tests}
 use Rattle.arrow_types.specs.declared.slot.Slot.{Slot}
-use Rattle.arrow_columns.specs.Slots.{slot_at}
+use Rattle.arrow_array.specs.Slots.{slot_at}
 use Rattle.avrocat.specs.Shown.{joined, slot_text}
 
 next : (xs : List Slot) (i : ℕ) → i < length xs

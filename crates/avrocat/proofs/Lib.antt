@@ -1,6 +1,11 @@
 pub mod BlockLemmas
+pub mod ColumnLemmas
+pub mod Endings
 pub mod Joined
+pub mod OneMeaning
+pub mod RefusalLemmas
 pub mod ShownLemmas
+pub mod SlotTexts
 pub mod Taken
 pub mod Told
 pub mod WordsLemmas

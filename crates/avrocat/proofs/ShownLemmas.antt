@@ -1,8 +1,8 @@
 -- The lines of columns, one after another.
 use Rattle.std.proofs.Common.{◌≡◌, ℕ, zero, suc, ◌+◌, ◌<◌, List, [], ◌∷◌, ◌++◌, length, take, map, get_or, sym, ap, ◌∙◌, append_assoc, add-one, arith}
 use Rattle.std.proofs.lemmas.List.{append-nil}
-use Rattle.arrow_columns.specs.declared.array.Array.{Array}
-use Rattle.arrow_columns.specs.Arrays.{array_slots}
+use Rattle.arrow_array.specs.declared.array.Array.{Array}
+use Rattle.arrow_array.specs.Arrays.{array_slots}
 use Rattle.avrocat.specs.Shown.{line_of, shown}
 
 next : (names : List (List ℕ)) (columns : List Array) (i : ℕ) (n : List ℕ) (a : Array) → i < length names → length names ≡ length columns

@@ -24,13 +24,14 @@ one_end : (xs ys : List ℕ) (x y : ℕ) → xs ++ (x ∷ []) ≡ ys ++ (y ∷ [
 one_end xs ys x y e = sym (last_is 0 xs x) ∙ ap (last_or 0) e ∙ last_is 0 ys y
 
 -- a base ends with a letter
-base_end : (base front : List ℕ) (schema : Schema) (x : ℕ) → x < 64 → IsBase base schema → base ≡ front ++ (x ∷ []) → ⊥
-base_end base front schema x low (inl b) e = let same : 110 ≡ x = one_end (codes "boolea") front 110 x (sym b.0 ∙ e) in omega (arith, low, same)
-base_end base front schema x low (inr (inl b)) e = let same : 116 ≡ x = one_end (codes "in") front 116 x (sym b.0 ∙ e) in omega (arith, low, same)
-base_end base front schema x low (inr (inr (inl b))) e = let same : 103 ≡ x = one_end (codes "lon") front 103 x (sym b.0 ∙ e) in omega (arith, low, same)
-base_end base front schema x low (inr (inr (inr b))) e = let same : 103 ≡ x = one_end (codes "strin") front 103 x (sym b.0 ∙ e) in omega (arith, low, same)
+pub base_end : (base front : List ℕ) (schema : Schema) (x : ℕ) → x < 64 → IsBase base schema → base ≡ front ++ (x ∷ []) → ⊥
+base_end base front schema x low (inl b) e = let same : 108 ≡ x = one_end (codes "nul") front 108 x (sym b.0 ∙ e) in omega (arith, low, same)
+base_end base front schema x low (inr (inl b)) e = let same : 110 ≡ x = one_end (codes "boolea") front 110 x (sym b.0 ∙ e) in omega (arith, low, same)
+base_end base front schema x low (inr (inr (inl b))) e = let same : 116 ≡ x = one_end (codes "in") front 116 x (sym b.0 ∙ e) in omega (arith, low, same)
+base_end base front schema x low (inr (inr (inr (inl b)))) e = let same : 103 ≡ x = one_end (codes "lon") front 103 x (sym b.0 ∙ e) in omega (arith, low, same)
+base_end base front schema x low (inr (inr (inr (inr b)))) e = let same : 103 ≡ x = one_end (codes "strin") front 103 x (sym b.0 ∙ e) in omega (arith, low, same)
 
-differ : (xs ys : List ℕ) → xs ++ (33 ∷ []) ≡ ys ++ (63 ∷ []) → ⊥
+pub differ : (xs ys : List ℕ) → xs ++ (33 ∷ []) ≡ ys ++ (63 ∷ []) → ⊥
 differ xs ys e = let same : 33 ≡ 63 = one_end xs ys 33 63 e in omega (arith, same)
 
 pub no_null_first : (word base : List ℕ) → word ≡ base ++ (63 ∷ []) → ((s : Schema) → IsBase base s → ⊥) → (s : Schema) → IsType word s → ⊥
@@ -62,11 +63,11 @@ suffix_is c s x low (n, (e, at, b), is, len) =
 pub prefix_is : (c : ℕ) (s x : List ℕ) → c < 128 → StripsPrefix (FindsCharPrefix c) s x → s ≡ c ∷ x
 prefix_is c s x low (n, at, is, len) = at.split ∙ ap (λ z. z ++ drop n s) (encode_ascii c low) ∙ ap (λ z. c ∷ z) (sym is)
 
-abbrev head_or : ℕ → List ℕ → ℕ
+abbrev pub head_or : ℕ → List ℕ → ℕ
 head_or d [] = d
 head_or d (x ∷ xs) = x
 
-abbrev words_head : List ℕ → List (List ℕ) → List ℕ
+abbrev pub words_head : List ℕ → List (List ℕ) → List ℕ
 words_head d [] = d
 words_head d (x ∷ xs) = x
 
@@ -132,7 +133,7 @@ named_parts word front back p q field (name, doc, (type, is, e)) =
     let b : back ≡ type = q ∙ ap (after_first (λ b. b == 61)) e ∙ after_mark field.name type name.1 in
     (subst IsName (sym a) name, subst (λ z. IsType z field.schema) (sym b) is)
 
-tilde_name : (name rest back : List ℕ) → IsName name → 126 ∷ back ≡ name ++ rest → ⊥
+pub tilde_name : (name rest back : List ℕ) → IsName name → 126 ∷ back ≡ name ++ rest → ⊥
 tilde_name [] rest back h e = absurd (omega (arith, h.0))
 tilde_name (b ∷ bs) rest back h e = let same : 126 ≡ b = ap (head_or 0) e in false_true (subst (λ z. IsTrue (list_all name_byte (z ∷ bs))) (sym same) h.1)
 

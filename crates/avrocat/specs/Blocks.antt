@@ -1,10 +1,11 @@
 -- What is shown of a block.
 use Rattle.std.specs.Prelude.{◌≡◌, ℕ, List, length, map, Bool, Option}
-use Rattle.std.specs.Io.KnownBytes.{Consumes, IsAtEnd, Appends}
+use Rattle.std.specs.Io.KnownBytes.{Appends}
 use Rattle.arrow_types.specs.declared.slot.Slot.{Slot}
 use Rattle.avro_file.specs.declared.schema.AvroField.{AvroField}
 use Rattle.avro_reading.specs.ValidBlock.{kept}
 use Rattle.avro_read.specs.Columns.{AreColumns}
+use Rattle.avrocat.specs.Input.{TakesAll}
 use Rattle.avrocat.specs.Shown.{shown}
 use Rattle.avrocat.specs.Words.{IsBlock}
 
@@ -15,13 +16,12 @@ pub record ShowsBlock (rows : ℕ) (fields : List AvroField) (projection : List 
   pub each : length columns ≡ length (kept fields projection)
   pub lines : text ≡ shown (map (λ f. f.name) (kept fields projection)) columns
 
--- The source was read to its end as so many rows of the fields, and the sink got the lines of the kept
--- ones. Of a source or a sink that tells its bytes, these are the bytes.
+-- The source's whole bytes are so many rows of the fields, and the sink got the lines of the kept ones.
+-- Of a source or a sink that tells its bytes, these are the bytes.
 pub record BlockDone (left left_after held held_after : Option (List ℕ)) (rows : ℕ) (fields : List AvroField) (projection : List Bool) : Type 0 where
   pub bytes : List ℕ
   pub text : List ℕ
-  pub taken : Consumes left left_after bytes
-  pub whole : IsAtEnd left_after
+  pub read : TakesAll left left_after bytes
   pub shows : ShowsBlock rows fields projection bytes text
   pub written : Appends held held_after text
 

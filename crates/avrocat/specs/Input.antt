@@ -1,7 +1,27 @@
 -- What a source gave.
-use Rattle.std.specs.Prelude.{◌≡◌, ℕ, List, length, Option}
-use Rattle.std.specs.Io.KnownBytes.{Consumes}
+use Rattle.std.specs.Prelude.{◌≡◌, ℕ, ◌+◌, ◌≤◌, ⊤, None, List, length, Option}
+use Rattle.std.specs.Io.KnownBytes.{Consumes, IsAtEnd}
+use Rattle.arrow_lists.specs.declared.error.Error.{Error}
+use Rattle.arrow_lists.specs.declared.error.Error.TheVariants.{LimitExceeded, ReadFault, OutOfMemory}
+use Rattle.avrocat.specs.Changes.{Change, Failed}
 
--- the bytes that were told lost this many at the front
-abbrev pub ConsumesCount : Option (List ℕ) → Option (List ℕ) → ℕ → Type 0
-ConsumesCount old new count = (bytes : List ℕ) × (length bytes ≡ count) × Consumes old new bytes
+-- the most bytes that the program takes
+abbrev pub byte_limit : ℕ
+byte_limit = 1073741824
+
+-- All bytes of a source, no more than the limit. Of a source that tells its bytes, these are the bytes.
+pub record TakesAll (left left_after : Option (List ℕ)) (bytes : List ℕ) : Type 0 where
+  pub taken : Consumes left left_after bytes
+  pub whole : IsAtEnd left_after
+  pub within : length bytes ≤ byte_limit
+
+-- one byte more than the limit was taken
+abbrev pub PassesLimit : Option (List ℕ) → Option (List ℕ) → Type 0
+PassesLimit left left_after = (bytes : List ℕ) × (length bytes ≡ byte_limit + 1) × Consumes left left_after bytes
+
+-- why a source is not read to its end, by the error that says so
+abbrev pub NotRead : Change → Error → Type 0
+NotRead source (ReadFault None) = Failed source
+NotRead source LimitExceeded = PassesLimit source.bytes source.bytes_after
+NotRead source OutOfMemory = ⊤
+NotRead source _ = ⊥

@@ -1,8 +1,11 @@
 -- What the program says of a command that it didn't carry out.
-use Rattle.std.specs.Prelude.{ℕ, List, [], ◌++◌, codes, Some, decimal}
+use Rattle.std.specs.Prelude.{ℕ, ◌⊎◌, List, [], ◌++◌, codes, Some, decimal}
+use Rattle.std.specs.Io.KnownBytes.{Appends}
+use Rattle.arrow_base.specs.Outside.{AppendsPrefix}
 use Rattle.arrow_lists.specs.declared.error.Error.{Error}
 use Rattle.arrow_lists.specs.declared.error.Error.TheVariants.{InvalidArgumentError, NotYetImplemented, ExternalFormat, OutOfSpec, ReadFault}
 use Rattle.arrow_lists.specs.Errors.{error_name, reason_name}
+use Rattle.avrocat.specs.Changes.{Change, Failed}
 
 -- of words that are no command
 abbrev pub usage_note : List ℕ
@@ -20,3 +23,7 @@ error_note (ExternalFormat reason) = note_line (codes "ExternalFormat") (codes "
 error_note (OutOfSpec reason) = note_line (codes "OutOfSpec") (codes ": ") (reason_name reason)
 error_note (ReadFault (Some line)) = note_line (codes "ReadFault") (codes ": line ") (decimal line)
 error_note error = note_line (error_name error) [] []
+
+-- the text was written, or where a write failed, a prefix of it
+abbrev pub Notes : Change → List ℕ → Type 0
+Notes note text = Appends note.bytes note.bytes_after text ⊎ (AppendsPrefix note.bytes note.bytes_after text × Failed note)

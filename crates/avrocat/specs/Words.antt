@@ -19,8 +19,8 @@ abbrev pub IsName : List ℕ → Type 0
 IsName word = (1 ≤ length word) × IsTrue (list_all name_byte word)
 
 abbrev pub IsBase : List ℕ → Schema → Type 0
-IsBase word schema = ((word ≡ codes "boolean") × (schema ≡ Boolean)) ⊎ (((word ≡ codes "int") × (schema ≡ Int None))
-    ⊎ (((word ≡ codes "long") × (schema ≡ Long None)) ⊎ ((word ≡ codes "string") × (schema ≡ String None))))
+IsBase word schema = ((word ≡ codes "null") × (schema ≡ Null)) ⊎ (((word ≡ codes "boolean") × (schema ≡ Boolean)) ⊎ (((word ≡ codes "int") × (schema ≡ Int None))
+    ⊎ (((word ≡ codes "long") × (schema ≡ Long None)) ⊎ ((word ≡ codes "string") × (schema ≡ String None)))))
 
 -- a base with '?' behind it is a union with null first
 abbrev pub IsNullFirst : List ℕ → Schema → Type 0

@@ -104,6 +104,7 @@ fn read_base(word: &str) -> Result<AvroSchema, WordsFault>
     ensures usage { result ≡ Err Usage → (schema : Schema) → IsBase word.now schema → ⊥ }
 {
     match word {
+        "null" => Ok(AvroSchema::Null),
         "boolean" => Ok(AvroSchema::Boolean),
         "int" => Ok(AvroSchema::Int(None)),
         "long" => Ok(AvroSchema::Long(None)),

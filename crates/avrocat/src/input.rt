@@ -1,10 +1,9 @@
 //! A source, read to its end.
 
-ghost use Rattle.std.specs.Prelude.{◌≡◌, ◌≤◌, ◌+◌, ◌⊎◌, None, Err, IfOk, IfErr, OnOk, vec_len};
-ghost use Rattle.std.specs.Io.KnownBytes.{Consumes, IsAtEnd};
-ghost use Rattle.arrow_base.specs.Outside.{RoseOrFull};
-ghost use Rattle.arrow_lists.specs.declared.error.Error.TheVariants.{ReadFault, LimitExceeded, OutOfMemory};
-ghost use Rattle.avrocat.specs.Input.{ConsumesCount};
+ghost use Rattle.std.specs.Prelude.{◌≡◌, ◌≤◌, IfOk, IfErr, vec_len};
+ghost use Rattle.arrow_lists.specs.declared.error.Error.TheVariants.{OutOfMemory};
+ghost use Rattle.avrocat.specs.Changes.{change_of};
+ghost use Rattle.avrocat.specs.Input.{TakesAll, NotRead};
 
 use arrow_base::{Error, Result, Source};
 use std::alloc::Global;
@@ -26,13 +25,8 @@ fn new_piece(alloc: Global) -> Result<Vec<u8>>
 /// All bytes of the source. `LimitExceeded` where there are more than the limit, `ReadFault` where
 /// a read failed.
 pub fn read_all<S: Source>(alloc: Global, source: &mut S) -> Result<Vec<u8>>
-    ensures taken { IfOk result (λ bytes. Consumes (S.left source.old) (S.left source.new) bytes.items) }
-    ensures whole { OnOk result (IsAtEnd (S.left source.new)) }
-    ensures within { IfOk result (λ bytes. vec_len bytes ≤ BYTE_LIMIT) }
-
-    ensures only { IfErr result (λ e. (e ≡ ReadFault None) ⊎ ((e ≡ LimitExceeded) ⊎ (e ≡ OutOfMemory))) }
-    ensures fault { result ≡ Err (ReadFault None) → RoseOrFull (S.faults source.old) (S.faults source.new) }
-    ensures limit { result ≡ Err LimitExceeded → ConsumesCount (S.left source.old) (S.left source.new) (BYTE_LIMIT + 1) }
+    ensures ok { IfOk result (λ bytes. TakesAll (S.left source.old) (S.left source.new) bytes.items) }
+    ensures err { IfErr result (NotRead (change_of (S.left source.old) (S.faults source.old) (S.left source.new) (S.faults source.new))) }
     ensures never_falls { S.faults source.old ≤ S.faults source.new }
     ensures same { S.whose source.new ≡ S.whose source.old }
 {

@@ -1,17 +1,43 @@
 //! The lines that show columns: a name, a colon, and the slots between brackets.
-ghost use Rattle.std.specs.Prelude.{◌≡◌, ◌<◌, ◌≤◌, ◌++◌, ◌∷◌, [], length, map, take, codes, IfErr, OnOk, if◌then◌else◌, ◌==◌};
+ghost use Rattle.std.specs.Prelude.{◌≡◌, ◌+◌, ◌<◌, ◌≤◌, ◌++◌, ◌∷◌, [], length, map, take, codes, IfErr, OnOk, if◌then◌else◌, ◌==◌};
+ghost use Rattle.std.specs.Char.{digit_char};
+ghost use Rattle.std.specs.Fmt.{signed_decimal};
 ghost use Rattle.arrow_lists.specs.declared.error.Error.TheVariants.{OutOfMemory};
+ghost use Rattle.arrow_types.specs.declared.slot.Slot.TheVariants.{Listed, Octets};
 ghost use Rattle.arrow_base.specs.Outside.{last_count};
 ghost use Rattle.arrow_base.specs.WrittenString.{json_string};
-ghost use Rattle.arrow_columns.specs.Arrays.{array_slots};
-ghost use Rattle.arrow_columns.specs.Slots.{slot_at};
-ghost use Rattle.avrocat.specs.Shown.{line_of, shown, slot_text, joined};
+ghost use Rattle.arrow_array.specs.Arrays.{array_slots};
+ghost use Rattle.arrow_array.specs.Lent.{IsPart, part_slots};
+ghost use Rattle.arrow_array.specs.Slots.{slot_at};
+ghost use Rattle.arrow_array.specs.Structs.{HaveRoom, record_at};
+ghost use Rattle.arrow_columns.specs.Cells.{cell_slot, interval_slot, CellFits};
+ghost use Rattle.avrocat.specs.Shown.{hexadecimal, line_of, shown, slot_text, joined};
 
 use arrow_base::utf8::write_str;
 use arrow_base::{Error, Failed, Result, Sink, Text};
-use arrow_columns::Array;
-use itoa::Buffer;
+use arrow_columns::{Array, Cell, Part, cell_at};
+use arrow_types::MonthsDaysNs;
+use itoa::{Buffer, Integer};
 use std::alloc::Global;
+
+/// A hexadecimal digit.
+fn hexadecimal_digit(digit: u8) -> u8
+    requires { digit < 16 }
+    ensures { result ≡ digit_char digit }
+{
+    if digit < 10 {
+        b'0' + digit
+    } else {
+        b'a' - 10 + digit
+    }
+}
+
+/// A byte as two hexadecimal digits.
+fn hexadecimal(byte: u8) -> [u8; 2]
+    ensures { result ≡ hexadecimal byte }
+{
+    [hexadecimal_digit(byte / 16), hexadecimal_digit(byte % 16)]
+}
 
 /// Text that grows in memory. As a sink it fails only where there is no memory.
 #[derive(Drop)]
@@ -82,6 +108,7 @@ impl Lines {
         Ok(())
     }
 
+    /// Adds the slots of a column, with commas between them.
     fn push_slots(&mut self, column: &Array) -> Result<()>
         ensures ok { OnOk result (self.new.text.items ≡ self.old.text.items ++ joined (map slot_text (array_slots column.now))) }
         ensures memory { IfErr result (λ e. e ≡ OutOfMemory) }
@@ -94,20 +121,108 @@ impl Lines {
     }
 
     /// Adds the text of slot `i`.
+    #[cycle(slots)]
     fn push_slot(&mut self, column: &Array, i: usize) -> Result<()>
         requires { i < length (array_slots column.now) }
         ensures ok { OnOk result (self.new.text.items ≡ self.old.text.items ++ slot_text (slot_at (array_slots column.now) i)) }
         ensures memory { IfErr result (λ e. e ≡ OutOfMemory) }
     {
-        if !column.is_valid(i) {
-            return self.push(b"null");
+        let cell = cell_at(column, i);
+        self.push_cell(&cell)
+    }
+
+    /// Adds the text of what a slot holds.
+    #[cycle(slots)]
+    fn push_cell(&mut self, cell: &Cell<'_>) -> Result<()>
+        requires { CellFits cell.now }
+        ensures ok { OnOk result (self.new.text.items ≡ self.old.text.items ++ slot_text (cell_slot cell.now)) }
+        ensures memory { IfErr result (λ e. e ≡ OutOfMemory) }
+    {
+        match cell {
+            Cell::Null => self.push(b"null"),
+            Cell::Truth(truth) => self.push_truth(*truth),
+            Cell::Whole(number) => self.push_whole(*number),
+            Cell::Interval(interval) => self.push_interval(*interval),
+            Cell::Words(text) => self.push_string(text),
+            Cell::Octets(bytes) => self.push_octets(bytes),
+            Cell::Listed(part) => self.push_list(part),
+            Cell::Fields(children, i) => self.push_record(children, *i),
         }
-        match column {
-            Array::Boolean(array) => self.push_truth(array.value(i)),
-            Array::Int32(array) => self.push(Buffer::new().format(array.value(i)).as_bytes()),
-            Array::Int64(array) => self.push(Buffer::new().format(array.value(i)).as_bytes()),
-            Array::Utf8(array) => self.push_string(array.value(i)),
+    }
+
+    /// Adds the text of a list.
+    #[cycle(slots)]
+    fn push_list(&mut self, part: &Part<'_>) -> Result<()>
+        requires { IsPart part.now }
+        ensures ok { OnOk result (self.new.text.items ≡ self.old.text.items ++ slot_text (Listed (part_slots part.now))) }
+        ensures memory { IfErr result (λ e. e ≡ OutOfMemory) }
+    {
+        self.push(b"[")?;
+        for k in 0..part.end - part.start {
+            self.push_comma(k)?;
+            self.push_slot(part.array, part.start + k)?;
         }
+        self.push(b"]")
+    }
+
+    /// Adds the text of the record of the slots at place `i`.
+    #[cycle(slots)]
+    fn push_record(&mut self, children: &[Array], i: usize) -> Result<()>
+        requires { HaveRoom (i + 1) children.now }
+        ensures ok { OnOk result (self.new.text.items ≡ self.old.text.items ++ slot_text (record_at (map array_slots children.now) i)) }
+        ensures memory { IfErr result (λ e. e ≡ OutOfMemory) }
+    {
+        self.push(b"{")?;
+        for k in 0..children.len() {
+            self.push_comma(k)?;
+            self.push_slot(&children[k], i)?;
+        }
+        self.push(b"}")
+    }
+
+    /// Adds a number in decimal.
+    fn push_number<I: Integer>(&mut self, number: I) -> Result<()>
+        ensures ok { OnOk result (self.new.text.items ≡ self.old.text.items ++ I.text number) }
+        ensures memory { IfErr result (λ e. e ≡ OutOfMemory) }
+    {
+        self.push(Buffer::new().format(number).as_bytes())
+    }
+
+    /// Adds a whole number in decimal. Most fit 64 bits, which print faster.
+    fn push_whole(&mut self, number: i128) -> Result<()>
+        ensures ok { OnOk result (self.new.text.items ≡ self.old.text.items ++ signed_decimal number) }
+        ensures memory { IfErr result (λ e. e ≡ OutOfMemory) }
+    {
+        match i64::try_from(number) {
+            Ok(short) => self.push_number(short),
+            Err(_) => self.push_number(number),
+        }
+    }
+
+    /// Adds a length of time by the calendar: a record of its months, days and nanoseconds.
+    fn push_interval(&mut self, interval: MonthsDaysNs) -> Result<()>
+        ensures ok { OnOk result (self.new.text.items ≡ self.old.text.items ++ slot_text (interval_slot interval)) }
+        ensures memory { IfErr result (λ e. e ≡ OutOfMemory) }
+    {
+        self.push(b"{")?;
+        self.push_number(interval.months)?;
+        self.push(b",")?;
+        self.push_number(interval.days)?;
+        self.push(b",")?;
+        self.push_number(interval.ns)?;
+        self.push(b"}")
+    }
+
+    /// Adds bytes in hexadecimal.
+    fn push_octets(&mut self, bytes: &[u8]) -> Result<()>
+        ensures ok { OnOk result (self.new.text.items ≡ self.old.text.items ++ slot_text (Octets bytes.now)) }
+        ensures memory { IfErr result (λ e. e ≡ OutOfMemory) }
+    {
+        self.push(b"0x")?;
+        for i in 0..bytes.len() {
+            self.push(&hexadecimal(bytes[i]))?;
+        }
+        Ok(())
     }
 
     /// Adds the comma before the slot at this place.

@@ -1,6 +1,12 @@
 //! `avrocat`: Avro and JSON records into columns and back, on standard input and output.
 #![tactic(auto)]
 
+ghost use Rattle.std.specs.Prelude.{◌≡◌, [], length, map, drop, string_bytes, IfOk, IfErr, IsErr};
+ghost use Rattle.std.specs.IoError.{error_kind};
+ghost use Rattle.std.specs.Vec.Iter.{into_iter_items, into_iter_len};
+ghost use Rattle.std.specs.declared.io.ErrorKind.TheVariants.{OutOfMemory};
+
+mod columns;
 mod field;
 mod input;
 mod lines;
@@ -13,22 +19,28 @@ mod words;
 use arrow_base::{StdSink, StdSource, Text};
 pub use run::run;
 use std::alloc::{AllocError, Global};
+use std::env::{self, Args};
+use std::io::{self, ErrorKind};
 use std::process::ExitCode;
-use std::{env, io};
 
 /// The status where there is no memory for the words.
 const OUT_OF_MEMORY: u8 = 10;
 
-/// The arguments after the program's name; none where one of them is no text.
-fn arguments(rt: &HostRuntime) -> Result<Vec<Text>, AllocError> {
-    let alloc = rt.alloc();
+/// The words: the arguments after the program's name, or none where one of them is no text.
+fn words_of(alloc: Global, given: io::Result<Args>) -> Result<Vec<Text>, AllocError>
+    // std doesn't say of an iterator that its length is that of its items.
+    ensures words { IfOk given (λ arguments. into_iter_len arguments ≡ length (into_iter_items arguments)
+        → IfOk result (λ words. words.items ≡ map string_bytes (drop 1 (into_iter_items arguments)))) }
+    ensures none { IfErr given (λ _. IfOk result (λ words. words.items ≡ [])) }
+    ensures memory { IfErr given (λ error. IsErr result → error_kind error ≡ OutOfMemory) }
+{
     let mut words = Vec::new(alloc);
-    let given = match env::args(rt) {
-        Ok(given) => given,
-        Err(error) if error.kind() == io::ErrorKind::OutOfMemory => return Err(AllocError),
+    let arguments = match given {
+        Ok(arguments) => arguments,
+        Err(error) if error.kind() == ErrorKind::OutOfMemory => return Err(AllocError),
         Err(_) => return Ok(words),
     };
-    for argument in given.skip(1) {
+    for argument in arguments.skip(1) {
         match Text::try_from_str(alloc, argument.as_str()) {
             Ok(word) => words.push(word)?,
             Err(_) => return Err(AllocError),
@@ -38,7 +50,7 @@ fn arguments(rt: &HostRuntime) -> Result<Vec<Text>, AllocError> {
 }
 
 fn main(rt: HostRuntime) -> ExitCode {
-    let Ok(words) = arguments(&rt) else {
+    let Ok(words) = words_of(rt.alloc(), env::args(&rt)) else {
         return ExitCode::from(OUT_OF_MEMORY);
     };
     let mut source = StdSource::new(rt.stdin());

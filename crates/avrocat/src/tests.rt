@@ -69,6 +69,11 @@ fn valid_blocks_are_shown(rt: HostRuntime) -> Result<(), Fail> {
         ("block 1 a=long", b"\x80\x01".as_slice(), "a:[64]\n"),
         ("block 1 a=long", b"\x80\x81\x00".as_slice(), "a:[64]\n"),
         (
+            "block 1 a=long",
+            b"\xff\xff\xff\xff\xff\xff\xff\xff\xff\x01".as_slice(),
+            "a:[-9223372036854775808]\n",
+        ),
+        (
             "block 1 ~a=int b=int",
             b"\x80\x80\x80\x80\x10\x02".as_slice(),
             "b:[1]\n",
@@ -96,8 +101,9 @@ fn valid_blocks_are_shown(rt: HostRuntime) -> Result<(), Fail> {
 }
 
 #[test]
-fn other_bytes_are_refused_with_their_cause(rt: HostRuntime) -> Result<(), Fail> {
+fn other_bytes_and_types_are_refused_with_their_cause(rt: HostRuntime) -> Result<(), Fail> {
     let bytes_fault = "avrocat: ExternalFormat: BlockBytes\n";
+    let type_fault = "avrocat: NotYetImplemented: NotCarried\n";
     for (line, bytes, status, note) in [
         (
             "block 2 a=int b=string?",
@@ -123,6 +129,12 @@ fn other_bytes_are_refused_with_their_cause(rt: HostRuntime) -> Result<(), Fail>
             4,
             "avrocat: ExternalFormat: Rows\n",
         ),
+        (
+            "block 1 a=long",
+            b"\xff\xff\xff\xff\xff\xff\xff\xff\xff\x02".as_slice(),
+            4,
+            bytes_fault,
+        ),
         ("block 1 a=boolean", b"\x02".as_slice(), 4, bytes_fault),
         (
             "block 1 ~a=int? b=int",
@@ -136,6 +148,13 @@ fn other_bytes_are_refused_with_their_cause(rt: HostRuntime) -> Result<(), Fail>
             b"".as_slice(),
             3,
             "avrocat: NotYetImplemented: NoField\n",
+        ),
+        ("block 1 a=null", b"".as_slice(), 3, type_fault),
+        (
+            "block 1 a=int b=null!",
+            b"\x02\x02".as_slice(),
+            3,
+            type_fault,
         ),
     ] {
         let answer = answer_of(rt.alloc(), line, bytes, 0, 0)?;

@@ -1,6 +1,6 @@
 -- Each turn adds the line of one column.
 use Rattle.std.proofs.Common.{◌≡◌, ◌∙◌, ◌++◌, ap, get_or}
-use Rattle.arrow_columns.specs.Arrays.{array_slots}
+use Rattle.arrow_array.specs.Arrays.{array_slots}
 use Rattle.avrocat.specs.Shown.{line_of}
 use Rattle.avrocat.proofs.ShownLemmas.{lines_more}
 use Rattle.avrocat.proofs.lines.Lines.push_columns.Goals as goal

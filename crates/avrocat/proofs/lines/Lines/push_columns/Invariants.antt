@@ -1,6 +1,6 @@
 -- The text has grown by the lines before place i.
 use Rattle.std.proofs.Common.{◌≡◌, ◌++◌, map, take}
-use Rattle.arrow_columns.specs.Arrays.{array_slots}
+use Rattle.arrow_array.specs.Arrays.{array_slots}
 use Rattle.avrocat.specs.Shown.{shown}
 use Rattle.avrocat.proofs.lines.Lines.push_columns.Given as goal
 

@@ -1,6 +1,6 @@
 -- Each turn adds a comma where one is wanted, and a slot.
 use Rattle.std.proofs.Common.{◌<◌, length, arith}
-use Rattle.arrow_columns.specs.Arrays.{array_slots}
+use Rattle.arrow_array.specs.Arrays.{array_slots}
 use Rattle.avrocat.proofs.Joined.{joined_more}
 use Rattle.avrocat.proofs.lines.Lines.push_slots.Goals as goal
 

@@ -1,6 +1,6 @@
 -- The text has grown by the slots before place i.
 use Rattle.std.proofs.Common.{◌≡◌, ◌++◌, map, take}
-use Rattle.arrow_columns.specs.Arrays.{array_slots}
+use Rattle.arrow_array.specs.Arrays.{array_slots}
 use Rattle.avrocat.specs.Shown.{slot_text, joined}
 use Rattle.avrocat.proofs.lines.Lines.push_slots.Given as goal
 
