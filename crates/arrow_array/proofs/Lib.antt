@@ -1,3 +1,4 @@
+pub mod Boundaries
 pub mod Cuts
 pub mod Dictionaries
 pub mod Fits

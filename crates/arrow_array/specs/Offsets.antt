@@ -1,6 +1,6 @@
 -- Offsets into a buffer, and the part between two of them (Arrow columnar format, "Variable-size Binary Layout").
 use Rattle.std.specs.Prelude.{ℕ, ◌+◌, ◌-◌, ◌<◌, ◌≤◌, ℤ, pos, negsuc, List, [], length, take, drop, slice_index_or}
-use Rattle.std.specs.Str.{IsUtf8}
+use Rattle.std.specs.Str.{IsUtf8, IsCharBoundary}
 
 -- offset k of a list of offsets
 abbrev pub offset_at : List ℤ → ℕ → ℤ
@@ -34,3 +34,13 @@ pub record IsOffsets (offsets : List ℤ) (n : ℕ) : Type 0 where
 -- the bytes between each two neighbouring offsets are UTF-8
 abbrev pub AreTexts : List ℤ → List ℕ → Type 0
 AreTexts offsets bytes = (k : ℕ) → k + 1 < length offsets → IsUtf8 (part offsets bytes k)
+
+-- in a text whose first byte lies at place start, an offset stands between two characters, at the first, or behind the last
+abbrev pub IsBoundary : List ℕ → ℕ → ℤ → Type 0
+IsBoundary text start (pos a) = IsCharBoundary text (a - start)
+IsBoundary text start (negsuc a) = ⊥
+
+-- an offset isn't before a place
+abbrev pub IsFrom : ℕ → ℤ → Type 0
+IsFrom start (pos a) = start ≤ a
+IsFrom start (negsuc a) = ⊥

@@ -1,5 +1,5 @@
 //! Offsets, which cut a buffer into parts (Arrow columnar format, "Variable-size Binary Layout").
-ghost use Rattle.std.specs.Prelude.{◌≡◌, ◌+◌, ◌<◌, ◌≤◌, ◌↔◌, IsTrue, MatchOption, pos, length, map};
+ghost use Rattle.std.specs.Prelude.{◌≡◌, ◌+◌, ◌-◌, ◌<◌, ◌≤◌, ◌↔◌, IsTrue, MatchOption, pos, length, map};
 ghost use Rattle.arrow_types.specs.Numbers.{IsNegative, IsPlace};
 ghost use Rattle.arrow_array.specs.Offsets.{IsOffsets, offset_at, part};
 
@@ -14,7 +14,7 @@ fn checked_offset<O: Offset>(offsets: &[O], k: usize) -> Option<usize>
 }
 
 /// Offset `k`, which isn't negative.
-fn offset<O: Offset>(offsets: &[O], k: usize) -> usize
+pub(crate) fn offset<O: Offset>(offsets: &[O], k: usize) -> usize
     requires within { k < length offsets.now }
     requires place { IsPlace (offset_at (map O.place offsets.now) k) }
     ensures { offset_at (map O.place offsets.now) k ≡ pos result }
@@ -33,6 +33,19 @@ pub(crate) fn part_bounds<O: Offset>(offsets: &[O], k: usize, len: usize) -> (us
 {
     let start = offset(offsets, k);
     let end = offset(offsets, k + 1);
+    (start, end)
+}
+
+/// Where the parts of a buffer of `len` items begin and end, taken together.
+pub(crate) fn whole_bounds<O: Offset>(offsets: &[O], len: usize) -> (usize, usize)
+    requires { IsOffsets (map O.place offsets.now) len }
+    ensures order { result.0 ≤ result.1 }
+    ensures within { result.1 ≤ len }
+    ensures start { offset_at (map O.place offsets.now) 0 ≡ pos result.0 }
+    ensures end { offset_at (map O.place offsets.now) (length offsets.now - 1) ≡ pos result.1 }
+{
+    let start = offset(offsets, 0);
+    let end = offset(offsets, offsets.len() - 1);
     (start, end)
 }
 

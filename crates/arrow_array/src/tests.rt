@@ -166,3 +166,14 @@ fn columns_of_a_chunk_have_one_length(rt: HostRuntime) -> Result<(), Fail> {
     assert!(rt; refused);
     Ok(())
 }
+
+#[test]
+fn a_chunk_gives_its_columns_back(rt: HostRuntime) -> Result<(), Fail> {
+    let values = two_truths(rt.alloc())?;
+    let mut arrays = Vec::new(rt.alloc());
+    arrays.push(Array::Boolean(values))?;
+    let chunk = Chunk::try_new(arrays)?;
+    assert_eq!(rt; chunk.len(), 2);
+    assert_eq!(rt; chunk.into_arrays().len(), 1);
+    Ok(())
+}

@@ -2,12 +2,12 @@ ghost use Rattle.std.specs.Prelude.{◌≡◌, ℕ, ◌+◌, ◌-◌, ◌<◌, �
 ghost use Rattle.std.specs.Option.{option_copied};
 ghost use Rattle.arrow_lists.specs.declared.error.Error.TheVariants.{OutOfMemory};
 ghost use Rattle.arrow_types.specs.declared.slot.Slot.TheVariants.{Words};
-ghost use Rattle.arrow_array.specs.Offsets.{IsOffsets, AreTexts};
+ghost use Rattle.arrow_array.specs.Offsets.{IsOffsets, IsBoundary, IsFrom, AreTexts, offset_at};
 ghost use Rattle.arrow_array.specs.Slots.{TellsHeld, is_held, slot_at, slots_of, text_at};
 ghost use Rattle.arrow_array.specs.Parts.{TextFits, IsRefusalOf, text_type};
 
 use crate::buffer::Buffer;
-use crate::offsets::{are_offsets, part_of};
+use crate::offsets::{are_offsets, offset, part_of, whole_bounds};
 use crate::validity;
 use arrow_bitmap::Bitmap;
 use arrow_lists::{Error, Reason, Result};
@@ -59,18 +59,31 @@ fn is_text_type<O: Offset>(data_type: &DataType) -> bool
     }
 }
 
-/// Whether the bytes between each two neighbouring offsets are UTF-8.
+/// Whether each offset stands between two characters of the text, whose first byte lies at place
+/// `start`.
+fn are_boundaries<O: Offset>(offsets: &[O], text: &str, start: usize) -> bool
+    requires from { (k : ℕ) → k < length offsets.now → IsFrom start (offset_at (map O.place offsets.now) k) }
+    ensures { IsTrue result ↔ ((k : ℕ) → k < length offsets.now → IsBoundary text.now start (offset_at (map O.place offsets.now) k)) }
+{
+    for i in 0..offsets.len() {
+        if !text.is_char_boundary(offset(offsets, i) - start) {
+            return false;
+        }
+    }
+    true
+}
+
+/// Whether the bytes between each two neighbouring offsets are UTF-8: the bytes between the first
+/// and the last are, and each offset stands between two characters.
 fn are_texts<O: Offset>(offsets: &[O], values: &[u8]) -> bool
     requires { IsOffsets (map O.place offsets.now) (length values.now) }
     ensures { IsTrue result ↔ AreTexts (map O.place offsets.now) values.now }
 {
-    for i in 1..offsets.len() {
-        match from_utf8(part_of(offsets, values, i - 1)) {
-            Ok(_) => {}
-            Err(_) => return false,
-        }
+    let (start, end) = whole_bounds(offsets, values.len());
+    match from_utf8(&values[start..end]) {
+        Ok(text) => are_boundaries(offsets, text, start),
+        Err(_) => false,
     }
-    true
 }
 
 /// Whether these parts make an array of texts.
