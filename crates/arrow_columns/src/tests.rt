@@ -1,9 +1,10 @@
 use crate::{
-    Array, Bitmap, BooleanArray, DictionaryArray, FixedSizeListArray, Keys, LargeListArray,
-    ListArray, PrimitiveArray, StructArray, Utf8Array, equal,
+    Array, BinaryArray, Bitmap, BooleanArray, DictionaryArray, FixedSizeBinaryArray,
+    FixedSizeListArray, Keys, LargeListArray, ListArray, NullArray, PrimitiveArray, StructArray,
+    Utf8Array, equal,
 };
 use arrow_lists::{Box, Error, Items, Reason, Result as ArrowResult, Text};
-use arrow_types::{DataType, Field, IntegerType};
+use arrow_types::{DataType, Field, IntegerType, IntervalUnit, MonthsDaysNs, NativeType};
 use std::alloc::Global;
 use std::test::Fail;
 
@@ -182,5 +183,138 @@ fn what_lies_beneath_a_null_plays_no_part(rt: HostRuntime) -> Result<(), Fail> {
     let left = null_over(rt.alloc(), true)?;
     let right = null_over(rt.alloc(), false)?;
     assert!(rt; equal(&left, &right));
+    Ok(())
+}
+
+#[test]
+fn equal_numbers_have_equal_values(rt: HostRuntime) -> Result<(), Fail> {
+    let left = numbers(rt.alloc(), &[1, -2])?;
+    let same = numbers(rt.alloc(), &[1, -2])?;
+    let other = numbers(rt.alloc(), &[1, 2])?;
+    assert!(rt; equal(&left, &same));
+    assert!(rt; !equal(&left, &other));
+    Ok(())
+}
+
+fn dates(alloc: Global) -> ArrowResult<Array> {
+    let values = Vec::from_slice(alloc, &[1, -2])?;
+    let array = PrimitiveArray::<i32>::try_new(alloc, DataType::Date32, values, None)?;
+    Ok(Array::Int32(array))
+}
+
+#[test]
+fn the_same_numbers_of_another_type_are_not_equal(rt: HostRuntime) -> Result<(), Fail> {
+    let left = numbers(rt.alloc(), &[1, -2])?;
+    let other = dates(rt.alloc())?;
+    assert!(rt; !equal(&left, &other));
+    Ok(())
+}
+
+/// The bytes A and B as two texts between these offsets.
+fn texts(alloc: Global, offsets: &[i64]) -> ArrowResult<Array> {
+    let offsets = Vec::from_slice(alloc, offsets)?;
+    let values = Vec::from_slice(alloc, b"AB")?;
+    let array = Utf8Array::<i64>::try_new(alloc, DataType::LargeUtf8, offsets, values, None)?;
+    Ok(Array::LargeUtf8(array))
+}
+
+#[test]
+fn the_same_bytes_cut_elsewhere_are_other_texts(rt: HostRuntime) -> Result<(), Fail> {
+    let left = texts(rt.alloc(), &[0, 1, 2])?;
+    let same = texts(rt.alloc(), &[0, 1, 2])?;
+    let other = texts(rt.alloc(), &[0, 2, 2])?;
+    assert!(rt; equal(&left, &same));
+    assert!(rt; !equal(&left, &other));
+    Ok(())
+}
+
+/// The byte strings between these offsets into these bytes.
+fn byte_strings(alloc: Global, offsets: &[i32], values: &[u8]) -> ArrowResult<Array> {
+    let offsets = Vec::from_slice(alloc, offsets)?;
+    let values = Vec::from_slice(alloc, values)?;
+    let array = BinaryArray::<i32>::try_new(alloc, DataType::Binary, offsets, values, None)?;
+    Ok(Array::Binary(array))
+}
+
+#[test]
+fn bytes_before_the_first_offset_play_no_part(rt: HostRuntime) -> Result<(), Fail> {
+    let left = byte_strings(rt.alloc(), &[0, 1], &[7])?;
+    let same = byte_strings(rt.alloc(), &[1, 2], &[9, 7])?;
+    let other = byte_strings(rt.alloc(), &[0, 1], &[9, 7])?;
+    assert!(rt; equal(&left, &same));
+    assert!(rt; !equal(&left, &other));
+    Ok(())
+}
+
+fn pairs(alloc: Global, values: &[u8], size: usize) -> ArrowResult<Array> {
+    let values = Vec::from_slice(alloc, values)?;
+    let data_type = DataType::FixedSizeBinary(size);
+    let array = FixedSizeBinaryArray::try_new(alloc, data_type, values, None)?;
+    Ok(Array::FixedSizeBinary(array))
+}
+
+#[test]
+fn equal_byte_strings_of_one_length_have_equal_bytes(rt: HostRuntime) -> Result<(), Fail> {
+    let left = pairs(rt.alloc(), &[1, 2], 2)?;
+    let same = pairs(rt.alloc(), &[1, 2], 2)?;
+    let other = pairs(rt.alloc(), &[1, 2], 1)?;
+    assert!(rt; equal(&left, &same));
+    assert!(rt; !equal(&left, &other));
+    Ok(())
+}
+
+fn nulls(alloc: Global, count: usize) -> ArrowResult<Array> {
+    Ok(Array::Null(NullArray::try_new(alloc, DataType::Null, count)?))
+}
+
+#[test]
+fn equal_arrays_of_nulls_have_one_length(rt: HostRuntime) -> Result<(), Fail> {
+    let left = nulls(rt.alloc(), 2)?;
+    let same = nulls(rt.alloc(), 2)?;
+    let other = nulls(rt.alloc(), 1)?;
+    assert!(rt; equal(&left, &same));
+    assert!(rt; !equal(&left, &other));
+    Ok(())
+}
+
+const MONTH: MonthsDaysNs = MonthsDaysNs {
+    months: 1,
+    days: 0,
+    ns: 0,
+};
+
+fn one_value<T: NativeType>(
+    alloc: Global,
+    data_type: DataType,
+    value: T,
+) -> ArrowResult<PrimitiveArray<T>> {
+    let mut values = Vec::new(alloc);
+    values.push(value)?;
+    PrimitiveArray::try_new(alloc, data_type, values, None)
+}
+
+/// Whether a slice shows the value that the array was made of.
+fn shows<T: NativeType>(alloc: Global, data_type: DataType, value: T) -> ArrowResult<bool> {
+    let array = one_value(alloc, data_type, value)?;
+    if array.len() != 1 {
+        return Ok(false);
+    }
+    let slice = array.slice(alloc, 0, 1)?;
+    Ok(slice.len() == 1 && slice.value(0) == value)
+}
+
+#[test]
+fn slices_of_numbers_of_any_width_show_them(rt: HostRuntime) -> Result<(), Fail> {
+    let alloc = rt.alloc();
+    assert!(rt; shows(alloc, DataType::Int8, -1_i8)?);
+    assert!(rt; shows(alloc, DataType::Int16, -1_i16)?);
+    assert!(rt; shows(alloc, DataType::Int32, -1_i32)?);
+    assert!(rt; shows(alloc, DataType::Int64, -1_i64)?);
+    assert!(rt; shows(alloc, DataType::UInt8, 255_u8)?);
+    assert!(rt; shows(alloc, DataType::UInt16, 65535_u16)?);
+    assert!(rt; shows(alloc, DataType::UInt32, 4294967295_u32)?);
+    assert!(rt; shows(alloc, DataType::UInt64, 18446744073709551615_u64)?);
+    assert!(rt; shows(alloc, DataType::Decimal(32, 32), -1_i128)?);
+    assert!(rt; shows(alloc, DataType::Interval(IntervalUnit::MonthDayNano), MONTH)?);
     Ok(())
 }
