@@ -1,27 +1,35 @@
 -- Bits that are set and read.
-use Rattle.std.proofs.Common.{◌≡◌, ap, ◌∙◌, ◌≢◌, inl, inr, Bool, eqb, ℕ, zero, suc, ◌+◌, ◌*◌, ◌/◌, ◌%◌, ◌^◌, ◌<◌, List, [], ◌∷◌, ◌++◌, map, length, slice_set, bit_or, refl, arith, w64, get_or-set_same, get_or-set_other, get_or}
-use Rattle.std.specs.Int.{bit_at}
+use Rattle.std.proofs.Common.{◌≡◌, ap, ◌∙◌, ◌≢◌, inl, inr, Bool, true, false, eqb, ℕ, zero, suc, ◌+◌, ◌*◌, ◌/◌, ◌%◌, ◌^◌, ◌<◌, ◌≤◌, List, [], ◌∷◌, ◌++◌, map, length, slice_set, bit_or, refl, arith, w64, get_or-set_same, get_or-set_other, get_or}
+use Rattle.std.specs.Int.{bit_at, from_bool}
+use Rattle.std.specs.Int.Bits.{or_zero_r}
 use Rattle.std.specs.List.{range_with_len}
 use native.Mathlib.Numerals.{unary_clauses}
 use Rattle.std.proofs.lemmas.Bool.{cases_eq}
 use Rattle.std.proofs.lemmas.Nat.Bits.{bit_at_set_same, bit_at_set_other}
-use Rattle.std.proofs.lemmas.List.{get_or_read}
+use Rattle.std.proofs.lemmas.List.{get_or_read, set-get_or}
 use Rattle.std.proofs.lemmas.List.FromFn.{length-map-range_with_len, map-range_with_len_more}
 use Rattle.arrow_bitmap.specs.Bits.{bit_of, truth_of, truths_of}
 use Rattle.arrow_builders.specs.Bits.{HoldBits}
 
-abbrev with_bit : List ℕ → ℕ → ℕ → List ℕ
-with_bit ws i w = slice_set ws (i / 64) (bit_or w (1 * 2 ^ (i % 64) % 18446744073709551616))
+abbrev with_bit : List ℕ → ℕ → ℕ → Bool → List ℕ
+with_bit ws i w v = slice_set ws (i / 64) (bit_or w (from_bool v * 2 ^ (i % 64) % 18446744073709551616))
 
-pub set_here : (ws : List ℕ) (i w : ℕ) → i < 64 * length ws → w ≡ get_or ws (i / 64) w → bit_of (with_bit ws i w) i ≡ 1
-set_here ws i w h r =
+-- a bit that is not set changes no word
+unchanged : (ws : List ℕ) (i w : ℕ) → w ≡ get_or ws (i / 64) w → with_bit ws i w false ≡ ws
+unchanged ws i w r =
+    let z : 0 * 2 ^ (i % 64) % 18446744073709551616 ≡ 0 = omega arith in
+    rw (z, or_zero_r w) (ap (slice_set ws (i / 64)) r ∙ set-get_or ws (i / 64) w)
+
+pub written_here : (ws : List ℕ) (i w : ℕ) (v : Bool) → i < 64 * length ws → w ≡ get_or ws (i / 64) w → bit_of ws i ≡ 0 → truth_of (with_bit ws i w v) i ≡ v
+written_here ws i w true h r z =
     let l : i / 64 < length ws = omega arith in
     let m : i % 64 < 64 = omega arith in
-    rw (get_or-set_same ws (i / 64) (bit_or w (1 * 2 ^ (i % 64) % 18446744073709551616)) 0 l)
-    (bit_at_set_same w64 w (i % 64) m)
+    let here : bit_of (with_bit ws i w true) i ≡ 1 = rw (get_or-set_same ws (i / 64) (bit_or w (1 * 2 ^ (i % 64) % 18446744073709551616)) 0 l) (bit_at_set_same w64 w (i % 64) m) in
+    ap (λ b. eqb b 1) here
+written_here ws i w false h r z = ap (λ xs. truth_of xs i) (unchanged ws i w r) ∙ ap (λ b. eqb b 1) z
 
-pub set_apart : (ws : List ℕ) (i w k : ℕ) → i < 64 * length ws → w ≡ get_or ws (i / 64) w → k ≢ i → bit_of (with_bit ws i w) k ≡ bit_of ws k
-set_apart ws i w k h r ne =
+pub written_apart : (ws : List ℕ) (i w k : ℕ) (v : Bool) → i < 64 * length ws → w ≡ get_or ws (i / 64) w → k ≢ i → bit_of (with_bit ws i w v) k ≡ bit_of ws k
+written_apart ws i w k true h r ne =
     let l : i / 64 < length ws = omega arith in
     let m : i % 64 < 64 = omega arith in
     elim (cases_eq (k / 64) (i / 64)) [
@@ -29,6 +37,7 @@ set_apart ws i w k h r ne =
           (rw (← get_or_read ws (i / 64) w l r 0) (bit_at_set_other w64 w (i % 64) m (k % 64) (λ p. ne (omega (arith, e, p))))))
       | inr d ↦ rw (get_or-set_other ws (i / 64) (k / 64) (bit_or w (1 * 2 ^ (i % 64) % 18446744073709551616)) 0 d) refl
     ]
+written_apart ws i w k false h r ne = ap (λ xs. bit_of xs k) (unchanged ws i w r)
 
 -- a word of zeros behind the last changes no bit
 word_push : (ws : List ℕ) (j : ℕ) → get_or (ws ++ 0 ∷ []) j 0 ≡ get_or ws j 0
@@ -65,12 +74,12 @@ pub record Written (old new : List ℕ) (n : ℕ) (v : Bool) : Type 0 where
   pub same : (k : ℕ) → k ≢ n → bit_of new k ≡ bit_of old k
   pub here : truth_of new n ≡ v
 
-pub HoldBits-push : (old new : List ℕ) (n : ℕ) (v : Bool) → HoldBits old n → Written old new n v → n + 1 < 2 ^ 63 → HoldBits new (n + 1)
+pub HoldBits-push : (old new : List ℕ) (n : ℕ) (v : Bool) → HoldBits old n → Written old new n v → n + 65 ≤ 2 ^ 63 → HoldBits new (n + 1)
 HoldBits-push old new n v p w f = record {
   enough = omega (arith, w.within);
   tight = omega (arith, w.tight);
   clear = λ k h. w.same k (omega (arith, h)) ∙ p.clear k (omega (arith, h));
-  fits = f;
+  fits = omega (arith, f);
 }
 
 pub truths-written : (old new : List ℕ) (n : ℕ) (v : Bool) → Written old new n v → truths_of new 0 (n + 1) ≡ truths_of old 0 n ++ v ∷ []

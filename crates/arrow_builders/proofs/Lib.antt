@@ -1,3 +1,4 @@
 pub mod Bits
+pub mod Contents
+pub mod FixedSizes
 pub mod Slots
-pub mod Texts

@@ -1,12 +1,12 @@
 -- Slots that are made by place, and one more.
-use Rattle.std.proofs.Common.{◌≡◌, ap, ◌∙◌, Bool, false, cond, ℕ, ◌+◌, ◌<◌, List, [], ◌∷◌, ◌++◌, map, length, get_or, Some, refl, arith, zero-add, Result, Ok, Err, IfOk}
+use Rattle.std.proofs.Common.{◌≡◌, ap, ◌∙◌, Bool, false, cond, ℕ, ◌+◌, ◌<◌, List, [], ◌∷◌, ◌++◌, map, length, get_or, Some, None, refl, arith, zero-add, Result, Ok, Err, IfOk}
 use Rattle.std.specs.List.{range_with_len}
 use Rattle.std.proofs.lemmas.List.{get_or_append_left, get_or_push, length_push, length-map, map-append}
 use Rattle.std.proofs.lemmas.List.FromFn.{length-map-range_with_len, map-range_with_len_more}
 use Rattle.arrow_types.specs.declared.slot.Slot.{Slot}
 use Rattle.arrow_types.specs.declared.slot.Slot.TheVariants as slot
 use Rattle.arrow_bitmap.specs.Bits.{Packed}
-use Rattle.arrow_array.specs.Slots.{slots_of, shown, truth_at, native_at}
+use Rattle.arrow_array.specs.Slots.{slots_of, shown, null_at, truth_at, native_at}
 use Rattle.arrow_builders.specs.Bits.{mask_of}
 use Rattle.arrow_builders.proofs.Bits.{made_alike}
 
@@ -54,7 +54,11 @@ natives_at-push f vs us ts ss v b l e d =
     (rw (map-append f vs (v ∷ [])) (get_or_push (map f vs) (f v) slot.Null (length ts) k))))
 
 -- the same, where offsets are read as numbers
-pub ruleset text_counts = (length-map-range_with_len, length_push, length-map)
+pub ruleset content_counts = (length-map-range_with_len, length_push, length-map)
+
+-- one null more
+pub nulls_at-push : (n m : ℕ) → m ≡ n + 1 → slots_of null_at None 0 m ≡ slots_of null_at None 0 n ++ slot.Null ∷ []
+nulls_at-push n m e = rw e (map-range_with_len_more (λ i. slot.Null) 0 n n (omega arith))
 
 -- the slots that an array shows over the bits of a builder's validity
 pub slots_of-frozen : (f g : ℕ → Slot) (v : Packed) (ts : List Bool) (m n : ℕ) → f ≡ g → v.truths ≡ ts → m ≡ n → slots_of f (Some v) 0 m ≡ slots_of g (Some (mask_of ts)) 0 n

@@ -7,11 +7,11 @@ pub record HoldBits (words : List ℕ) (n : ℕ) : Type 0 where
   pub enough : n ≤ 64 * length words
   pub tight : 64 * length words < n + 64
   pub clear : (k : ℕ) → n ≤ k → bit_of words k ≡ 0
-  pub fits : n < 2 ^ 63
+  pub fits : n + 64 ≤ 2 ^ 63
 
 -- how many bits fit such a capacity of words
 abbrev pub bit_room : ℕ → ℕ
-bit_room capacity = min (64 * capacity) 9223372036854775807
+bit_room capacity = min (64 * capacity) 9223372036854775744
 
 -- the validity of an array whose slots are valid where the truths say so
 abbrev pub mask_of : List Bool → Packed

@@ -1,6 +1,7 @@
 pub mod Bits
 pub mod Builders
+pub mod Contents
+pub mod Dictionaries
 pub mod MutableArrays
 pub mod Nodes
 pub mod Room
-pub mod Texts

@@ -9,8 +9,8 @@ use arrow_lists::Result;
 use std::alloc::{AllocError, Global};
 use std::marker::Model;
 
-/// The most bits that one bitmap holds.
-const MOST_BITS: usize = 9223372036854775807;
+/// The most bits that one bitmap holds: whole words of them.
+const MOST_BITS: usize = 9223372036854775744;
 
 /// Truth values, packed 64 to a word, that grow bit by bit.
 #[derive(Drop)]
@@ -39,33 +39,25 @@ impl Model for MutableBitmap {
 }
 
 /// Adds a word of zeros where bit `i` lies just past the words.
+#[inline]
 #[tactic(auto, using(crate::proofs::Bits::bit_of_push))]
 fn add_word(words: &mut Vec<u64>, i: usize)
     requires near { i ≤ 64 * vec_len words.old }
+    requires tight { 64 * vec_len words.old < i + 64 }
     requires room { i < 64 * vec_capacity words.old }
     ensures within { i < 64 * vec_len words.new }
-    ensures tight { 64 * vec_len words.old < i + 64 → 64 * vec_len words.new < i + 65 }
+    ensures tight { 64 * vec_len words.new < i + 65 }
     ensures same { (k : ℕ) → bit_of words.new.items k ≡ bit_of words.old.items k }
     ensures capacity { vec_capacity words.new ≡ vec_capacity words.old }
 {
-    if i / 64 == words.len() {
+    if i % 64 == 0 {
         words.push_reserved(0);
     }
 }
 
-/// Sets bit `i`.
-fn set_bit(words: &mut Vec<u64>, i: usize)
-    requires { i < 64 * vec_len words.old }
-    ensures len { vec_len words.new ≡ vec_len words.old }
-    ensures set { bit_of words.new.items i ≡ 1 }
-    ensures others { (k : ℕ) → k ≢ i → bit_of words.new.items k ≡ bit_of words.old.items k }
-    ensures capacity { vec_capacity words.new ≡ vec_capacity words.old }
-{
-    let word = words[i / 64];
-    words[i / 64] = word | 1 << (i % 64);
-}
-
-/// Writes bit `i`, which is not set yet.
+/// Writes bit `i`, which is not set yet. The word is written whatever the bit is: a test would be
+/// dearer.
+#[inline]
 fn write_bit(words: &mut Vec<u64>, i: usize, value: bool)
     requires within { i < 64 * vec_len words.old }
     requires clear { bit_of words.old.items i ≡ 0 }
@@ -74,9 +66,8 @@ fn write_bit(words: &mut Vec<u64>, i: usize, value: bool)
     ensures others { (k : ℕ) → k ≢ i → bit_of words.new.items k ≡ bit_of words.old.items k }
     ensures capacity { vec_capacity words.new ≡ vec_capacity words.old }
 {
-    if value {
-        set_bit(words, i);
-    }
+    let word = words[i / 64];
+    words[i / 64] = word | (value as u64) << (i % 64);
 }
 
 #[tactic(auto, using(crate::proofs::Slots::counts))]
@@ -107,7 +98,29 @@ impl MutableBitmap {
         Ok(())
     }
 
+    /// Makes room for one more bit. An error changes nothing.
+    ///
+    /// A last word that isn't full has room, so only a bit that begins a word asks for any.
+    #[inline(always)]
+    pub fn reserve_one(&mut self) -> std::result::Result<(), AllocError>
+        ensures items { self.new.items ≡ self.old.items }
+        ensures room { self.old.spare ≤ self.new.spare }
+        ensures ok { OnOk result (1 ≤ self.new.spare) }
+        ensures err { OnErr result (self.new ≡ self.old) }
+        ensures succeeds { 1 ≤ self.old.spare → IsOk result }
+    {
+        if self.count % 64 != 0 {
+            return Ok(());
+        }
+        if self.count == MOST_BITS {
+            return Err(AllocError);
+        }
+        self.words.reserve(1)?;
+        Ok(())
+    }
+
     /// Appends a bit, for which there is room.
+    #[inline(always)]
     pub fn push_reserved(&mut self, value: bool)
         requires { 1 ≤ self.old.spare }
         ensures items { self.new.items ≡ self.old.items ++ value ∷ [] }

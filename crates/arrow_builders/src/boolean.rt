@@ -94,6 +94,7 @@ impl MutableBooleanArray {
     }
 
     /// Appends a slot, null for `None`. `OutOfMemory` changes nothing.
+    #[inline]
     pub fn push(&mut self, value: Option<bool>) -> Result<()>
         ensures data_type { self.new.data_type ≡ self.old.data_type }
         ensures ok { OnOk result (self.new.slots ≡ self.old.slots ++ optional_slot Truth value ∷ []) }
@@ -120,6 +121,7 @@ impl MutableBooleanArray {
         self.push_slot(false, false)
     }
 
+    #[inline(always)]
     fn push_slot(&mut self, truth: bool, is_valid: bool) -> Result<()>
         ensures data_type { self.new.data_type ≡ self.old.data_type }
         ensures ok { OnOk result (self.new.slots
@@ -129,8 +131,8 @@ impl MutableBooleanArray {
         ensures room { KeepsRoom (plain_node self.old) (plain_node self.new) }
         ensures roomy { 1 ≤ self.old.spare → IsOk result }
     {
-        self.values.reserve(1)?;
-        self.validity.reserve(1)?;
+        self.values.reserve_one()?;
+        self.validity.reserve_one()?;
         self.values.push_reserved(truth);
         self.validity.push_reserved(is_valid);
         Ok(())

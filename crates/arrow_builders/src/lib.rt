@@ -5,19 +5,31 @@
 #![tactic(auto)]
 
 mod array;
+mod binary;
 mod bitmap;
 mod boolean;
 mod container;
+mod content;
+mod dictionary;
+mod fixed_size_binary;
 mod lengths;
+mod null;
 mod primitive;
 mod utf8;
 
 pub use array::MutableArray;
+pub use binary::{ByteStrings, MutableBinaryArray};
 pub use boolean::MutableBooleanArray;
 pub use container::Container;
+pub use content::{Content, MutableContentArray};
+pub use dictionary::FixedItemsUtf8Dictionary;
+pub use fixed_size_binary::MutableFixedSizeBinaryArray;
 pub use lengths::NodeLengths;
+pub use null::MutableNullArray;
 pub use primitive::MutablePrimitiveArray;
-pub use utf8::MutableUtf8Array;
+pub use utf8::{MutableUtf8Array, Texts};
 
+#[cfg(test)]
+mod flat_tests;
 #[cfg(test)]
 mod tests;

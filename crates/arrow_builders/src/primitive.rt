@@ -138,6 +138,7 @@ impl<T: NativeType> MutablePrimitiveArray<T> {
     }
 
     /// Appends a slot, null for `None`. `OutOfMemory` changes nothing.
+    #[inline]
     pub fn push(&mut self, value: Option<T>) -> Result<()>
         ensures data_type { self.new.data_type ≡ self.old.data_type }
         ensures ok { OnOk result (self.new.slots
@@ -165,6 +166,7 @@ impl<T: NativeType> MutablePrimitiveArray<T> {
         self.push_slot(T::zero(), false)
     }
 
+    #[inline(always)]
     fn push_slot(&mut self, value: T, is_valid: bool) -> Result<()>
         ensures data_type { self.new.data_type ≡ self.old.data_type }
         ensures ok { OnOk result (self.new.slots
@@ -175,7 +177,7 @@ impl<T: NativeType> MutablePrimitiveArray<T> {
         ensures roomy { 1 ≤ self.old.spare → IsOk result }
     {
         self.values.reserve(1)?;
-        self.validity.reserve(1)?;
+        self.validity.reserve_one()?;
         self.values.push_reserved(value);
         self.validity.push_reserved(is_valid);
         Ok(())
@@ -206,12 +208,12 @@ impl<T: NativeType> MutablePrimitiveArray<T> {
 
     /// The array of the slots, over the builder's buffers. The builder is then empty.
     ///
-    /// After `OutOfMemory` the builder may have lost its slots.
+    /// After `OutOfMemory` the builder has lost its slots.
     pub fn as_box(&mut self) -> Result<PrimitiveArray<T>>
         ensures data_type { self.new.data_type ≡ self.old.data_type }
         ensures array_type { IfOk result (λ a. a.data_type ≡ self.old.data_type) }
         ensures array_slots { IfOk result (λ a. a.slots ≡ self.old.slots) }
-        ensures emptied { OnOk result (self.new.slots ≡ []) }
+        ensures emptied { self.new.slots ≡ [] }
         ensures memory { IfErr result (λ e. e ≡ OutOfMemory) }
     {
         let values = mem::replace(&mut self.values, Vec::new(self.alloc));

@@ -1,4 +1,4 @@
-use Rattle.std.proofs.Common.{◌≡◌, ◌+◌, ◌-◌, ◌^◌, ◌<◌, ◌∙◌, ◌∷◌, [], ◌++◌, Bool, List, arith, ap, vec_capacity}
+use Rattle.std.proofs.Common.{◌≡◌, ◌+◌, ◌-◌, ◌^◌, ◌≤◌, ◌∙◌, ◌∷◌, [], ◌++◌, Bool, List, arith, ap, vec_capacity}
 use Rattle.arrow_bitmap.specs.Bits.{truths_of}
 use Rattle.arrow_builders.specs.Bits.{bit_room}
 use Rattle.arrow_builders.specs.Room.{Growing}
@@ -16,7 +16,7 @@ written c = record {
 pub invariant_of-self : goal.invariant_of-self
 invariant_of-self c =
     let s : bit_room (vec_capacity c.self.inside.words) - c.self.inside.count ≡ c.args.self.now.spare = ap (λ (g : Growing Bool). g.spare) c.self.view_is in
-    let f : c.self.inside.count + 1 < 2 ^ 63 = omega (arith, c.requires, s) in
+    let f : c.self.inside.count + 65 ≤ 2 ^ 63 = omega (arith, c.requires, s) in
     HoldBits-push _ _ _ _ c.self.invariant (written c) f
 
 pub returns-clause-items : goal.returns-clause-items

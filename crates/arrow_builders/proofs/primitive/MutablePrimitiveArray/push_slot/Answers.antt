@@ -5,4 +5,4 @@ use Rattle.arrow_builders.proofs.primitive.MutablePrimitiveArray.push_slot.Goals
 pub returns-clause-ok : goal.returns-clause-ok
 returns-clause-ok g c = rw (← c.self.view_is) (natives_at-push g.T.NativeType.native_slot _ _ _ _ _ _ c.self.invariant.0
     (c.push_reserved.ensures.items ∙ ap (λ xs. xs ++ c.args.value ∷ []) c.reserve.ensures.items)
-    (c.push_reserved-2.ensures.items ∙ ap (λ (xs : List Bool). xs ++ c.args.is_valid ∷ []) c.reserve-2.ensures.items))
+    (c.push_reserved-2.ensures.items ∙ ap (λ (xs : List Bool). xs ++ c.args.is_valid ∷ []) c.reserve_one.ensures.items))

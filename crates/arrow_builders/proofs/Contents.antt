@@ -1,13 +1,13 @@
--- One text more in the buffers of a builder.
+-- One slot more in the buffers of a builder of slots of variable length.
 use Rattle.std.proofs.Common.{◌≡◌, ap, ◌∙◌, inl, inr, Bool, cond, ℕ, ◌+◌, ◌-◌, ◌<◌, ◌≤◌, ℤ, pos, negsuc, List, [], ◌∷◌, ◌++◌, map, length, take, drop, Some, refl, arith}
-use Rattle.std.specs.Str.{IsUtf8}
 use Rattle.std.proofs.lemmas.Bool.{cases_eq}
 use Rattle.std.proofs.lemmas.List.{get_or_append_left, get_or_push, length_push, length-append, length-drop, take-append-le, drop-append-le, take_all, drop_at, map-append, length-map}
+use Rattle.arrow_types.specs.declared.slot.Slot.{Slot}
 use Rattle.arrow_types.specs.declared.slot.Slot.TheVariants as slot
 use Rattle.arrow_array.specs.Offsets.{offset_at, IsWithin, IsNotAbove, between, part}
-use Rattle.arrow_array.specs.Slots.{slots_of, text_at}
+use Rattle.arrow_array.specs.Slots.{slots_of}
 use Rattle.arrow_builders.specs.Bits.{mask_of}
-use Rattle.arrow_builders.specs.Texts.{HoldTexts}
+use Rattle.arrow_builders.specs.Contents.{HoldContents, content_at}
 use Rattle.arrow_builders.proofs.Slots.{slots_of-push}
 
 IsWithin-more : (z : ℤ) (a b : ℕ) → a ≤ b → IsWithin z a → IsWithin z b
@@ -29,7 +29,7 @@ between-end y z bs more n e d h =
     let k : n - length bs ≡ length more = omega (arith, h) in
     rw (e, d) (rw (drop_at bs more (length bs) refl) (rw k (take_all (length more) more (omega arith))))
 
-module _ (ps qs : List ℤ) (bs more : List ℕ) (n m : ℕ) (h : HoldTexts ps bs n) (e : qs ≡ ps ++ pos m ∷ []) (d : m ≡ length bs + length more) where
+module _ (holds : List ℕ → Type 0) (make : List ℕ → Slot) (ps qs : List ℤ) (bs more : List ℕ) (n m : ℕ) (h : HoldContents holds ps bs n) (e : qs ≡ ps ++ pos m ∷ []) (d : m ≡ length bs + length more) where
   new_length : length qs ≡ n + 2
   new_length = rw e (omega (arith, length_push ps (pos m), h.count))
 
@@ -73,51 +73,51 @@ module _ (ps qs : List ℤ) (bs more : List ℕ) (n m : ℕ) (h : HoldTexts ps b
         rw (old_offset k (omega (arith, p)), old_offset (k + 1) (omega (arith, p))) (old_rising k p)
   ]
 
-  texts : IsUtf8 more → (k : ℕ) → k + 1 < length qs → IsUtf8 (part qs (bs ++ more) k)
-  texts u k l = elim (cases_eq k n) [
+  contents : holds more → (k : ℕ) → k + 1 < length qs → holds (part qs (bs ++ more) k)
+  contents u k l = elim (cases_eq k n) [
     | inl s ↦ rw (s, new_part) u
     | inr s ↦
         let p : k < n = omega (arith, l, new_length, s) in
-        rw (old_part k p) (h.texts_fit k (omega (arith, p, h.count)))
+        rw (old_part k p) (h.contents_fit k (omega (arith, p, h.count)))
   ]
 
-  pub HoldTexts-push : IsUtf8 more → HoldTexts qs (bs ++ more) (n + 1)
-  HoldTexts-push u = record {
+  pub HoldContents-push : holds more → HoldContents holds qs (bs ++ more) (n + 1)
+  HoldContents-push u = record {
     count = omega (arith, new_length);
     first = old_offset 0 (omega arith) ∙ h.first;
     last = rw (new_offset, bytes_length) refl;
     offsets_fit = record { filled = omega (arith, new_length); within = within; rising = rising };
-    texts_fit = texts u;
+    contents_fit = contents u;
   }
 
-  -- the slots of the texts, and one more
-  pub texts_at-push : (ts : List Bool) (b : Bool) → length ts ≡ n
-      → slots_of (text_at qs (bs ++ more)) (Some (mask_of (ts ++ b ∷ []))) 0 (n + 1) ≡ slots_of (text_at ps bs) (Some (mask_of ts)) 0 n ++ (cond b (slot.Words more) slot.Null) ∷ []
-  texts_at-push ts b l = slots_of-push (text_at ps bs) (text_at qs (bs ++ more)) ts n b (slot.Words more) l
-      (λ k p. ap slot.Words (old_part k p)) (ap slot.Words new_part)
+  -- the slots, and one more
+  pub contents_at-push : (ts : List Bool) (b : Bool) → length ts ≡ n
+      → slots_of (content_at make qs (bs ++ more)) (Some (mask_of (ts ++ b ∷ []))) 0 (n + 1) ≡ slots_of (content_at make ps bs) (Some (mask_of ts)) 0 n ++ (cond b (make more) slot.Null) ∷ []
+  contents_at-push ts b l = slots_of-push (content_at make ps bs) (content_at make qs (bs ++ more)) ts n b (make more) l
+      (λ k p. ap make (old_part k p)) (ap make new_part)
 
-module _ {X : Type 0} (place : X → ℤ) (os ns : List X) (o : X) (bs all more : List ℕ) (ts ss : List Bool) (b : Bool) (m : ℕ)
-    (h : HoldTexts (map place os) bs (length ts)) (e : ns ≡ os ++ o ∷ []) (p : place o ≡ pos m) (a : all ≡ bs ++ more) (d : m ≡ length bs + length more) (s : ss ≡ ts ++ b ∷ []) where
+module _ {X : Type 0} (holds : List ℕ → Type 0) (make : List ℕ → Slot) (place : X → ℤ) (os ns : List X) (o : X) (bs all more : List ℕ) (ts ss : List Bool) (b : Bool) (m : ℕ)
+    (h : HoldContents holds (map place os) bs (length ts)) (e : ns ≡ os ++ o ∷ []) (p : place o ≡ pos m) (a : all ≡ bs ++ more) (d : m ≡ length bs + length more) (s : ss ≡ ts ++ b ∷ []) where
   places : map place ns ≡ map place os ++ pos m ∷ []
   places = rw e (map-append place os (o ∷ []) ∙ rw p refl)
 
-  pub hold_more : IsUtf8 more → HoldTexts (map place ns) all (length ss)
-  hold_more u = rw (a, s) (rw (length_push ts b) (HoldTexts-push (map place os) (map place ns) bs more (length ts) m h places d u))
+  pub hold_more : holds more → HoldContents holds (map place ns) all (length ss)
+  hold_more u = rw (a, s) (rw (length_push ts b) (HoldContents-push holds make (map place os) (map place ns) bs more (length ts) m h places d u))
 
-  pub show_more : slots_of (text_at (map place ns) all) (Some (mask_of ss)) 0 (length ss) ≡ slots_of (text_at (map place os) bs) (Some (mask_of ts)) 0 (length ts) ++ (cond b (slot.Words more) slot.Null) ∷ []
-  show_more = rw (a, s) (rw (length_push ts b) (texts_at-push (map place os) (map place ns) bs more (length ts) m h places d ts b refl))
+  pub show_more : slots_of (content_at make (map place ns) all) (Some (mask_of ss)) 0 (length ss) ≡ slots_of (content_at make (map place os) bs) (Some (mask_of ts)) 0 (length ts) ++ (cond b (make more) slot.Null) ∷ []
+  show_more = rw (a, s) (rw (length_push ts b) (contents_at-push holds make (map place os) (map place ns) bs more (length ts) m h places d ts b refl))
 
--- without texts there is one offset, 0
-pub HoldTexts-cut : {X : Type 0} (place : X → ℤ) (os : List X) (bs : List ℕ) (n : ℕ) → HoldTexts (map place os) bs n → HoldTexts (map place (take 1 os)) [] 0
-HoldTexts-cut place [] bs n h = absurd (omega (arith, h.count))
-HoldTexts-cut place (o ∷ os) bs n h = record {
+-- without slots there is one offset, 0
+pub HoldContents-cut : {X : Type 0} (holds : List ℕ → Type 0) (place : X → ℤ) (os : List X) (bs : List ℕ) (n : ℕ) → HoldContents holds (map place os) bs n → HoldContents holds (map place (take 1 os)) [] 0
+HoldContents-cut holds place [] bs n h = absurd (omega (arith, h.count))
+HoldContents-cut holds place (o ∷ os) bs n h = record {
   count = refl;
   first = h.first;
   last = h.first;
   offsets_fit = record { filled = omega arith; within = λ k l. let e : k ≡ 0 = omega (arith, l) in rw e (rw h.first (omega arith)); rising = λ k l. absurd (omega (arith, l)) };
-  texts_fit = λ k l. absurd (omega (arith, l));
+  contents_fit = λ k l. absurd (omega (arith, l));
 }
 
--- there is one offset more than there are texts
-pub HoldTexts-count : {X : Type 0} (place : X → ℤ) (os : List X) (bs : List ℕ) (n : ℕ) → HoldTexts (map place os) bs n → length os ≡ n + 1
-HoldTexts-count place os bs n h = omega (arith, length-map os place, h.count)
+-- there is one offset more than there are slots
+pub HoldContents-count : {X : Type 0} (holds : List ℕ → Type 0) (place : X → ℤ) (os : List X) (bs : List ℕ) (n : ℕ) → HoldContents holds (map place os) bs n → length os ≡ n + 1
+HoldContents-count holds place os bs n h = omega (arith, length-map os place, h.count)

@@ -1,7 +1,7 @@
 use Rattle.std.proofs.Common.{◌≡◌, ◌⊎◌, inl, inr, ap, arith, Result, Ok, Err, IfErr}
 use Rattle.arrow_lists.specs.declared.error.Error.{Error}
 use Rattle.arrow_lists.specs.declared.error.Error.TheVariants.{OutOfMemory, Overflow}
-use Rattle.arrow_builders.proofs.utf8.MutableUtf8Array.push_null.Goals as goal
+use Rattle.arrow_builders.proofs.content.MutableContentArray.push_null.Goals as goal
 
 out_of_memory : (r : Result (Unit {0}) Error) → IfErr r (λ e. (e ≡ Overflow) ⊎ (e ≡ OutOfMemory)) → (r ≡ Err Overflow → ⊥) → IfErr r (λ e. e ≡ OutOfMemory)
 out_of_memory (Ok x) h n = tt
@@ -12,3 +12,6 @@ returns-clause-memory g c = out_of_memory _ c.push_slot.ensures.errors (λ o. le
 
 pub returns-clause-roomy : goal.returns-clause-roomy
 returns-clause-roomy g c = λ h. c.push_slot.ensures.roomy h (omega arith) (omega (arith, c.push_slot.ensures.limit))
+
+pub push_slot-requires : goal.push_slot-requires
+push_slot-requires g c = g.met.C.Content.holds_nothing
