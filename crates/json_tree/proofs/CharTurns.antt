@@ -4,6 +4,7 @@ use Rattle.std.proofs.lemmas.Bool.Decides.{nat_tests}
 use Rattle.std.proofs.Common.{not, append_assoc}
 use Rattle.std.proofs.lemmas.List.{append-nil}
 use Rattle.std.proofs.lemmas.Bool.{and_parts}
+use Rattle.json_tree.specs.Tree.{Json, string}
 use Rattle.json_tree.specs.Grammar.{Each}
 use Rattle.arrow_base.specs.JsonString.{is_unescaped}
 use Rattle.json_tree.specs.Reading.{Outcome, found, wrong, bind, First, escape_at, char_at, chars_at, string_at}
@@ -112,3 +113,16 @@ closed (Err f) whole r o e h = subst (λ k. Fails k o) (sym h) tt
 
 pub first-is : (P : ℕ → List ℕ → Type 0) (r s : List ℕ) (x : ℕ) → First P r → r ≡ x ∷ s → P x s
 first-is P r s x h e = subst (First P) e h
+
+-- a string without escapes
+pub plain-string : (b run r : List ℕ) → Each is_unescaped run → b ≡ 34 ∷ (run ++ 34 ∷ r) → string_at b ≡ found run r
+plain-string b run r p e =
+    let t = chars-run run (34 ∷ r) (length (run ++ 34 ∷ r)) [] run (run ++ 34 ∷ r) b (string-open b (run ++ 34 ∷ r) e) (omega arith) refl p refl in
+    sym t.2 ∙ chars-end t.0 run (34 ∷ r) r refl
+
+pub plain-gives : (res : Result (List ℕ) JsonFault) (b run r : List ℕ) → Each is_unescaped run × (b ≡ 34 ∷ (run ++ 34 ∷ r)) → MatchResult res (λ t. t ≡ run) (λ e. e ≡ Memory) → Gives (λ v. v) res r (string_at b)
+plain-gives res b run r f h = closed res run r (string_at b) (plain-string b run r f.0 f.1) h
+
+pub plain-value : (res : Result Unit JsonFault) (v : Json) (b run r : List ℕ) → Each is_unescaped run × (b ≡ 34 ∷ (run ++ 34 ∷ r)) → MatchResult res (λ x. v ≡ string run) (λ e. e ≡ Memory) → Gives (λ x. v) res r (bind (string_at b) (λ s q. found (string s) q))
+plain-value (Ok x) v b run r f h = ap (λ o. bind o (λ s q. found (string s) q)) (plain-string b run r f.0 f.1) ∙ ap (λ w. found w r) (sym h)
+plain-value (Err e) v b run r f h = subst (λ k. Fails k (bind (string_at b) (λ s q. found (string s) q))) (sym h) tt

@@ -11,6 +11,7 @@ pub mod Heights
 pub mod Firsts
 pub mod Completing
 pub mod Numbers
+pub mod Points
 pub mod CharTurns
 pub mod InTexts
 pub mod Escapes

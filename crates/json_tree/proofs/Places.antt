@@ -1,18 +1,13 @@
 -- Members by their places.
 use Rattle.std.proofs.Common.{◌≡◌, ◌⊎◌, inl, inr, ℕ, zero, suc, ◌+◌, ◌-◌, ◌<◌, ◌≤◌, Bool, true, false, not, cond, ◌||◌, List, [], ◌∷◌, ◌++◌, length, drop, set, get_or, Option, Some, None, MatchOption, String, Global, string_bytes, refl, sym, ap, subst, ◌∙◌, arith}
 use Rattle.std.proofs.lemmas.Bool.{and_parts, true≢false}
-use Rattle.std.proofs.lemmas.List.{length-drop, drop-append-le, at_drop_all}
+use Rattle.std.proofs.lemmas.List.{length-append, length-drop, drop-append-le, drop_all, at_drop_all}
 use Rattle.std.proofs.lemmas.Slice.Eq.{bytes_eq-Decides}
 use Rattle.std.proofs.lemmas.Map.Text.{btree_map_updates_text}
-use Rattle.std.specs.Prelude.{Result, Ok, Err, is_ok, is_err}
 use Rattle.std.specs.BTreeMap.{BTreeMap, UpdatesBy, get_by_text}
 use Rattle.std.specs.String.{string_cmp}
 use Rattle.std.specs.Str.{bytes_eq}
 use Rattle.json_tree.specs.Keys.{put, value_of, keys_of, meets, distinct, place, place_from, Indexed}
-
-pub pushed : {X E A : Type 0} (r : Result X E) (new a o : List A) → is_err r ≡ false → new ≡ cond (is_ok r) a o → new ≡ a
-pushed (Ok x) new a o e h = h
-pushed (Err x) new a o e h = absurd (true≢false e)
 
 module _ {V : Type 0} where
   pub length-keys : (ms : List (List ℕ × V)) → length (keys_of ms) ≡ length ms
@@ -147,6 +142,10 @@ place-behind (suc n) k (x ∷ xs) l = place-behind n k xs (at (bytes_eq x k) l)
     at : (b : Bool) → suc (length xs) ≤ cond b 0 (suc (place k xs)) → length xs ≤ place k xs
     at true m = absurd (omega (arith, m))
     at false m = omega (arith, m)
+
+-- a key among the first 16 needs no entry
+pub indexed-scanned : (m : BTreeMap (String Global) ℕ) (ks : List (List ℕ)) (k : List ℕ) → length ks < 16 → Indexed m (drop 16 ks) → Indexed m (drop 16 (ks ++ k ∷ []))
+indexed-scanned m ks k s h = subst (Indexed m) (drop_all 16 ks (omega (arith, s)) ∙ sym (drop_all 16 (ks ++ k ∷ []) (omega (arith, s, length-append ks (k ∷ []))))) h
 
 -- an index takes one more key
 pub indexed-more : (m n : BTreeMap (String Global) ℕ) (key : String Global) (bs : List ℕ) (at : ℕ) → string_bytes key ≡ bs → UpdatesBy string_cmp (string_cmp key) m n (Some at) → 16 ≤ at

@@ -1,7 +1,9 @@
 -- The turns of a loop over entries.
-use Rattle.std.proofs.Common.{◌≡◌, ◌≢◌, ℕ, zero, suc, ◌≤◌, Bool, true, false, cond, eqb, List, [], ◌∷◌, ◌++◌, length, refl, sym, ap, ◌∙◌, subst, arith}
+use Rattle.std.proofs.Common.{◌≡◌, ◌≢◌, ℕ, zero, suc, ◌≤◌, ◌-◌, set, Bool, true, false, cond, eqb, List, [], ◌∷◌, ◌++◌, length, refl, sym, ap, ◌∙◌, subst, arith}
 use Rattle.std.proofs.lemmas.Bool.Decides.{nat_tests}
 use Rattle.std.proofs.lemmas.Bool.{eq-eqb}
+use Rattle.std.proofs.lemmas.List.{length-append}
+use Rattle.std.proofs.Math.Seq.{set-append_seam}
 use Rattle.std.specs.Prelude.{MatchOption, Option, Some, None}
 use Rattle.json_tree.specs.Tree.{Json, null, boolean, string, put, put_all, put_together, array, object}
 use Rattle.json_tree.specs.Grammar.{is_space, text_null, text_true, text_false}
@@ -86,6 +88,12 @@ unfolding member_at string_at
 member-nil d b e = rw e refl
 
 -- ---- arrays
+
+-- a value that is pushed first and set then
+pub pushed-set : (old new : List Json) (x y : Json) (n : ℕ) → new ≡ old ++ x ∷ [] → n ≡ length new → set new (n - 1) y ≡ old ++ y ∷ []
+pushed-set old new x y n p l =
+    let at : n - 1 ≡ length old = omega (arith, l, ap length p, length-append old (x ∷ [])) in
+    rw (at, p) (set-append_seam old x [] y)
 
 abbrev Cells : ℕ → Reader Json
 Cells d = led (value_at d)

@@ -14,6 +14,9 @@ use std::marker::Model;
 /// How many members are found by a scan.
 const SCANNED: usize = 16;
 
+/// For how many members an object has room once it has one, so that few objects grow.
+const FIRST_ROOM: usize = 8;
+
 /// Members in the order of their keys' first places, each key once.
 #[derive(Drop)]
 pub(crate) struct Members<V> {
@@ -52,6 +55,30 @@ fn scan<V>(pairs: &[(Text, V)], key: &str) -> Option<usize>
     None
 }
 
+// The next key comes at the place `at`, behind those that are scanned, and gets an entry.
+#[cold]
+#[inline(never)]
+fn index_place(
+    alloc: Global,
+    places: &mut BTreeMap<String, usize>,
+    key: &str,
+    at: usize,
+) -> Result<(), JsonFault>
+    requires { 16 ≤ at }
+    ensures added { OnOk result ((ks : List (List ℕ)) → at ≡ length ks → length ks ≤ place key.now ks
+        → Indexed places.old (drop 16 ks) → Indexed places.new (drop 16 (ks ++ key.now ∷ []))) }
+    ensures stays { OnErr result ((ks : List (List ℕ)) → Indexed places.old ks → Indexed places.new ks) }
+    ensures memory { IfErr result (λ e. e ≡ JsonFault.Memory) }
+{
+    match String::from_str(alloc, key) {
+        Err(_) => Err(JsonFault::Memory),
+        Ok(owned) => match places.insert(owned, at) {
+            Ok(_) => Ok(()),
+            Err(_) => Err(JsonFault::Memory),
+        },
+    }
+}
+
 // The next key comes at the place `at`. It gets an entry where it isn't scanned.
 fn add_place(
     alloc: Global,
@@ -67,13 +94,17 @@ fn add_place(
     if at < SCANNED {
         return Ok(());
     }
-    match String::from_str(alloc, key) {
-        Err(_) => Err(JsonFault::Memory),
-        Ok(owned) => match places.insert(owned, at) {
-            Ok(_) => Ok(()),
-            Err(_) => Err(JsonFault::Memory),
-        },
+    index_place(alloc, places, key, at)
+}
+
+// For how many more members room is made, where so many are there.
+fn wanted_room(members: usize) -> usize
+    ensures { 1 ≤ result }
+{
+    if members == 0 {
+        return FIRST_ROOM;
     }
+    1
 }
 
 impl<V: Drop> Members<V> {
@@ -114,21 +145,36 @@ impl<V: Drop> Members<V> {
         }
     }
 
-    // One more member, with a key that no member has.
+    // One more member, with a key that no member has. There may be no room, or the key may need an
+    // entry.
+    #[inline(never)]
+    fn add_growing(&mut self, alloc: Global, key: Text, value: V) -> Result<(), JsonFault>
+        requires { length self.old ≤ place key (keys_of self.old) }
+        ensures added { OnOk result (self.new ≡ self.old ++ (key, value) ∷ []) }
+        ensures memory { IfErr result (λ e. e ≡ JsonFault.Memory) }
+    {
+        let at = self.pairs.len();
+        if self.pairs.reserve(wanted_room(at)).is_err() {
+            return Err(JsonFault::Memory);
+        }
+        add_place(alloc, &mut self.places, key.as_str(), at)?;
+        self.pairs.push_reserved((key, value));
+        Ok(())
+    }
+
+    // One more member, with a key that no member has. Where nothing has to grow, nothing can fail, and
+    // the member moves straight to its place.
     fn add(&mut self, alloc: Global, key: Text, value: V) -> Result<(), JsonFault>
         requires { length self.old ≤ place key (keys_of self.old) }
         ensures added { OnOk result (self.new ≡ self.old ++ (key, value) ∷ []) }
         ensures memory { IfErr result (λ e. e ≡ JsonFault.Memory) }
     {
-        if self.pairs.reserve(1).is_err() {
-            return Err(JsonFault::Memory);
-        }
         let at = self.pairs.len();
-        add_place(alloc, &mut self.places, key.as_str(), at)?;
-        if self.pairs.push((key, value)).is_err() {
-            return Err(JsonFault::Memory);
+        if at < SCANNED && at < self.pairs.capacity() {
+            self.pairs.push_reserved((key, value));
+            return Ok(());
         }
-        Ok(())
+        self.add_growing(alloc, key, value)
     }
 
     // A key that is there keeps its place and takes the value.

@@ -2,7 +2,6 @@
 ghost use Rattle.std.specs.Prelude.{◌≡◌, ◌≢◌, ◌≤◌, ◌<◌, ◌++◌, ◌-◌, ℕ, List, [], ◌∷◌, length, take, drop, Ok, Err, OnOk, MatchBool, MatchResult, IfSome};
 ghost use Rattle.std.specs.Str.{IsUtf8};
 ghost use Rattle.json_tree.specs.Grammar.{is_digit, is_exponent_mark};
-ghost use Rattle.json_tree.specs.Tree.{has_point};
 ghost use Rattle.json_tree.specs.Reading.{after, found, wrong, digits_at, int_at, minus_at, frac_at, sign_at, exp_at, number_at};
 ghost use Rattle.json_tree.specs.Gives.{Gives, Moves};
 
@@ -103,20 +102,7 @@ fn exponent_part<'a>(reader: &mut Reader<'a>) -> Result<(), JsonFault>
     }
 }
 
-// Whether the bytes have a point.
-fn has_point(bytes: &[u8]) -> bool
-    ensures { result ≡ has_point bytes.now }
-{
-    let mut rest = bytes;
-    while let Some((first, others)) = rest.split_first() {
-        if *first == b'.' {
-            return true;
-        }
-        rest = others;
-    }
-    false
-}
-
+#[inline(always)]
 fn ascii_text(alloc: Global, bytes: &[u8]) -> Result<Text, JsonFault>
     requires { IsUtf8 bytes.now }
     ensures text { MatchResult result (λ t. t ≡ bytes.now) (λ e. e ≡ JsonFault.Memory) }
@@ -125,6 +111,26 @@ fn ascii_text(alloc: Global, bytes: &[u8]) -> Result<Text, JsonFault>
         Ok(text) => Ok(text),
         Err(_) => Err(JsonFault::Memory),
     }
+}
+
+// Behind a call, so that the compiler knows the text to be empty and copies nothing.
+#[inline(never)]
+fn empty_text(alloc: Global) -> Result<Text, JsonFault>
+    ensures text { MatchResult result (λ t. t ≡ []) (λ e. e ≡ JsonFault.Memory) }
+{
+    ascii_text(alloc, b"")
+}
+
+// The text of an exponent. Most numbers have none.
+#[inline(always)]
+fn exponent_text(alloc: Global, bytes: &[u8]) -> Result<Text, JsonFault>
+    requires { IsUtf8 bytes.now }
+    ensures text { MatchResult result (λ t. t ≡ bytes.now) (λ e. e ≡ JsonFault.Memory) }
+{
+    if bytes.is_empty() {
+        return empty_text(alloc);
+    }
+    ascii_text(alloc, bytes)
 }
 
 // All but the first of the first n bytes.
@@ -140,25 +146,31 @@ fn behind_first(bytes: &[u8], n: usize) -> &[u8]
 }
 
 /// A number, of which no byte is left ahead that could go on with it but digits behind a 0.
-pub(crate) fn number<'a>(alloc: Global, reader: &mut Reader<'a>) -> Result<Value, JsonFault>
-    ensures reads { Gives (λ v. v) result reader.new (number_at reader.old) }
+#[inline(never)]
+pub(crate) fn number<'a>(
+    alloc: Global,
+    reader: &mut Reader<'a>,
+    out: &mut Value,
+) -> Result<(), JsonFault>
+    ensures reads { Gives (λ _. out.new) result reader.new (number_at reader.old) }
     ensures forward { length reader.new ≤ length reader.old }
 {
     let start = reader.rest();
     optional_minus(reader);
     integer_part(reader)?;
+    let whole = reader.rest();
     fraction_part(reader)?;
     let tail = reader.rest();
     let mantissa = &start[..start.len() - tail.len()];
     exponent_part(reader)?;
     let left = reader.rest();
     let behind = behind_first(tail, tail.len() - left.len());
-    let float = has_point(mantissa);
+    let exponent = exponent_text(alloc, behind)?;
     let mantissa = ascii_text(alloc, mantissa)?;
-    let exponent = ascii_text(alloc, behind)?;
-    if float {
-        Ok(Value::Number(Number::Float(mantissa, exponent)))
+    if tail.len() < whole.len() {
+        *out = Value::Number(Number::Float(mantissa, exponent));
     } else {
-        Ok(Value::Number(Number::Integer(mantissa, exponent)))
+        *out = Value::Number(Number::Integer(mantissa, exponent));
     }
+    Ok(())
 }

@@ -75,12 +75,14 @@ impl<'a> Reader<'a> {
         ensures skipped { self.new ≡ skip self.old }
         ensures forward { length self.new ≤ length self.old }
     {
-        while let Some((first, rest)) = self.bytes.split_first() {
+        let mut rest = self.bytes;
+        while let Some((first, others)) = rest.split_first() {
             if !is_space(*first) {
                 break;
             }
-            self.bytes = rest;
+            rest = others;
         }
+        self.bytes = rest;
     }
 
     /// Passes this byte where it is next, and tells whether it was.
@@ -102,12 +104,14 @@ impl<'a> Reader<'a> {
         ensures skipped { self.new ≡ after is_digit self.old }
         ensures forward { length self.new ≤ length self.old }
     {
-        while let Some((first, rest)) = self.bytes.split_first() {
+        let mut rest = self.bytes;
+        while let Some((first, others)) = rest.split_first() {
             if !(b'0' <= *first && *first <= b'9') {
                 break;
             }
-            self.bytes = rest;
+            rest = others;
         }
+        self.bytes = rest;
     }
 
     /// Passes `n` bytes.
@@ -133,6 +137,26 @@ impl<'a> Reader<'a> {
             }
             None => false,
         }
+    }
+
+    /// Passes a string without escapes where it is next, and lends what stands between its quotation
+    /// marks. Else nothing is passed.
+    pub(crate) fn plain_string(&mut self) -> Option<&'a str>
+        ensures found { MatchOption result (self.new ≡ self.old)
+            (λ run. Each is_unescaped run.now × (self.old ≡ 34 ∷ (run.now ++ 34 ∷ self.new))) }
+    {
+        let (first, rest) = self.bytes.split_first()?;
+        if *first != b'"' {
+            return None;
+        }
+        let n = unescaped_len(rest);
+        let (run, tail) = rest.split_at(n);
+        let (last, behind) = tail.split_first()?;
+        if *last != b'"' {
+            return None;
+        }
+        self.bytes = behind;
+        Some(unsafe { std::str::from_utf8_unchecked(run) })
     }
 
     /// Passes the characters ahead that stand for themselves (RFC 8259, section 7), and lends them.
@@ -182,9 +206,12 @@ fn is_unescaped(byte: u8) -> bool
 fn unescaped_len(bytes: &[u8]) -> usize
     ensures { result ≡ prefix_len is_unescaped bytes.now }
 {
-    let mut n = 0;
-    while n < bytes.len() && is_unescaped(bytes[n]) {
-        n += 1;
+    let mut rest = bytes;
+    while let Some((first, others)) = rest.split_first() {
+        if !is_unescaped(*first) {
+            break;
+        }
+        rest = others;
     }
-    n
+    bytes.len() - rest.len()
 }

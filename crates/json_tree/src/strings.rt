@@ -162,10 +162,16 @@ fn escape<'a>(reader: &mut Reader<'a>) -> Result<char, JsonFault>
     }
 }
 
+/// How much room a string with escapes has behind its first run, so that a short one does not grow.
+const ESCAPED_ROOM: usize = 64;
+
 fn push_text(out: &mut String, run: &str) -> Result<(), JsonFault>
     ensures added { OnOk result (string_bytes out.new ≡ string_bytes out.old ++ run.now) }
     ensures memory { IfErr result (λ e. e ≡ JsonFault.Memory) }
 {
+    if out.capacity() == 0 && out.reserve(run.len() + ESCAPED_ROOM).is_err() {
+        return Err(JsonFault::Memory);
+    }
     match out.push_str(run) {
         Ok(()) => Ok(()),
         Err(_) => Err(JsonFault::Memory),
@@ -183,7 +189,7 @@ fn push_char(out: &mut String, c: char) -> Result<(), JsonFault>
 }
 
 // A text of its own, of no more room than it needs.
-fn owned(alloc: Global, text: &str) -> Result<Text, JsonFault>
+pub(crate) fn owned(alloc: Global, text: &str) -> Result<Text, JsonFault>
     ensures { MatchResult result (λ t. t ≡ text.now) (λ e. e ≡ JsonFault.Memory) }
 {
     match Text::try_from_str(alloc, text) {
@@ -204,9 +210,9 @@ fn joined(alloc: Global, front: String, run: &str) -> Result<Text, JsonFault>
     owned(alloc, whole.as_str())
 }
 
-/// A string, from its opening to its closing quotation mark. Runs of characters that stand for
-/// themselves are copied as slices.
-pub(crate) fn string<'a>(alloc: Global, reader: &mut Reader<'a>) -> Result<Text, JsonFault>
+// A string of any kind. Runs of characters that stand for themselves are copied as slices.
+#[inline(never)]
+pub(crate) fn escaped_string<'a>(alloc: Global, reader: &mut Reader<'a>) -> Result<Text, JsonFault>
     ensures reads { Gives (λ v. v) result reader.new (string_at reader.old) }
     ensures forward { length reader.new ≤ length reader.old }
 {
@@ -226,4 +232,16 @@ pub(crate) fn string<'a>(alloc: Global, reader: &mut Reader<'a>) -> Result<Text,
         let c = escape(reader)?;
         push_char(&mut out, c)?;
     }
+}
+
+/// A string, from its opening to its closing quotation mark. One without escapes is copied at once.
+#[inline(always)]
+pub(crate) fn string<'a>(alloc: Global, reader: &mut Reader<'a>) -> Result<Text, JsonFault>
+    ensures reads { Gives (λ v. v) result reader.new (string_at reader.old) }
+    ensures forward { length reader.new ≤ length reader.old }
+{
+    if let Some(run) = reader.plain_string() {
+        return owned(alloc, run);
+    }
+    escaped_string(alloc, reader)
 }

@@ -19,10 +19,11 @@ fn whole_text<'a>(alloc: Global, bytes: &'a [u8]) -> Result<Value, JsonFault>
 {
     let mut reader = Reader::new(bytes);
     reader.skip_spaces();
-    let value = value(alloc, &mut reader, 128)?;
+    let mut whole = Value::Null;
+    value(alloc, &mut reader, 128, &mut whole)?;
     reader.skip_spaces();
     match reader.peek() {
-        None => Ok(value),
+        None => Ok(whole),
         Some(_) => Err(JsonFault::Text),
     }
 }

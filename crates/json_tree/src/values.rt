@@ -1,25 +1,41 @@
 //! Values, arrays and objects (RFC 8259, sections 3 to 5).
 ghost use Rattle.std.specs.Prelude.{◌≡◌, ◌≢◌, ◌≤◌, ◌<◌, ◌++◌, ℕ, List, [], ◌∷◌, length, Ok, Err, OnOk, IfErr, MatchBool, MatchResult};
-ghost use Rattle.json_tree.specs.Tree.{put, put_all, string};
+ghost use Rattle.json_tree.specs.Tree.{put, put_all, null, boolean, string};
+ghost use Rattle.json_tree.specs.Grammar.{text_null};
 ghost use Rattle.json_tree.specs.Reading.{skip, First, strip, bind, found, wrong, deep, scalar_at, member_at, array_at, object_at, value_at, string_at};
 ghost use Rattle.json_tree.specs.Gives.{Gives, Fails};
 
 use crate::members::Members;
 use crate::number::number;
 use crate::reader::Reader;
-use crate::strings::string;
+use crate::strings::{escaped_string, owned, string};
 use crate::value::{JsonFault, Object, Value};
 use arrow_lists::Items;
 use std::alloc::Global;
 
+// One more item, for which there may be no room.
+#[inline(never)]
+fn push_growing<T: Drop>(items: &mut Vec<T>, item: T) -> Result<(), JsonFault>
+    ensures pushed { OnOk result (items.new.items ≡ items.old.items ++ item ∷ []) }
+    ensures memory { IfErr result (λ e. e ≡ JsonFault.Memory) }
+{
+    if items.reserve(1).is_err() {
+        return Err(JsonFault::Memory);
+    }
+    items.push_reserved(item);
+    Ok(())
+}
+
+// One more item. Where there is room, it moves straight to its place.
 fn push_item<T: Drop>(items: &mut Vec<T>, item: T) -> Result<(), JsonFault>
     ensures pushed { OnOk result (items.new.items ≡ items.old.items ++ item ∷ []) }
     ensures memory { IfErr result (λ e. e ≡ JsonFault.Memory) }
 {
-    match items.push(item) {
-        Ok(()) => Ok(()),
-        Err(_) => Err(JsonFault::Memory),
+    if items.len() < items.capacity() {
+        items.push_reserved(item);
+        return Ok(());
     }
+    push_growing(items, item)
 }
 
 // Whether the closing bracket is next, behind white space. Then it is passed.
@@ -81,99 +97,153 @@ fn literal<'a>(reader: &mut Reader<'a>, word: &[u8]) -> Result<(), JsonFault>
     Ok(())
 }
 
-// The value for which this word stands.
-fn literal_value<'a>(reader: &mut Reader<'a>, word: &[u8], value: Value) -> Result<Value, JsonFault>
-    ensures reads { Gives (λ v. v) result reader.new (bind (strip word.now reader.old) (λ _ r. found value r)) }
+fn null_value<'a>(reader: &mut Reader<'a>, out: &mut Value) -> Result<(), JsonFault>
+    ensures reads { Gives (λ _. out.new) result reader.new (bind (strip text_null reader.old) (λ _ r. found null r)) }
     ensures forward { length reader.new ≤ length reader.old }
 {
-    match literal(reader, word) {
-        Ok(()) => Ok(value),
-        Err(e) => Err(e),
-    }
+    literal(reader, b"null")?;
+    *out = Value::Null;
+    Ok(())
 }
 
-fn string_value<'a>(alloc: Global, reader: &mut Reader<'a>) -> Result<Value, JsonFault>
-    ensures reads { Gives (λ v. v) result reader.new (bind (string_at reader.old) (λ s r. found (string s) r)) }
+// The truth value for which this word stands.
+fn truth_value<'a>(
+    reader: &mut Reader<'a>,
+    word: &[u8],
+    truth: bool,
+    out: &mut Value,
+) -> Result<(), JsonFault>
+    ensures reads { Gives (λ _. out.new) result reader.new (bind (strip word.now reader.old) (λ _ r. found (boolean truth) r)) }
     ensures forward { length reader.new ≤ length reader.old }
 {
-    match string(alloc, reader) {
-        Ok(text) => Ok(Value::String(text)),
-        Err(e) => Err(e),
+    literal(reader, word)?;
+    *out = Value::Bool(truth);
+    Ok(())
+}
+
+// The string that consists of these characters.
+#[inline(always)]
+fn plain_value(alloc: Global, text: &str, out: &mut Value) -> Result<(), JsonFault>
+    ensures { MatchResult result (λ _. out.new ≡ string text.now) (λ e. e ≡ JsonFault.Memory) }
+{
+    let text = owned(alloc, text)?;
+    *out = Value::String(text);
+    Ok(())
+}
+
+// A string of any kind. It stands behind a call, since few have escapes.
+#[inline(never)]
+fn escaped_value<'a>(
+    alloc: Global,
+    reader: &mut Reader<'a>,
+    out: &mut Value,
+) -> Result<(), JsonFault>
+    ensures reads { Gives (λ _. out.new) result reader.new (bind (string_at reader.old) (λ s r. found (string s) r)) }
+    ensures forward { length reader.new ≤ length reader.old }
+{
+    let text = escaped_string(alloc, reader)?;
+    *out = Value::String(text);
+    Ok(())
+}
+
+#[inline(always)]
+fn string_value<'a>(
+    alloc: Global,
+    reader: &mut Reader<'a>,
+    out: &mut Value,
+) -> Result<(), JsonFault>
+    ensures reads { Gives (λ _. out.new) result reader.new (bind (string_at reader.old) (λ s r. found (string s) r)) }
+    ensures forward { length reader.new ≤ length reader.old }
+{
+    if let Some(run) = reader.plain_string() {
+        return plain_value(alloc, run, out);
     }
+    escaped_value(alloc, reader, out)
 }
 
 // A value that is no array and no object.
-fn scalar<'a>(alloc: Global, reader: &mut Reader<'a>) -> Result<Value, JsonFault>
-    ensures reads { Gives (λ v. v) result reader.new (scalar_at reader.old) }
+fn scalar<'a>(alloc: Global, reader: &mut Reader<'a>, out: &mut Value) -> Result<(), JsonFault>
+    ensures reads { Gives (λ _. out.new) result reader.new (scalar_at reader.old) }
     ensures forward { length reader.new ≤ length reader.old }
 {
-    match reader.peek() {
-        None => Err(JsonFault::Text),
-        Some(byte) => {
-            if byte == b'"' {
-                string_value(alloc, reader)
-            } else if byte == b'n' {
-                literal_value(reader, b"null", Value::Null)
-            } else if byte == b't' {
-                literal_value(reader, b"true", Value::Bool(true))
-            } else if byte == b'f' {
-                literal_value(reader, b"false", Value::Bool(false))
-            } else {
-                number(alloc, reader)
-            }
-        }
+    let Some(byte) = reader.peek() else {
+        return Err(JsonFault::Text);
+    };
+    if byte == b'"' {
+        return string_value(alloc, reader, out);
     }
+    if byte == b'n' {
+        return null_value(reader, out);
+    }
+    if byte == b't' {
+        return truth_value(reader, b"true", true, out);
+    }
+    if byte == b'f' {
+        return truth_value(reader, b"false", false, out);
+    }
+    number(alloc, reader, out)
 }
 
-/// A value in which at most `depth` brackets are open at once.
+/// A value in which at most `depth` brackets are open at once. It is written to `out`, as by each of
+/// these functions, so that it isn't moved through the places of nested calls. After a fault `out`
+/// has any value.
 #[cycle(value)]
 #[tactic(auto, unfolding(crate::specs::Reading::value_at))]
+#[inline(always)]
 pub(crate) fn value<'a>(
     alloc: Global,
     reader: &mut Reader<'a>,
     depth: usize,
-) -> Result<Value, JsonFault>
-    ensures reads { Gives (λ v. v) result reader.new (value_at depth reader.old) }
+    out: &mut Value,
+) -> Result<(), JsonFault>
+    ensures reads { Gives (λ _. out.new) result reader.new (value_at depth reader.old) }
     ensures forward { length reader.new ≤ length reader.old }
 {
-    match reader.peek() {
-        None => Err(JsonFault::Text),
-        Some(byte) => {
-            if byte == b'[' {
-                reader.next();
-                if depth == 0 {
-                    return Err(JsonFault::Depth);
-                }
-                array(alloc, reader, depth - 1)
-            } else if byte == b'{' {
-                reader.next();
-                if depth == 0 {
-                    return Err(JsonFault::Depth);
-                }
-                object(alloc, reader, depth - 1)
-            } else {
-                scalar(alloc, reader)
-            }
+    let Some(byte) = reader.peek() else {
+        return Err(JsonFault::Text);
+    };
+    if byte == b'[' {
+        reader.next();
+        if depth == 0 {
+            return Err(JsonFault::Depth);
         }
+        return array(alloc, reader, depth - 1, out);
     }
+    if byte == b'{' {
+        reader.next();
+        if depth == 0 {
+            return Err(JsonFault::Depth);
+        }
+        return object(alloc, reader, depth - 1, out);
+    }
+    scalar(alloc, reader, out)
 }
 
-// What follows the opening bracket of an array.
+// What follows the opening bracket of an array. An item gets its place first and is read into it.
 #[cycle(value)]
-fn array<'a>(alloc: Global, reader: &mut Reader<'a>, depth: usize) -> Result<Value, JsonFault>
-    ensures reads { Gives (λ v. v) result reader.new (array_at (value_at depth) reader.old) }
+#[inline(never)]
+fn array<'a>(
+    alloc: Global,
+    reader: &mut Reader<'a>,
+    depth: usize,
+    out: &mut Value,
+) -> Result<(), JsonFault>
+    ensures reads { Gives (λ _. out.new) result reader.new (array_at (value_at depth) reader.old) }
     ensures forward { length reader.new ≤ length reader.old }
 {
     let mut items = Vec::new(alloc);
     if closes(reader, b']') {
-        return Ok(Value::Array(Items::from_vec(items)));
+        *out = Value::Array(Items::from_vec(items));
+        return Ok(());
     }
     loop {
         reader.skip_spaces();
-        let item = value(alloc, reader, depth)?;
-        push_item(&mut items, item)?;
+        push_item(&mut items, Value::Null)?;
+        let last = items.len() - 1;
+        value(alloc, reader, depth, &mut items[last])?;
         if !goes_on(reader, b']')? {
-            return Ok(Value::Array(Items::from_vec(items)));
+            *out = Value::Array(Items::from_vec(items));
+            return Ok(());
         }
     }
 }
@@ -200,23 +270,32 @@ fn name_separator<'a>(reader: &mut Reader<'a>) -> Result<(), JsonFault>
 
 // What follows the opening bracket of an object.
 #[cycle(value)]
-fn object<'a>(alloc: Global, reader: &mut Reader<'a>, depth: usize) -> Result<Value, JsonFault>
-    ensures reads { Gives (λ v. v) result reader.new (object_at (value_at depth) reader.old) }
+#[inline(never)]
+fn object<'a>(
+    alloc: Global,
+    reader: &mut Reader<'a>,
+    depth: usize,
+    out: &mut Value,
+) -> Result<(), JsonFault>
+    ensures reads { Gives (λ _. out.new) result reader.new (object_at (value_at depth) reader.old) }
     ensures forward { length reader.new ≤ length reader.old }
 {
     let mut members = Members::new(alloc);
     if closes(reader, b'}') {
-        return Ok(Value::Object(Object { members }));
+        *out = Value::Object(Object { members });
+        return Ok(());
     }
     loop {
         reader.skip_spaces();
         let key = string(alloc, reader)?;
         name_separator(reader)?;
         reader.skip_spaces();
-        let item = value(alloc, reader, depth)?;
+        let mut item = Value::Null;
+        value(alloc, reader, depth, &mut item)?;
         members.put(alloc, key, item)?;
         if !goes_on(reader, b'}')? {
-            return Ok(Value::Object(Object { members }));
+            *out = Value::Object(Object { members });
+            return Ok(());
         }
     }
 }

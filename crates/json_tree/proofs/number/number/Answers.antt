@@ -1,8 +1,8 @@
-use Rattle.std.proofs.Common.{true, false, sym, ap, ◌∙◌}
+use Rattle.std.proofs.Common.{true, false, ap, ◌∙◌}
 use Rattle.std.proofs.lemmas.Result.{err_from_is_err_and}
-use Rattle.json_tree.specs.Tree.{has_point}
 use Rattle.json_tree.proofs.Numbers.{number-int, number-frac, number-exp, number-told}
-use Rattle.std.proofs.Common.{take, ◌-◌, length, refl}
+use Rattle.std.proofs.Common.{take, ◌-◌, length, refl, arith}
+use Rattle.json_tree.proofs.Points.{frac-point, no-frac-point, mantissa-point}
 use Rattle.json_tree.proofs.Digits.{mantissa-utf8, exponent-utf8}
 use Rattle.json_tree.proofs.number.number.Goals as goal
 
@@ -13,8 +13,8 @@ ascii_text-requires c =
     let f = c.in_ok-fraction_part.ensures.reads in
     mantissa-utf8 c.args.reader.now c.optional_minus.new.reader c.integer_part.new.reader c.fraction_part.new.reader m.0 i.0 f.0 m.1 i.1 f.1 c.rest-start.result.now c.rest-tail.result.now (take (length c.rest-start.result.now - length c.rest-tail.result.now) c.rest-start.result.now) c.rest-start.ensures c.rest-tail.ensures refl
 
-pub ascii_text-requires-2 : goal.ascii_text-requires-2
-ascii_text-requires-2 c =
+pub exponent_text-requires : goal.exponent_text-requires
+exponent_text-requires c =
     let e = c.in_ok-exponent_part.ensures.reads in
     exponent-utf8 c.fraction_part.new.reader c.exponent_part.new.reader e.0 e.1 c.rest-tail.result.now c.rest-left.result.now c.behind_first-behind.result.now c.rest-tail.ensures c.rest-left.ensures c.behind_first-behind.ensures
 
@@ -42,24 +42,26 @@ returns-in_err-exponent_part-clause-reads c =
     let e = c.in_err-exponent_part.ensures.reads in
     rw (p.1, p.2, e.0) (number-exp c.args.reader.now c.optional_minus.new.reader c.integer_part.new.reader c.fraction_part.new.reader m.0 i.0 f.0 m.1 i.1 f.1 e.1)
 
-pub returns-then-float-clause-reads : goal.returns-then-float-clause-reads
-returns-then-float-clause-reads c =
+pub returns-then-tail-whole-clause-reads : goal.returns-then-tail-whole-clause-reads
+returns-then-tail-whole-clause-reads c =
     let m = c.optional_minus.ensures.reads in
     let i = c.in_ok-integer_part.ensures.reads in
     let f = c.in_ok-fraction_part.ensures.reads in
     let e = c.in_ok-exponent_part.ensures.reads in
     let mant = c.in_ok-mantissa.ensures.text in
+    let point = mantissa-point c.args.reader.now c.optional_minus.new.reader c.integer_part.new.reader c.fraction_part.new.reader m.0 i.0 f.0 m.1 i.1 f.1 c.rest-start.result.now c.rest-tail.result.now c.in_ok-mantissa.mantissa c.rest-start.ensures c.rest-tail.ensures mant in
     number-told c.args.reader.now c.optional_minus.new.reader c.integer_part.new.reader c.fraction_part.new.reader c.exponent_part.new.reader m.0 i.0 f.0 e.0 m.1 i.1 f.1 e.1
     c.rest-start.result.now c.rest-tail.result.now c.rest-left.result.now c.in_ok-mantissa.mantissa c.in_ok-exponent.exponent c.rest-start.ensures c.rest-tail.ensures c.rest-left.ensures
-    mant (c.in_ok-exponent.ensures.text ∙ c.behind_first-behind.ensures) true (ap has_point mant ∙ sym c.has_point-float.ensures ∙ c.if-float.true)
+    mant (c.in_ok-exponent.ensures.text ∙ c.behind_first-behind.ensures) true (point true (frac-point c.integer_part.new.reader c.fraction_part.new.reader f.0 f.1 (omega (arith, ap length c.rest-whole.ensures, ap length c.rest-tail.ensures, c.if-tail-whole.true))))
 
-pub returns-else-float-clause-reads : goal.returns-else-float-clause-reads
-returns-else-float-clause-reads c =
+pub returns-else-tail-whole-clause-reads : goal.returns-else-tail-whole-clause-reads
+returns-else-tail-whole-clause-reads c =
     let m = c.optional_minus.ensures.reads in
     let i = c.in_ok-integer_part.ensures.reads in
     let f = c.in_ok-fraction_part.ensures.reads in
     let e = c.in_ok-exponent_part.ensures.reads in
     let mant = c.in_ok-mantissa.ensures.text in
+    let point = mantissa-point c.args.reader.now c.optional_minus.new.reader c.integer_part.new.reader c.fraction_part.new.reader m.0 i.0 f.0 m.1 i.1 f.1 c.rest-start.result.now c.rest-tail.result.now c.in_ok-mantissa.mantissa c.rest-start.ensures c.rest-tail.ensures mant in
     number-told c.args.reader.now c.optional_minus.new.reader c.integer_part.new.reader c.fraction_part.new.reader c.exponent_part.new.reader m.0 i.0 f.0 e.0 m.1 i.1 f.1 e.1
     c.rest-start.result.now c.rest-tail.result.now c.rest-left.result.now c.in_ok-mantissa.mantissa c.in_ok-exponent.exponent c.rest-start.ensures c.rest-tail.ensures c.rest-left.ensures
-    mant (c.in_ok-exponent.ensures.text ∙ c.behind_first-behind.ensures) false (ap has_point mant ∙ sym c.has_point-float.ensures ∙ c.if-float.false)
+    mant (c.in_ok-exponent.ensures.text ∙ c.behind_first-behind.ensures) false (point false (no-frac-point c.integer_part.new.reader c.fraction_part.new.reader f.0 f.1 (omega (arith, ap length c.rest-whole.ensures, ap length c.rest-tail.ensures, c.if-tail-whole.false))))

@@ -1,13 +1,13 @@
-use Rattle.std.proofs.Common.{◌≡◌, ◌≤◌, ◌+◌, ◌-◌, length, drop}
+use Rattle.std.proofs.Common.{◌≡◌, ◌≤◌, ◌+◌, length}
 use Rattle.std.specs.List.{prefix_len}
 use Rattle.arrow_base.specs.JsonString.{is_unescaped}
 use Rattle.json_tree.proofs.reader.unescaped_len.Given as goal
 
-abbrev pub invariant-loop-n : goal.invariant-loop-n
-invariant-loop-n l = record {
-  same : prefix_len is_unescaped l.bytes ≡ l.n + prefix_len is_unescaped (drop l.n l.bytes);
-  within : l.n ≤ length l.bytes;
+abbrev pub invariant-loop-first : goal.invariant-loop-first
+invariant-loop-first l = record {
+  same : prefix_len is_unescaped l.bytes + length l.rest ≡ length l.bytes + prefix_len is_unescaped l.rest;
+  within : length l.rest ≤ length l.bytes;
 }
 
-abbrev pub decreases-loop-n : goal.decreases-loop-n
-decreases-loop-n l = length l.bytes - l.n
+abbrev pub decreases-loop-first : goal.decreases-loop-first
+decreases-loop-first l = length l.rest

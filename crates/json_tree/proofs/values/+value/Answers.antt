@@ -1,9 +1,9 @@
-use Rattle.std.proofs.Common.{◌≡◌, ◌∙◌, sym, ap, subst, suc, ◌-◌, ◌∷◌, ◌≤◌, [], length, arith}
+use Rattle.std.proofs.Common.{◌≡◌, ◌∙◌, sym, ap, subst, suc, ◌-◌, ◌∷◌, ◌≤◌, [], length, set, arith}
 use Rattle.std.proofs.lemmas.Result.{err_from_is_err_and}
-use Rattle.json_tree.specs.Tree.{array, object}
+use Rattle.json_tree.specs.Tree.{array, object, null}
 use Rattle.json_tree.specs.Reading.{found, string_at, value_at}
 use Rattle.json_tree.specs.Gives.{Gives, Fails}
-use Rattle.json_tree.proofs.Turns.{array-empty, array-start, array-bad, array-next, array-end, object-empty, object-start, key-err, colon-err, item-err, member-ok, object-err, object-bad, object-next, object-end, value-array, next-known}
+use Rattle.json_tree.proofs.Turns.{array-empty, array-start, array-bad, array-next, array-end, object-empty, object-start, key-err, colon-err, item-err, member-ok, object-err, object-bad, object-next, object-end, value-array, next-known, pushed-set}
 use Rattle.json_tree.specs.declared.value.JsonFault.TheVariants.{Text}
 use Rattle.json_tree.proofs.values.+value.Goals as goal
 
@@ -23,36 +23,36 @@ array-returns-in_err-goes_on-clause-reads t c =
     let p = err_from_is_err_and c.from_residual-in_err-goes_on.result c.from_residual-in_err-goes_on.ensures.1 in
     let i = c.loop-items.invariant.reads in
     let f = c.in_err-goes_on.ensures.found in
-    rw (p.1, p.2, f.0) (array-bad c.args.depth i.0 c.loop-items.items.items c.in_ok-item.item c.loop-items.reader c.args.reader.now c.value.new.reader i.2 (ap (value_at c.args.depth) (sym c.skip_spaces.ensures.skipped) ∙ c.in_ok-item.ensures.reads) f.1)
+    rw (p.1, p.2, f.0) (array-bad c.args.depth i.0 c.loop-items.items.items c.value.new.out c.loop-items.reader c.args.reader.now c.value.new.reader i.2 (ap (value_at c.args.depth) (sym c.skip_spaces.ensures.skipped) ∙ c.in_ok-value.ensures.reads) f.1)
 
 pub array-returns-then-not-branch-clause-reads : goal.array-returns-then-not-branch-clause-reads
 array-returns-then-not-branch-clause-reads t c =
     let i = c.loop-items.invariant.reads in
     let f = rw c.if-not-branch.true at c.in_ok-goes_on.ensures.found in
-    let h = c.in_ok-item.ensures.forward in
+    let h = c.in_ok-value.ensures.forward in
     let k = c.skip_spaces.ensures.forward in
-    array-end c.args.depth i.0 c.loop-items.items.items c.push_item.new.items.items c.in_ok-item.item c.loop-items.reader c.args.reader.now c.value.new.reader c.goes_on.new.reader i.2 (omega (arith, h, k, i.1))
-    (ap (value_at c.args.depth) (sym c.skip_spaces.ensures.skipped) ∙ c.in_ok-item.ensures.reads) f.0 c.in_ok-push_item.ensures.pushed ∙ ap (λ l. found (array l) c.goes_on.new.reader) (sym c.from_vec-then-not-branch.ensures)
+    array-end c.args.depth i.0 c.loop-items.items.items (set c.push_item.new.items.items (c.len-last.result - 1) c.value.new.out) c.value.new.out c.loop-items.reader c.args.reader.now c.value.new.reader c.goes_on.new.reader i.2 (omega (arith, h, k, i.1))
+    (ap (value_at c.args.depth) (sym c.skip_spaces.ensures.skipped) ∙ c.in_ok-value.ensures.reads) f.0 (pushed-set c.loop-items.items.items c.push_item.new.items.items null c.value.new.out c.len-last.result c.in_ok-push_item.ensures.pushed (omega (arith, c.len-last.ensures, c.push_item.new.items.ok.0))) ∙ ap (λ l. found (array l) c.goes_on.new.reader) (sym c.from_vec-then-not-branch.ensures)
 
 pub array-loop-items-preserved : goal.array-loop-items-preserved
 array-loop-items-preserved t c =
     let i = c.loop-items.invariant.reads in
     let f = rw c.if-not-branch.false at c.in_ok-goes_on.ensures.found in
-    let h = c.in_ok-item.ensures.forward in
+    let h = c.in_ok-value.ensures.forward in
     let k = c.skip_spaces.ensures.forward in
     let g = c.in_ok-goes_on.ensures.forward in
     record {
       forward = omega (arith, g, h, k, c.loop-items.invariant.forward);
-      reads = array-next c.args.depth i.0 c.loop-items.items.items c.push_item.new.items.items c.in_ok-item.item c.loop-items.reader c.args.reader.now c.value.new.reader c.goes_on.new.reader i.2 (omega (arith, h, k, i.1))
-          (ap (value_at c.args.depth) (sym c.skip_spaces.ensures.skipped) ∙ c.in_ok-item.ensures.reads) f c.in_ok-push_item.ensures.pushed;
+      reads = array-next c.args.depth i.0 c.loop-items.items.items (set c.push_item.new.items.items (c.len-last.result - 1) c.value.new.out) c.value.new.out c.loop-items.reader c.args.reader.now c.value.new.reader c.goes_on.new.reader i.2 (omega (arith, h, k, i.1))
+          (ap (value_at c.args.depth) (sym c.skip_spaces.ensures.skipped) ∙ c.in_ok-value.ensures.reads) f (pushed-set c.loop-items.items.items c.push_item.new.items.items null c.value.new.out c.len-last.result c.in_ok-push_item.ensures.pushed (omega (arith, c.len-last.ensures, c.push_item.new.items.ok.0)));
     }
 
-pub value-returns-else-depth-eq0-clause-reads : goal.value-returns-else-depth-eq0-clause-reads
-value-returns-else-depth-eq0-clause-reads t c =
+pub value-returns-then-byte-eq91-clause-reads : goal.value-returns-then-byte-eq91-clause-reads
+value-returns-then-byte-eq91-clause-reads t c =
     let s = c.in-Some.ensures in
     let first = next-known c.next.result c.args.reader.now c.next.new.self s.0 91 (s.1 ∙ ap (λ x. x ∷ s.0) c.if-byte-eq91.true) c.next.ensures in
     let n : c.args.depth ≡ suc (c.args.depth - 1) = omega (arith, c.if-depth-eq0.false) in
-    subst (Gives (λ v. v) c.array.result c.array.new.reader) (sym (value-array c.args.depth (c.args.depth - 1) c.args.reader.now c.next.new.self n first)) c.array.ensures.reads
+    subst (Gives (λ _. c.array.new.out) c.array.result c.array.new.reader) (sym (value-array c.args.depth (c.args.depth - 1) c.args.reader.now c.next.new.self n first)) c.array.ensures.reads
 
 pub object-returns-then-closes-clause-reads : goal.object-returns-then-closes-clause-reads
 object-returns-then-closes-clause-reads t c =
@@ -81,12 +81,12 @@ object-returns-in_err-name_separator-clause-reads t c =
     let k = colon-err (value_at c.args.depth) c.loop-members.reader c.in_ok-key.key c.string.new.reader (ap string_at (sym c.skip_spaces.ensures.skipped) ∙ c.in_ok-key.ensures.reads) f.1 in
     rw (p.1, p.2, f.0) (object-err Text c.args.depth i.0 i.1 c.loop-members.reader c.args.reader.now i.4 k)
 
-pub object-returns-in_err-item-clause-reads : goal.object-returns-in_err-item-clause-reads
-object-returns-in_err-item-clause-reads t c =
-    let p = err_from_is_err_and c.from_residual-in_err-item.result c.from_residual-in_err-item.ensures.1 in
+pub object-returns-in_err-value-clause-reads : goal.object-returns-in_err-value-clause-reads
+object-returns-in_err-value-clause-reads t c =
+    let p = err_from_is_err_and c.from_residual-in_err-value.result c.from_residual-in_err-value.ensures.1 in
     let i = c.loop-members.invariant.reads in
-    let e = c.in_err-item.field-0.0 in
-    let v = subst (λ b. Fails e (value_at c.args.depth b)) c.skip_spaces-in-loop-members.ensures.skipped c.in_err-item.ensures.reads in
+    let e = c.in_err-value.field-0.0 in
+    let v = subst (λ b. Fails e (value_at c.args.depth b)) c.skip_spaces-in-loop-members.ensures.skipped c.in_err-value.ensures.reads in
     let k = item-err e (value_at c.args.depth) c.loop-members.reader c.in_ok-key.key c.string.new.reader c.name_separator.new.reader (ap string_at (sym c.skip_spaces.ensures.skipped) ∙ c.in_ok-key.ensures.reads) c.in_ok-name_separator.ensures.found v in
     rw (p.1, p.2) (object-err e c.args.depth i.0 i.1 c.loop-members.reader c.args.reader.now i.4 k)
 
@@ -95,24 +95,24 @@ object-returns-in_err-goes_on-clause-reads t c =
     let p = err_from_is_err_and c.from_residual-in_err-goes_on.result c.from_residual-in_err-goes_on.ensures.1 in
     let i = c.loop-members.invariant.reads in
     let f = c.in_err-goes_on.ensures.found in
-    let m = member-ok (value_at c.args.depth) c.loop-members.reader c.in_ok-key.key c.string.new.reader c.name_separator.new.reader c.value.new.reader c.in_ok-item.item (ap string_at (sym c.skip_spaces.ensures.skipped) ∙ c.in_ok-key.ensures.reads) c.in_ok-name_separator.ensures.found (ap (value_at c.args.depth) (sym c.skip_spaces-in-loop-members.ensures.skipped) ∙ c.in_ok-item.ensures.reads) in
-    rw (p.1, p.2, f.0) (object-bad c.args.depth i.0 i.1 (c.in_ok-key.key, c.in_ok-item.item) c.loop-members.reader c.args.reader.now c.value.new.reader i.4 m f.1)
+    let m = member-ok (value_at c.args.depth) c.loop-members.reader c.in_ok-key.key c.string.new.reader c.name_separator.new.reader c.value.new.reader c.value.new.out (ap string_at (sym c.skip_spaces.ensures.skipped) ∙ c.in_ok-key.ensures.reads) c.in_ok-name_separator.ensures.found (ap (value_at c.args.depth) (sym c.skip_spaces-in-loop-members.ensures.skipped) ∙ c.in_ok-value.ensures.reads) in
+    rw (p.1, p.2, f.0) (object-bad c.args.depth i.0 i.1 (c.in_ok-key.key, c.value.new.out) c.loop-members.reader c.args.reader.now c.value.new.reader i.4 m f.1)
 
 pub object-returns-then-not-branch-clause-reads : goal.object-returns-then-not-branch-clause-reads
 object-returns-then-not-branch-clause-reads t c =
     let i = c.loop-members.invariant.reads in
     let f = rw c.if-not-branch.true at c.in_ok-goes_on.ensures.found in
-    let m = member-ok (value_at c.args.depth) c.loop-members.reader c.in_ok-key.key c.string.new.reader c.name_separator.new.reader c.value.new.reader c.in_ok-item.item (ap string_at (sym c.skip_spaces.ensures.skipped) ∙ c.in_ok-key.ensures.reads) c.in_ok-name_separator.ensures.found (ap (value_at c.args.depth) (sym c.skip_spaces-in-loop-members.ensures.skipped) ∙ c.in_ok-item.ensures.reads) in
-    let le : length c.value.new.reader ≤ i.0 = omega (arith, c.in_ok-item.ensures.forward, c.skip_spaces-in-loop-members.ensures.forward, c.in_ok-name_separator.ensures.forward, c.in_ok-key.ensures.forward, c.skip_spaces.ensures.forward, i.2) in
-    object-end c.args.depth i.0 i.1 c.loop-members.members c.put.new.self (c.in_ok-key.key, c.in_ok-item.item) c.loop-members.reader c.args.reader.now c.value.new.reader c.goes_on.new.reader i.4 i.3 le m f.0 c.in_ok-put.ensures.put
+    let m = member-ok (value_at c.args.depth) c.loop-members.reader c.in_ok-key.key c.string.new.reader c.name_separator.new.reader c.value.new.reader c.value.new.out (ap string_at (sym c.skip_spaces.ensures.skipped) ∙ c.in_ok-key.ensures.reads) c.in_ok-name_separator.ensures.found (ap (value_at c.args.depth) (sym c.skip_spaces-in-loop-members.ensures.skipped) ∙ c.in_ok-value.ensures.reads) in
+    let le : length c.value.new.reader ≤ i.0 = omega (arith, c.in_ok-value.ensures.forward, c.skip_spaces-in-loop-members.ensures.forward, c.in_ok-name_separator.ensures.forward, c.in_ok-key.ensures.forward, c.skip_spaces.ensures.forward, i.2) in
+    object-end c.args.depth i.0 i.1 c.loop-members.members c.put.new.self (c.in_ok-key.key, c.value.new.out) c.loop-members.reader c.args.reader.now c.value.new.reader c.goes_on.new.reader i.4 i.3 le m f.0 c.in_ok-put.ensures.put
 
 pub object-loop-members-preserved : goal.object-loop-members-preserved
 object-loop-members-preserved t c =
     let i = c.loop-members.invariant.reads in
     let f = rw c.if-not-branch.false at c.in_ok-goes_on.ensures.found in
-    let m = member-ok (value_at c.args.depth) c.loop-members.reader c.in_ok-key.key c.string.new.reader c.name_separator.new.reader c.value.new.reader c.in_ok-item.item (ap string_at (sym c.skip_spaces.ensures.skipped) ∙ c.in_ok-key.ensures.reads) c.in_ok-name_separator.ensures.found (ap (value_at c.args.depth) (sym c.skip_spaces-in-loop-members.ensures.skipped) ∙ c.in_ok-item.ensures.reads) in
+    let m = member-ok (value_at c.args.depth) c.loop-members.reader c.in_ok-key.key c.string.new.reader c.name_separator.new.reader c.value.new.reader c.value.new.out (ap string_at (sym c.skip_spaces.ensures.skipped) ∙ c.in_ok-key.ensures.reads) c.in_ok-name_separator.ensures.found (ap (value_at c.args.depth) (sym c.skip_spaces-in-loop-members.ensures.skipped) ∙ c.in_ok-value.ensures.reads) in
     record {
-      forward = omega (arith, c.in_ok-goes_on.ensures.forward, c.in_ok-item.ensures.forward, c.skip_spaces-in-loop-members.ensures.forward, c.in_ok-name_separator.ensures.forward, c.in_ok-key.ensures.forward, c.skip_spaces.ensures.forward, c.loop-members.invariant.forward);
-      reads = object-next c.args.depth i.0 i.1 c.loop-members.members c.put.new.self (c.in_ok-key.key, c.in_ok-item.item) c.loop-members.reader c.args.reader.now c.value.new.reader c.goes_on.new.reader i.4 i.3
-          (omega (arith, c.in_ok-item.ensures.forward, c.skip_spaces-in-loop-members.ensures.forward, c.in_ok-name_separator.ensures.forward, c.in_ok-key.ensures.forward, c.skip_spaces.ensures.forward, i.2)) m f c.in_ok-put.ensures.put;
+      forward = omega (arith, c.in_ok-goes_on.ensures.forward, c.in_ok-value.ensures.forward, c.skip_spaces-in-loop-members.ensures.forward, c.in_ok-name_separator.ensures.forward, c.in_ok-key.ensures.forward, c.skip_spaces.ensures.forward, c.loop-members.invariant.forward);
+      reads = object-next c.args.depth i.0 i.1 c.loop-members.members c.put.new.self (c.in_ok-key.key, c.value.new.out) c.loop-members.reader c.args.reader.now c.value.new.reader c.goes_on.new.reader i.4 i.3
+          (omega (arith, c.in_ok-value.ensures.forward, c.skip_spaces-in-loop-members.ensures.forward, c.in_ok-name_separator.ensures.forward, c.in_ok-key.ensures.forward, c.skip_spaces.ensures.forward, i.2)) m f c.in_ok-put.ensures.put;
     }

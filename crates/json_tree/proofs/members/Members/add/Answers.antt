@@ -1,19 +1,14 @@
-use Rattle.std.proofs.Common.{◌≡◌, ◌≤◌, ◌∷◌, ◌++◌, ◌∙◌, [], length, false, true, ap, sym, subst, drop, rules, arith}
-use Rattle.std.specs.Prelude.{is_err}
+use Rattle.std.proofs.Common.{◌≡◌, ◌≤◌, ◌<◌, ◌∷◌, ◌++◌, ◌∙◌, [], length, true, ap, sym, subst, drop, arith}
 use Rattle.json_tree.specs.Keys.{place, keys_of, distinct, Indexed}
-use Rattle.json_tree.proofs.Places.{pushed, keys-append, length-keys, distinct-push}
+use Rattle.json_tree.proofs.Places.{keys-append, length-keys, distinct-push, indexed-scanned}
 use Rattle.json_tree.proofs.members.Members.add.Goals as goal
 
-pub invariant_of-self-2 : goal.invariant_of-self-2
-invariant_of-self-2 g c =
+pub invariant_of-self : goal.invariant_of-self
+invariant_of-self g c =
     let ms = c.self.inside.pairs.items in
-    let e : is_err c.push.result ≡ false = search rules in
-    let k = pushed c.push.result c.push.new.self.items (c.reserve.new.self.items ++ (c.args.key, c.args.value) ∷ []) c.reserve.new.self.items e c.push.ensures.items in
-    let n : keys_of c.push.new.self.items ≡ keys_of ms ++ c.args.key ∷ [] = ap keys_of (k ∙ ap (λ r. r ++ (c.args.key, c.args.value) ∷ []) c.reserve.ensures.items) ∙ keys-append ms c.args.key c.args.value in
+    let n : keys_of c.push_reserved.new.self.items ≡ keys_of ms ++ c.args.key ∷ [] = ap keys_of c.push_reserved.ensures.items ∙ keys-append ms c.args.key c.args.value in
     let q = subst (λ xs. length xs ≤ place c.args.key (keys_of xs)) (sym c.self.view_is) c.requires in
     let l : length (keys_of ms) ≤ place c.args.key (keys_of ms) = omega (arith, q, length-keys ms) in
-    let a : c.len-at.result ≡ length (keys_of ms) = omega (arith, length-keys ms, c.len-at.ensures, ap length c.reserve.ensures.items, c.reserve.new.self.ok.0) in
-    let s : c.as_str.result.now ≡ c.args.key = c.as_str.ensures in
-    let h = c.in_ok-add_place.ensures.added (keys_of ms) a (subst (λ k. length (keys_of ms) ≤ place k (keys_of ms)) (sym s) l) c.self.invariant.1 in
-    subst (λ ks. (distinct ks ≡ true) × Indexed c.add_place.new.places (drop 16 ks)) (sym n)
-    (distinct-push (keys_of ms) c.args.key c.self.invariant.0 l, subst (λ k. Indexed c.add_place.new.places (drop 16 (keys_of ms ++ k ∷ []))) s h)
+    let s : length (keys_of ms) < 16 = omega (arith, length-keys ms, c.len-at.ensures, c.self.inside.pairs.ok.0, c.if-at-lt-SCANNED.true) in
+    subst (λ ks. (distinct ks ≡ true) × Indexed c.self.inside.places (drop 16 ks)) (sym n)
+    (distinct-push (keys_of ms) c.args.key c.self.invariant.0 l, indexed-scanned c.self.inside.places (keys_of ms) c.args.key s c.self.invariant.1)

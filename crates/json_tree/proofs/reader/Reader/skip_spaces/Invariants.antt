@@ -5,10 +5,10 @@ use Rattle.json_tree.proofs.reader.Reader.skip_spaces.Given as goal
 
 abbrev pub invariant-loop-first : goal.invariant-loop-first
 invariant-loop-first l = record {
-  skipped : skip l.self-inside.bytes.now ≡ skip l.fn.self;
-  forward : length l.self-inside.bytes.now ≤ length l.fn.self;
-  in_text : InText l.self-inside.bytes.now;
+  skipped : skip l.rest ≡ skip l.fn.self;
+  forward : length l.rest ≤ length l.fn.self;
+  in_text : InText l.rest;
 }
 
 abbrev pub decreases-loop-first : goal.decreases-loop-first
-decreases-loop-first l = length l.self-inside.bytes.now
+decreases-loop-first l = length l.rest
