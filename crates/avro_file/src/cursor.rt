@@ -1,4 +1,4 @@
-ghost use Rattle.std.specs.Prelude.{◌≡◌, ℕ, ◌<◌, ◌≤◌, ◌-◌, List, [], ◌∷◌, length, take, drop, MatchOption, MatchBool};
+ghost use Rattle.std.specs.Prelude.{◌≡◌, ℕ, ◌<◌, ◌≤◌, ◌+◌, ◌-◌, ◌^◌, min, List, [], ◌∷◌, length, take, drop, MatchOption, MatchBool};
 ghost use Rattle.avro_file.specs.Counts.{risen};
 
 /// Bytes ahead, which are taken from the front.
@@ -59,14 +59,21 @@ pub trait Cursor<'a> {
 }
 
 /// A cursor over a slice.
+///
+/// A call of `byte` that hands out a byte changes the place alone: how many such calls there were
+/// follows from how many bytes the other calls passed.
 #[derive(Drop)]
 pub struct SliceCursor<'a> {
     bytes: &'a [u8],
     at: usize,
+    // Of the bytes before `at`, those that `jump` passed, and those that `take` or `jump` passed.
     jumped: usize,
-    calls: u64,
+    not_single: usize,
+    // Every call but those of `byte` that handed out a byte.
+    other_calls: u64,
     ghost within: { at ≤ length bytes.now },
-    ghost part: { jumped ≤ at },
+    ghost part: { not_single ≤ at },
+    ghost least: { jumped ≤ not_single },
 }
 
 impl<'a> SliceCursor<'a> {
@@ -81,7 +88,8 @@ impl<'a> SliceCursor<'a> {
             bytes,
             at: 0,
             jumped: 0,
-            calls: 0,
+            not_single: 0,
+            other_calls: 0,
         }
     }
 
@@ -103,7 +111,8 @@ impl<'a> SliceCursor<'a> {
     pub fn calls(&self) -> u64
         ensures { result ≡ ⟦<SliceCursor<'a> as Cursor<'a>>⟧.calls self.now }
     {
-        self.calls
+        self.other_calls
+            .saturating_add((self.at - self.not_single) as u64)
     }
 }
 
@@ -114,17 +123,17 @@ impl<'a> Cursor<'a> for SliceCursor<'a> {
 
     ghost jumped = { λ c. c.jumped };
 
-    ghost calls = { λ c. c.calls };
+    ghost calls = { λ c. min (c.other_calls + (c.at - c.not_single)) (2 ^ 64 - 1) };
 
-    #[inline]
+    #[inline(always)]
     fn left(&self) -> usize {
         self.bytes.len() - self.at
     }
 
-    #[inline]
+    #[inline(always)]
     fn byte(&mut self) -> Option<u8> {
-        self.calls = self.calls.saturating_add(1);
         if self.at == self.bytes.len() {
+            self.other_calls = self.other_calls.saturating_add(1);
             return None;
         }
         let byte = self.bytes[self.at];
@@ -132,26 +141,28 @@ impl<'a> Cursor<'a> for SliceCursor<'a> {
         Some(byte)
     }
 
-    #[inline]
+    #[inline(always)]
     fn take(&mut self, n: usize) -> Option<&'a [u8]> {
-        self.calls = self.calls.saturating_add(1);
+        self.other_calls = self.other_calls.saturating_add(1);
         if n > self.left() {
             return None;
         }
         let end = self.at + n;
         let front = &self.bytes[self.at..end];
         self.at = end;
+        self.not_single += n;
         Some(front)
     }
 
     #[inline]
     fn jump(&mut self, n: usize) -> bool {
-        self.calls = self.calls.saturating_add(1);
+        self.other_calls = self.other_calls.saturating_add(1);
         if n > self.left() {
             return false;
         }
         self.at += n;
         self.jumped += n;
+        self.not_single += n;
         true
     }
 }

@@ -6,6 +6,7 @@ use crate::cursor::Cursor;
 use arrow_lists::{Error, Reason, Result};
 
 /// The signed number that zigzag spells as `unsigned`.
+#[inline(always)]
 fn signed(unsigned: u64) -> i64
     ensures { result ≡ zigzag unsigned }
 {
@@ -16,7 +17,7 @@ fn signed(unsigned: u64) -> i64
 /// The number in front, which the cursor passes; None where no front of the bytes is a number.
 ///
 /// It makes a call of `byte` for each byte that it passes, and one more where the bytes end.
-#[inline]
+#[inline(always)]
 pub fn next_number<'a, C: Cursor<'a>>(cursor: &mut C) -> Option<i64>
     ensures some { IfSome result (PassesNumber (C.rest cursor.old) (C.rest cursor.new)) }
     ensures none { IfNone result (NoNumber (C.rest cursor.old)) }
