@@ -7,6 +7,7 @@ pub mod Pushes
 pub mod Room
 pub mod RowSteps
 pub mod Sets
+pub mod SingleRows
 pub mod Today
 pub mod Unfolded
 pub mod Valid

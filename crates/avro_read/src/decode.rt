@@ -18,12 +18,13 @@ ghost use Rattle.avro_read.specs.Room.{OffsetsReach, Fills, Grows, HasMemory};
 
 use crate::carried::is_null;
 use crate::fault::DecodeFault;
+use crate::texts::is_text;
 use arrow_builders::{MutableArray, MutableBooleanArray, MutablePrimitiveArray, MutableUtf8Array};
 use arrow_lists::Error;
 use avro_file::{AvroSchema, Cursor, next_number};
-use simdutf8::basic::from_utf8;
 
 /// Reads one value of a carried schema into one more slot.
+#[inline(always)]
 #[tactic(auto, using(crate::proofs::Sets::unions))]
 pub fn decode_value<'a, C: Cursor<'a>>(
     cursor: &mut C,
@@ -48,6 +49,7 @@ pub fn decode_value<'a, C: Cursor<'a>>(
     }
 }
 
+#[inline(always)]
 #[tactic(auto, using(crate::proofs::Sets::choices))]
 fn decode_union<'a, C: Cursor<'a>>(
     cursor: &mut C,
@@ -82,6 +84,7 @@ fn decode_union<'a, C: Cursor<'a>>(
 }
 
 /// Reads the value of one member. Null has no bytes.
+#[inline(always)]
 #[tactic(auto, using(crate::proofs::Sets::nulls))]
 fn decode_member<'a, C: Cursor<'a>>(
     cursor: &mut C,
@@ -106,6 +109,7 @@ fn decode_member<'a, C: Cursor<'a>>(
     }
 }
 
+#[inline(always)]
 #[tactic(auto, using(crate::proofs::Sets::kinds))]
 fn decode_flat<'a, C: Cursor<'a>>(
     cursor: &mut C,
@@ -153,6 +157,9 @@ fn decode_flat<'a, C: Cursor<'a>>(
     }
 }
 
+// The functions above are inlined into the loop over rows. This one and that of texts are not:
+// with them the loop would be too large for the compiler to inline anything into it.
+#[inline(never)]
 #[tactic(auto, using(crate::proofs::Sets::flats))]
 fn decode_boolean<'a, C: Cursor<'a>>(
     cursor: &mut C,
@@ -166,13 +173,16 @@ fn decode_boolean<'a, C: Cursor<'a>>(
     ensures reads { Gives (λ _. (values.new.slots, C.rest cursor.new)) result
         (push_one values.old.slots (boolean_at (C.rest cursor.old))) }
 {
-    match cursor.byte() {
-        Some(0) => pushed(values.push(Some(false))),
-        Some(1) => pushed(values.push(Some(true))),
-        _ => Err(DecodeFault::Bytes),
+    let Some(byte) = cursor.byte() else {
+        return Err(DecodeFault::Bytes);
+    };
+    if byte > 1 {
+        return Err(DecodeFault::Bytes);
     }
+    pushed(values.push(Some(byte == 1)))
 }
 
+#[inline(always)]
 #[tactic(auto, using(crate::proofs::Sets::flats))]
 fn decode_int<'a, C: Cursor<'a>>(
     cursor: &mut C,
@@ -195,6 +205,7 @@ fn decode_int<'a, C: Cursor<'a>>(
     }
 }
 
+#[inline(always)]
 #[tactic(auto, using(crate::proofs::Sets::flats))]
 fn decode_long<'a, C: Cursor<'a>>(
     cursor: &mut C,
@@ -214,6 +225,7 @@ fn decode_long<'a, C: Cursor<'a>>(
     }
 }
 
+#[inline(never)]
 #[tactic(auto, using(crate::proofs::Sets::texts))]
 fn decode_string<'a, C: Cursor<'a>>(
     cursor: &mut C,
@@ -238,6 +250,7 @@ fn decode_string<'a, C: Cursor<'a>>(
 }
 
 /// Pushes a text, which has to be UTF-8.
+#[inline(always)]
 #[tactic(auto, using(crate::proofs::Pushes::takes_none))]
 fn push_text(values: &mut MutableUtf8Array<i32>, bytes: &[u8]) -> Result<(), DecodeFault>
     requires offsets { OffsetsReach (length bytes.now) (content_node values.old) }
@@ -248,13 +261,15 @@ fn push_text(values: &mut MutableUtf8Array<i32>, bytes: &[u8]) -> Result<(), Dec
         (λ _. IsUtf8 bytes.now × (values.new.slots ≡ values.old.slots ++ Words bytes.now ∷ []))
         (λ e. IsTextFault e bytes.now) }
 {
-    match from_utf8(bytes) {
-        Ok(text) => pushed(values.push(Some(text))),
-        Err(_) => Err(DecodeFault::Bytes),
+    if !is_text(bytes) {
+        return Err(DecodeFault::Bytes);
     }
+    let text = unsafe { std::str::from_utf8_unchecked(bytes) };
+    pushed(values.push(Some(text)))
 }
 
 /// The number in front (Avro 1.11, "Primitive Types").
+#[inline(always)]
 #[tactic(auto, using(crate::proofs::Sets::numbers))]
 pub fn read_number<'a, C: Cursor<'a>>(cursor: &mut C) -> Option<i64>
     ensures moves { Moves C.rest C.calls cursor.old cursor.new }
@@ -265,6 +280,7 @@ pub fn read_number<'a, C: Cursor<'a>>(cursor: &mut C) -> Option<i64>
 }
 
 /// The length in front of a text or a byte string, which isn't negative.
+#[inline(always)]
 #[tactic(auto, unfolding(crate::specs::Decoding::length_at))]
 pub fn read_length<'a, C: Cursor<'a>>(cursor: &mut C) -> Option<usize>
     ensures moves { Moves C.rest C.calls cursor.old cursor.new }
@@ -281,6 +297,7 @@ pub fn read_length<'a, C: Cursor<'a>>(cursor: &mut C) -> Option<usize>
 }
 
 /// The answer of a push that only want of memory can refuse, as the decoder tells it.
+#[inline(always)]
 fn pushed(answer: Result<(), Error>) -> Result<(), DecodeFault>
     requires memory { IfErr answer (λ e. e ≡ OutOfMemory) }
     ensures ok { OnOk result (OnErr answer ⊥) }

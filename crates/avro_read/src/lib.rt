@@ -12,6 +12,7 @@ mod schema;
 mod skip;
 #[cfg(test)]
 mod tests;
+mod texts;
 
 pub use blocks::{deserialize, deserialize_into};
 pub use laws::{reserved_room_stays, valid_blocks_are_read};

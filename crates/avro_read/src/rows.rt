@@ -69,6 +69,7 @@ fn decode_rows<'a, C: Cursor<'a>>(
 }
 
 /// Reads one row: each kept field into its builder, each other field passed over.
+#[inline(always)]
 fn decode_row<'a, C: Cursor<'a>>(
     cursor: &mut C,
     avro_fields: &[AvroField],
@@ -87,6 +88,9 @@ fn decode_row<'a, C: Cursor<'a>>(
     ensures reads { GivesRow C.rest C.shown C.calls cursor.old cursor.new (map builder_slots builders.old) (map builder_slots builders.new) result
         (row avro_fields.now projection.now (C.rest cursor.old)) }
 {
+    if avro_fields.len() == 1 {
+        return decode_single(cursor, avro_fields, projection, builders);
+    }
     let mut column = 0;
     for i in 0..avro_fields.len() {
         let field = &avro_fields[i];
@@ -98,4 +102,33 @@ fn decode_row<'a, C: Cursor<'a>>(
         }
     }
     Ok(())
+}
+
+/// Reads a row of one field, without the loop over fields.
+#[inline(always)]
+fn decode_single<'a, C: Cursor<'a>>(
+    cursor: &mut C,
+    avro_fields: &[AvroField],
+    projection: &[bool],
+    builders: &mut [MutableArray],
+) -> Result<(), DecodeFault>
+    requires single { length avro_fields.now ≡ 1 }
+    requires lengths { length avro_fields.now ≡ length projection.now }
+    requires carried { AllCarriedToday avro_fields.now }
+    requires kinds { map builder_kind builders.old ≡ kept_kinds avro_fields.now projection.now }
+    requires offsets { AtNodes (OffsetsReach (length (C.rest cursor.old))) builders.old }
+    ensures kinds { map builder_kind builders.new ≡ map builder_kind builders.old }
+    ensures data_types { map builder_type builders.new ≡ map builder_type builders.old }
+    ensures grows { AllGrow (passed (C.rest cursor.old) (C.rest cursor.new)) builders.old builders.new }
+    ensures roomy { AtNodes (HasRoom (length (C.rest cursor.old))) builders.old → HasMemory result }
+    ensures moves { Moves C.rest C.calls cursor.old cursor.new }
+    ensures reads { GivesRow C.rest C.shown C.calls cursor.old cursor.new (map builder_slots builders.old) (map builder_slots builders.new) result
+        (row avro_fields.now projection.now (C.rest cursor.old)) }
+{
+    let field = &avro_fields[0];
+    if projection[0] {
+        decode_value(cursor, &field.schema, &mut builders[0])
+    } else {
+        skip_value(cursor, &field.schema)
+    }
 }

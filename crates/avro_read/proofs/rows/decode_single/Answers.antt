@@ -1,0 +1,11 @@
+use Rattle.avro_read.proofs.SingleRows.{single_kept, single_passed}
+use Rattle.avro_read.proofs.rows.decode_single.Goals as goal
+
+pub returns-then-projection-clause-reads : goal.returns-then-projection-clause-reads
+returns-then-projection-clause-reads g c =
+    let e = c.decode_value.ensures in
+    single_kept _ _ c.index-avro_fields-0.result c.requires.single c.requires.lengths c.index-avro_fields-0.is _ c.requires.kinds _ _ _ _ _ c.index-builders-0.result _ _ c.if-projection.true e.reads e.costs
+
+pub returns-else-projection-clause-reads : goal.returns-else-projection-clause-reads
+returns-else-projection-clause-reads g c =
+    single_passed _ _ c.index-avro_fields-0.result c.requires.single c.requires.lengths c.index-avro_fields-0.is _ c.requires.kinds g.C.Cursor.rest g.C.Cursor.shown g.C.Cursor.calls _ _ _ c.if-projection.false c.skip_value.ensures.passes
