@@ -17,3 +17,4 @@ pub mod InTexts
 pub mod Escapes
 pub mod Plains
 pub mod Digits
+pub mod Blocks

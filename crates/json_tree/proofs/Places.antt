@@ -1,5 +1,5 @@
 -- Members by their places.
-use Rattle.std.proofs.Common.{◌≡◌, ◌⊎◌, inl, inr, ℕ, zero, suc, ◌+◌, ◌-◌, ◌<◌, ◌≤◌, Bool, true, false, not, cond, ◌||◌, List, [], ◌∷◌, ◌++◌, length, drop, set, get_or, Option, Some, None, MatchOption, String, Global, string_bytes, refl, sym, ap, subst, ◌∙◌, arith}
+use Rattle.std.proofs.Common.{◌≡◌, ◌⊎◌, inl, inr, ℕ, zero, suc, ◌+◌, ◌-◌, ◌<◌, ◌≤◌, Bool, true, false, not, cond, ◌||◌, List, [], ◌∷◌, ◌++◌, length, drop, set, get_or, Option, Some, None, MatchOption, Result, Ok, Err, OnOk, IfOk, String, Global, string_bytes, refl, sym, ap, subst, ◌∙◌, arith}
 use Rattle.std.proofs.lemmas.Bool.{and_parts, true≢false}
 use Rattle.std.proofs.lemmas.List.{length-append, length-drop, drop-append-le, drop_all, at_drop_all}
 use Rattle.std.proofs.lemmas.Slice.Eq.{bytes_eq-Decides}
@@ -8,6 +8,9 @@ use Rattle.std.specs.BTreeMap.{BTreeMap, UpdatesBy, get_by_text}
 use Rattle.std.specs.String.{string_cmp}
 use Rattle.std.specs.Str.{bytes_eq}
 use Rattle.json_tree.specs.Keys.{put, value_of, keys_of, meets, distinct, place, place_from, Indexed}
+
+same-key : (k : List ℕ) → bytes_eq k k ≡ true
+same-key k = (bytes_eq-Decides k k).1 refl
 
 module _ {V : Type 0} where
   pub length-keys : (ms : List (List ℕ × V)) → length (keys_of ms) ≡ length ms
@@ -77,6 +80,47 @@ module _ {V : Type 0} where
   pub value-found : (ms : List (List ℕ × V)) (k : List ℕ) (at : ℕ) (d : List ℕ × V) → at ≡ place k (keys_of ms) → at < length ms → d ≡ get_or ms at d → value_of k ms ≡ Some d.1
   value-found ms k at d e l g =
       value-at ms k d (omega (arith, e, l)) ∙ ap (λ n. Some (get_or ms n d).1) (sym e) ∙ ap (λ o. Some o.1) (sym g)
+
+  -- a key that was put last, put again
+  put-put : (ms : List (List ℕ × V)) (k : List ℕ) (b v : V) → put (put ms (k, b)) (k, v) ≡ put ms (k, v)
+  unfolding put
+  put-put [] k b v = rw (same-key k) refl
+  put-put (m ∷ ms) k b v = at (bytes_eq m.0 k) refl (put-put ms k b v)
+    where
+      at : (c : Bool) → bytes_eq m.0 k ≡ c → put (put ms (k, b)) (k, v) ≡ put ms (k, v) → put (cond c ((m.0, b) ∷ ms) (m ∷ put ms (k, b))) (k, v) ≡ cond c ((m.0, v) ∷ ms) (m ∷ put ms (k, v))
+      at true e h = rw e refl
+      at false e h = rw e (ap (λ r. m ∷ r) h)
+
+  -- another value in the place of a key that was put
+  pub put-fill : (old new : List (List ℕ × V)) (k : List ℕ) (b v : V) (at : ℕ) (d : List ℕ × V) → new ≡ put old (k, b) → at ≡ place k (keys_of new) → at < length new → d ≡ get_or new at d → set new at (d.0, v) ≡ put old (k, v)
+  put-fill old new k b v at d p e l g = put-set new k v at d e l g ∙ ap (λ ms. put ms (k, v)) p ∙ put-put old k b v
+
+  -- the place of the last key
+  place-last : (ms : List (List ℕ × V)) (k : List ℕ) (v : V) → length ms ≤ place k (keys_of ms) → place k (keys_of (ms ++ (k, v) ∷ [])) ≡ length ms
+  place-last [] k v l = rw (same-key k) refl
+  place-last (m ∷ ms) k v l = at (bytes_eq m.0 k) l (λ p. place-last ms k v p)
+    where
+      at : (b : Bool) → suc (length ms) ≤ cond b 0 (suc (place k (keys_of ms))) → (length ms ≤ place k (keys_of ms) → place k (keys_of (ms ++ (k, v) ∷ [])) ≡ length ms)
+          → cond b 0 (suc (place k (keys_of (ms ++ (k, v) ∷ [])))) ≡ suc (length ms)
+      at true l h = absurd (omega (arith, l))
+      at false l h = ap suc (h (omega (arith, l)))
+
+  -- where a key that no member has is put
+  pub new-place : {E : Type 0} (r : Result ℕ E) (old new : List (List ℕ × V)) (k : List ℕ) → length old ≤ place k (keys_of old) → OnOk r ((v : V) × (new ≡ old ++ (k, v) ∷ [])) → IfOk r (λ at. at ≡ length old)
+      → IfOk r (λ at. (at ≡ place k (keys_of new)) × (at < length new))
+  new-place (Err e) old new k l p n = tt
+  new-place (Ok at) old new k l p n = (n ∙ sym (place-last old k p.0 l) ∙ ap (λ ms. place k (keys_of ms)) (sym p.1), omega (arith, n, ap length p.1, length-append old ((k, p.0) ∷ [])))
+
+  pub new-put : {E : Type 0} (r : Result ℕ E) (old new : List (List ℕ × V)) (k : List ℕ) → length old ≤ place k (keys_of old) → OnOk r ((v : V) × (new ≡ old ++ (k, v) ∷ [])) → OnOk r ((v : V) × (new ≡ put old (k, v)))
+  new-put (Err e) old new k l p = tt
+  new-put (Ok at) old new k l p = (p.0, p.1 ∙ sym (put-end old k p.0 l))
+
+  -- and where one that a member has
+  pub old-place : (ms : List (List ℕ × V)) (k : List ℕ) (v : V) (at : ℕ) (d : List ℕ × V) → at ≡ place k (keys_of ms) → at < length ms → d ≡ get_or ms at d
+      → (at ≡ place k (keys_of (set ms at (d.0, v)))) × (at < length (set ms at (d.0, v)))
+  old-place ms k v at d e l g =
+      let s = keys-set ms k v at d e l g in
+      (e ∙ ap (place k) (sym s), omega (arith, l, length-keys ms, length-keys (set ms at (d.0, v)), ap length s))
 
   pub keys-behind : (n : ℕ) (ms : List (List ℕ × V)) → keys_of (drop n ms) ≡ drop n (keys_of ms)
   keys-behind zero ms = refl

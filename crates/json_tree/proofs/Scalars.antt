@@ -192,6 +192,16 @@ unfolding strip
 strip-complete [] r = refl
 strip-complete (x ∷ es) r = rw (eq-eqb x x refl) (strip-complete es r)
 
+pub strip-other : (es b : List ℕ) → ((r : List ℕ) → b ≡ es ++ r → ⊥) → strip es b ≡ wrong
+unfolding strip
+strip-other [] b h = absurd (h b refl)
+strip-other (x ∷ es) [] h = refl
+strip-other (x ∷ es) (y ∷ t) h = tested (λ k. strip-other es t k) (eqb y x) refl
+  where
+    tested : (((r : List ℕ) → t ≡ es ++ r → ⊥) → strip es t ≡ wrong) → (v : Bool) → eqb y x ≡ v → cond {A = Outcome (Unit {0})} v (strip es t) wrong ≡ wrong
+    tested again true q = let is : y ≡ x = grind (arith, nat_tests) in again (λ r e. h r (ap (λ l. y ∷ l) e ∙ ap (λ z. z ∷ (es ++ r)) is))
+    tested again false q = refl
+
 -- ---- strings
 
 some-found : {A : Type 0} (o : Option A) (t r : List ℕ) (x : A) → if_some o t ≡ found x r → (o ≡ Some x) × (t ≡ r)

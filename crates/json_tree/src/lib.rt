@@ -4,6 +4,7 @@
 mod laws;
 mod members;
 mod number;
+mod pieces;
 mod reader;
 mod strings;
 #[cfg(test)]

@@ -2,10 +2,11 @@
 //!
 //! The first members are found by a scan. The keys behind them have an index, so that an object of
 //! many keys takes no quadratic time.
-ghost use Rattle.std.specs.Prelude.{◌≡◌, ◌≤◌, ◌<◌, ◌+◌, ◌-◌, ◌++◌, ◌∷◌, ℕ, List, [], OnOk, OnErr, IfErr, true, Some, None, MatchOption, length, drop};
+ghost use Rattle.std.specs.Prelude.{◌≡◌, ◌≤◌, ◌<◌, ◌+◌, ◌-◌, ◌++◌, ◌∷◌, ℕ, List, [], OnOk, OnErr, IfOk, IfErr, MatchResult, true, Some, None, MatchOption, length, drop};
+ghost use Rattle.std.specs.Str.{bytes_eq};
 ghost use Rattle.json_tree.specs.Keys.{put, place, value_of, keys_of, distinct, Indexed};
 
-use crate::value::JsonFault;
+use crate::value::{Blank, JsonFault};
 use arrow_lists::Text;
 use std::alloc::Global;
 use std::collections::BTreeMap;
@@ -20,7 +21,7 @@ const FIRST_ROOM: usize = 8;
 /// Members in the order of their keys' first places, each key once.
 #[derive(Drop)]
 pub(crate) struct Members<V> {
-    pairs: Vec<(Text, V)>,
+    pub(crate) pairs: Vec<(Text, V)>,
     // the places of the keys behind the first SCANNED
     places: BTreeMap<String, usize>,
 }
@@ -39,6 +40,28 @@ impl<V> Model for Members<V> {
     ghost invariant = { λ m. (distinct (keys_of m.pairs.items) ≡ true) × Indexed m.places (drop 16 (keys_of m.pairs.items)) };
 }
 
+// Whether two texts of one length are the same, behind a call, since they seldom begin alike.
+#[inline(never)]
+fn are_equal(one: &str, other: &str) -> bool
+    ensures { result ≡ bytes_eq one.now other.now }
+{
+    one == other
+}
+
+// Whether two texts are the same. Their lengths and first bytes mostly tell.
+#[inline(always)]
+fn are_same(one: &str, other: &str) -> bool
+    ensures { result ≡ bytes_eq one.now other.now }
+{
+    if one.len() != other.len() {
+        return false;
+    }
+    match (one.as_bytes().first(), other.as_bytes().first()) {
+        (Some(a), Some(b)) => *a == *b && are_equal(one, other),
+        _ => true,
+    }
+}
+
 // The place of a key among the first SCANNED members.
 fn scan<V>(pairs: &[(Text, V)], key: &str) -> Option<usize>
     ensures { MatchOption result
@@ -47,7 +70,7 @@ fn scan<V>(pairs: &[(Text, V)], key: &str) -> Option<usize>
 {
     let mut i = 0;
     while i < pairs.len() && i < SCANNED {
-        if pairs[i].0.as_str() == key {
+        if are_same(pairs[i].0.as_str(), key) {
             return Some(i);
         }
         i += 1;
@@ -97,16 +120,6 @@ fn add_place(
     index_place(alloc, places, key, at)
 }
 
-// For how many more members room is made, where so many are there.
-fn wanted_room(members: usize) -> usize
-    ensures { 1 ≤ result }
-{
-    if members == 0 {
-        return FIRST_ROOM;
-    }
-    1
-}
-
 impl<V: Drop> Members<V> {
     pub(crate) fn new(alloc: Global) -> Members<V>
         ensures { result ≡ [] }
@@ -114,6 +127,19 @@ impl<V: Drop> Members<V> {
         Members {
             pairs: Vec::new(alloc),
             places: BTreeMap::new(alloc),
+        }
+    }
+
+    /// No members yet, and room for a few.
+    pub(crate) fn with_room(alloc: Global) -> Result<Members<V>, JsonFault>
+        ensures { MatchResult result (λ members. members ≡ []) (λ e. e ≡ JsonFault.Memory) }
+    {
+        match Vec::with_capacity(alloc, FIRST_ROOM) {
+            Ok(pairs) => Ok(Members {
+                pairs,
+                places: BTreeMap::new(alloc),
+            }),
+            Err(_) => Err(JsonFault::Memory),
         }
     }
 
@@ -144,50 +170,55 @@ impl<V: Drop> Members<V> {
             None => None,
         }
     }
+}
 
-    // One more member, with a key that no member has. There may be no room, or the key may need an
-    // entry.
+impl<V: Blank> Members<V> {
+    // One more member, with a key that no member has, and its place. There may be no room, or the key
+    // may need an entry.
     #[inline(never)]
-    fn add_growing(&mut self, alloc: Global, key: Text, value: V) -> Result<(), JsonFault>
+    fn add_growing(&mut self, alloc: Global, key: Text) -> Result<usize, JsonFault>
         requires { length self.old ≤ place key (keys_of self.old) }
-        ensures added { OnOk result (self.new ≡ self.old ++ (key, value) ∷ []) }
+        ensures added { OnOk result ((value : V) × (self.new ≡ self.old ++ (key, value) ∷ [])) }
+        ensures last { IfOk result (λ at. at ≡ length self.old) }
         ensures memory { IfErr result (λ e. e ≡ JsonFault.Memory) }
     {
         let at = self.pairs.len();
-        if self.pairs.reserve(wanted_room(at)).is_err() {
+        if self.pairs.reserve(1).is_err() {
             return Err(JsonFault::Memory);
         }
         add_place(alloc, &mut self.places, key.as_str(), at)?;
-        self.pairs.push_reserved((key, value));
-        Ok(())
+        self.pairs.push_reserved((key, V::blank()));
+        Ok(at)
     }
 
-    // One more member, with a key that no member has. Where nothing has to grow, nothing can fail, and
-    // the member moves straight to its place.
-    fn add(&mut self, alloc: Global, key: Text, value: V) -> Result<(), JsonFault>
+    // The same. Where nothing has to grow, nothing can fail, and the member is made in its place.
+    fn add(&mut self, alloc: Global, key: Text) -> Result<usize, JsonFault>
         requires { length self.old ≤ place key (keys_of self.old) }
-        ensures added { OnOk result (self.new ≡ self.old ++ (key, value) ∷ []) }
+        ensures added { OnOk result ((value : V) × (self.new ≡ self.old ++ (key, value) ∷ [])) }
+        ensures last { IfOk result (λ at. at ≡ length self.old) }
         ensures memory { IfErr result (λ e. e ≡ JsonFault.Memory) }
     {
         let at = self.pairs.len();
         if at < SCANNED && at < self.pairs.capacity() {
-            self.pairs.push_reserved((key, value));
-            return Ok(());
+            self.pairs.push_reserved((key, V::blank()));
+            return Ok(at);
         }
-        self.add_growing(alloc, key, value)
+        self.add_growing(alloc, key)
     }
 
-    // A key that is there keeps its place and takes the value.
-    pub(crate) fn put(&mut self, alloc: Global, key: Text, value: V) -> Result<(), JsonFault>
-        ensures put { OnOk result (self.new ≡ put self.old (key, value)) }
+    /// Gives a key a blank value, and tells the key's place, in which the caller writes another value. A
+    /// key that is there keeps its place.
+    pub(crate) fn put(&mut self, alloc: Global, key: Text) -> Result<usize, JsonFault>
+        ensures put { OnOk result ((value : V) × (self.new ≡ put self.old (key, value))) }
+        ensures place { IfOk result (λ at. (at ≡ place key (keys_of self.new)) × (at < length self.new)) }
         ensures memory { IfErr result (λ e. e ≡ JsonFault.Memory) }
     {
         match self.find(key.as_str()) {
             Some(at) => {
-                self.pairs[at].1 = value;
-                Ok(())
+                self.pairs[at].1 = V::blank();
+                Ok(at)
             }
-            None => self.add(alloc, key, value),
+            None => self.add(alloc, key),
         }
     }
 }

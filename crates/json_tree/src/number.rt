@@ -6,6 +6,7 @@ ghost use Rattle.json_tree.specs.Reading.{after, found, wrong, digits_at, int_at
 ghost use Rattle.json_tree.specs.Gives.{Gives, Moves};
 
 use crate::reader::Reader;
+use crate::strings::owned;
 use crate::value::{JsonFault, Number, Value};
 use arrow_lists::Text;
 use std::alloc::Global;
@@ -102,8 +103,9 @@ fn exponent_part<'a>(reader: &mut Reader<'a>) -> Result<(), JsonFault>
     }
 }
 
+// The text of a mantissa.
 #[inline(always)]
-fn ascii_text(alloc: Global, bytes: &[u8]) -> Result<Text, JsonFault>
+fn mantissa_text(alloc: Global, bytes: &[u8]) -> Result<Text, JsonFault>
     requires { IsUtf8 bytes.now }
     ensures text { MatchResult result (λ t. t ≡ bytes.now) (λ e. e ≡ JsonFault.Memory) }
 {
@@ -113,24 +115,28 @@ fn ascii_text(alloc: Global, bytes: &[u8]) -> Result<Text, JsonFault>
     }
 }
 
-// Behind a call, so that the compiler knows the text to be empty and copies nothing.
+// The text of an exponent that is there, behind a call, since most numbers have none.
+#[cold]
 #[inline(never)]
-fn empty_text(alloc: Global) -> Result<Text, JsonFault>
-    ensures text { MatchResult result (λ t. t ≡ []) (λ e. e ≡ JsonFault.Memory) }
+fn spelled_exponent(alloc: Global, bytes: &[u8]) -> Result<Text, JsonFault>
+    requires { IsUtf8 bytes.now }
+    ensures text { MatchResult result (λ t. t ≡ bytes.now) (λ e. e ≡ JsonFault.Memory) }
 {
-    ascii_text(alloc, b"")
+    owned(alloc, unsafe { std::str::from_utf8_unchecked(bytes) })
 }
 
-// The text of an exponent. Most numbers have none.
+// The text of an exponent, or of none. The empty text is made first, so that the compiler sees that it
+// takes no memory.
 #[inline(always)]
 fn exponent_text(alloc: Global, bytes: &[u8]) -> Result<Text, JsonFault>
     requires { IsUtf8 bytes.now }
     ensures text { MatchResult result (λ t. t ≡ bytes.now) (λ e. e ≡ JsonFault.Memory) }
 {
+    let none = owned(alloc, "")?;
     if bytes.is_empty() {
-        return empty_text(alloc);
+        return Ok(none);
     }
-    ascii_text(alloc, bytes)
+    spelled_exponent(alloc, bytes)
 }
 
 // All but the first of the first n bytes.
@@ -166,11 +172,11 @@ pub(crate) fn number<'a>(
     let left = reader.rest();
     let behind = behind_first(tail, tail.len() - left.len());
     let exponent = exponent_text(alloc, behind)?;
-    let mantissa = ascii_text(alloc, mantissa)?;
+    let mantissa = mantissa_text(alloc, mantissa)?;
     if tail.len() < whole.len() {
-        *out = Value::Number(Number::Float(mantissa, exponent));
+        out.fill(Value::Number(Number::Float(mantissa, exponent)));
     } else {
-        *out = Value::Number(Number::Integer(mantissa, exponent));
+        out.fill(Value::Number(Number::Integer(mantissa, exponent)));
     }
     Ok(())
 }

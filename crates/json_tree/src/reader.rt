@@ -9,6 +9,7 @@ ghost use Rattle.json_tree.specs.InText.{InText};
 ghost use Rattle.json_tree.specs.Reading.{skip, after, First};
 
 use std::marker::Model;
+use std::simd::prelude::*;
 
 /// The bytes that are still ahead. They end a text that is UTF-8.
 #[derive(Drop)]
@@ -69,9 +70,9 @@ impl<'a> Reader<'a> {
         Some(*first)
     }
 
-    /// Passes white space.
+    // Passes white space, of which there mostly is some.
     #[tactic(auto, unfolding(crate::specs::Reading::skip), using(crate::proofs::InTexts::in_tail))]
-    pub(crate) fn skip_spaces(&mut self)
+    fn pass_spaces(&mut self)
         ensures skipped { self.new ≡ skip self.old }
         ensures forward { length self.new ≤ length self.old }
     {
@@ -83,6 +84,22 @@ impl<'a> Reader<'a> {
             rest = others;
         }
         self.bytes = rest;
+    }
+
+    /// Passes white space. Where there is none, nothing is written.
+    #[tactic(auto, unfolding(crate::specs::Reading::skip))]
+    pub(crate) fn skip_spaces(&mut self)
+        ensures skipped { self.new ≡ skip self.old }
+        ensures forward { length self.new ≤ length self.old }
+    {
+        match self.peek() {
+            Some(byte) => {
+                if is_space(byte) {
+                    self.pass_spaces();
+                }
+            }
+            None => {}
+        }
     }
 
     /// Passes this byte where it is next, and tells whether it was.
@@ -202,8 +219,27 @@ fn is_unescaped(byte: u8) -> bool
     UNESCAPED[byte as usize]
 }
 
-// How many bytes come first that stand for themselves.
-fn unescaped_len(bytes: &[u8]) -> usize
+/// How many bytes are tested at once.
+const BLOCK: usize = 16;
+
+// How many bytes of a block come first that stand for themselves.
+#[inline(always)]
+fn unescaped_in_block(block: &[u8; BLOCK]) -> usize
+    ensures { result ≡ prefix_len is_unescaped block.now }
+{
+    let bytes = u8x16::from_array(*block);
+    let below_space = bytes.simd_lt(u8x16::splat(b' '));
+    let quotes = bytes.simd_eq(u8x16::splat(b'"'));
+    let escapes = bytes.simd_eq(u8x16::splat(b'\\'));
+    let stops = (below_space | quotes | escapes).to_bitmask();
+    if stops == 0 {
+        return BLOCK;
+    }
+    stops.trailing_zeros() as usize
+}
+
+// How many bytes come first that stand for themselves, of less than a block.
+fn unescaped_in_rest(bytes: &[u8]) -> usize
     ensures { result ≡ prefix_len is_unescaped bytes.now }
 {
     let mut rest = bytes;
@@ -214,4 +250,35 @@ fn unescaped_len(bytes: &[u8]) -> usize
         rest = others;
     }
     bytes.len() - rest.len()
+}
+
+// How many bytes come first that stand for themselves, block after block.
+#[inline(never)]
+fn unescaped_in_blocks(bytes: &[u8]) -> usize
+    ensures { result ≡ prefix_len is_unescaped bytes.now }
+{
+    let mut rest = bytes;
+    while let Some((block, others)) = rest.split_first_chunk::<BLOCK>() {
+        let n = unescaped_in_block(block);
+        if n < BLOCK {
+            return bytes.len() - rest.len() + n;
+        }
+        rest = others;
+    }
+    let n = unescaped_in_rest(rest);
+    bytes.len() - (rest.len() - n)
+}
+
+// How many bytes come first that stand for themselves. They mostly end in the first block.
+#[inline(always)]
+fn unescaped_len(bytes: &[u8]) -> usize
+    ensures { result ≡ prefix_len is_unescaped bytes.now }
+{
+    if let Some((block, _)) = bytes.split_first_chunk::<BLOCK>() {
+        let n = unescaped_in_block(block);
+        if n < BLOCK {
+            return n;
+        }
+    }
+    unescaped_in_blocks(bytes)
 }

@@ -7,6 +7,7 @@ ghost use Rattle.std.specs.Char.Utf16.{is_high_surrogate, is_low_surrogate};
 ghost use Rattle.json_tree.specs.Reading.{First, bind, found, wrong, unit_at, low_at, unicode_at, escape_at, chars_at, string_at};
 ghost use Rattle.json_tree.specs.Gives.{Gives, Fails};
 
+use crate::pieces::Pieces;
 use crate::reader::Reader;
 use crate::value::JsonFault;
 use arrow_lists::Text;
@@ -162,32 +163,6 @@ fn escape<'a>(reader: &mut Reader<'a>) -> Result<char, JsonFault>
     }
 }
 
-/// How much room a string with escapes has behind its first run, so that a short one does not grow.
-const ESCAPED_ROOM: usize = 64;
-
-fn push_text(out: &mut String, run: &str) -> Result<(), JsonFault>
-    ensures added { OnOk result (string_bytes out.new ≡ string_bytes out.old ++ run.now) }
-    ensures memory { IfErr result (λ e. e ≡ JsonFault.Memory) }
-{
-    if out.capacity() == 0 && out.reserve(run.len() + ESCAPED_ROOM).is_err() {
-        return Err(JsonFault::Memory);
-    }
-    match out.push_str(run) {
-        Ok(()) => Ok(()),
-        Err(_) => Err(JsonFault::Memory),
-    }
-}
-
-fn push_char(out: &mut String, c: char) -> Result<(), JsonFault>
-    ensures added { OnOk result (string_bytes out.new ≡ string_bytes out.old ++ encode_utf8 c) }
-    ensures memory { IfErr result (λ e. e ≡ JsonFault.Memory) }
-{
-    match out.push(c) {
-        Ok(()) => Ok(()),
-        Err(_) => Err(JsonFault::Memory),
-    }
-}
-
 // A text of its own, of no more room than it needs.
 pub(crate) fn owned(alloc: Global, text: &str) -> Result<Text, JsonFault>
     ensures { MatchResult result (λ t. t ≡ text.now) (λ e. e ≡ JsonFault.Memory) }
@@ -196,18 +171,6 @@ pub(crate) fn owned(alloc: Global, text: &str) -> Result<Text, JsonFault>
         Ok(text) => Ok(text),
         Err(_) => Err(JsonFault::Memory),
     }
-}
-
-// What was read of a string, and its last run. Where the run is all, it is copied once.
-fn joined(alloc: Global, front: String, run: &str) -> Result<Text, JsonFault>
-    ensures { MatchResult result (λ t. t ≡ string_bytes front ++ run.now) (λ e. e ≡ JsonFault.Memory) }
-{
-    if front.is_empty() {
-        return owned(alloc, run);
-    }
-    let mut whole = front;
-    push_text(&mut whole, run)?;
-    owned(alloc, whole.as_str())
 }
 
 // A string of any kind. Runs of characters that stand for themselves are copied as slices.
@@ -219,18 +182,18 @@ pub(crate) fn escaped_string<'a>(alloc: Global, reader: &mut Reader<'a>) -> Resu
     if !reader.opens_string() {
         return Err(JsonFault::Text);
     }
-    let mut out = String::new(alloc);
+    let mut out = Pieces::new(alloc);
     loop {
         let run = reader.unescaped_run();
+        out.push_str(run)?;
         if reader.takes(b'"') {
-            return joined(alloc, out, run);
+            return out.to_text(alloc);
         }
-        push_text(&mut out, run)?;
         if !reader.takes(b'\\') {
             return Err(JsonFault::Text);
         }
         let c = escape(reader)?;
-        push_char(&mut out, c)?;
+        out.push(c)?;
     }
 }
 

@@ -286,6 +286,10 @@ static STRINGS: &[(&str, &str)] = &[
     ("\"\\u0000\\u001f\\u0022\"", "\0\u{1f}\""),
     ("\"\\ud800\\udc00\\udbff\\udfff\"", "\u{10000}\u{10ffff}"),
     ("\"\u{e9}\\n\u{1f600}\"", "\u{e9}\n\u{1f600}"),
+    (
+        "\"a long text whose end comes behind a long text whose end comes behind a long text whose end comes behind a long text whose end comes behind \\nand goes on\"",
+        "a long text whose end comes behind a long text whose end comes behind a long text whose end comes behind a long text whose end comes behind \nand goes on",
+    ),
 ];
 
 // Section 6. The mantissa is what stands before e, the exponent what follows it, and a number is

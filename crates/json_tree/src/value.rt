@@ -1,8 +1,10 @@
 ghost use Rattle.std.specs.Prelude.{◌≡◌, true, Some, None, MatchOption};
 ghost use Rattle.json_tree.specs.Keys.{value_of, keys_of, distinct};
+ghost use Rattle.json_tree.specs.Tree.{null};
 
 use crate::members::Members;
 use arrow_lists::{Error, Items, Reason, Text};
+use std::mem::{self, ManuallyDrop};
 
 /// A JSON number as it is spelled (RFC 8259, section 6): the mantissa, which is all that stands
 /// before `e` or `E`, and the exponent, which is what follows with any sign, or is empty.
@@ -44,6 +46,40 @@ pub enum JsonFault {
     Depth,
     /// There is no memory.
     Memory,
+}
+
+/// A type with a value that holds nothing. It keeps a place in which a value is read.
+pub(crate) trait Blank: Drop {
+    fn blank() -> Self;
+}
+
+impl Blank for Value {
+    fn blank() -> Value {
+        Value::Null
+    }
+}
+
+impl Value {
+    // Lets go what this value owns.
+    #[cold]
+    #[inline(never)]
+    fn clear(&mut self)
+        ensures { self.new ≡ null }
+    {
+        *self = Value::Null;
+    }
+
+    /// Becomes this value. What stood here is mostly `Null`, which owns nothing and needs no drop. A drop
+    /// would look for the kind of the old value each time.
+    #[inline(always)]
+    pub(crate) fn fill(&mut self, value: Value)
+        ensures { self.new ≡ value }
+    {
+        if !matches!(*self, Value::Null) {
+            self.clear();
+        }
+        let _null = ManuallyDrop::new(mem::replace(self, value));
+    }
 }
 
 impl Object {

@@ -9,33 +9,46 @@ use crate::members::Members;
 use crate::number::number;
 use crate::reader::Reader;
 use crate::strings::{escaped_string, owned, string};
-use crate::value::{JsonFault, Object, Value};
+use crate::value::{Blank, JsonFault, Object, Value};
 use arrow_lists::Items;
 use std::alloc::Global;
 
+/// For how many items an array has room once it has one.
+const FIRST_ROOM: usize = 4;
+
 // One more item, for which there may be no room.
 #[inline(never)]
-fn push_growing<T: Drop>(items: &mut Vec<T>, item: T) -> Result<(), JsonFault>
-    ensures pushed { OnOk result (items.new.items ≡ items.old.items ++ item ∷ []) }
+fn push_growing<T: Blank>(items: &mut Vec<T>) -> Result<(), JsonFault>
+    ensures pushed { OnOk result ((item : T) × (items.new.items ≡ items.old.items ++ item ∷ [])) }
     ensures memory { IfErr result (λ e. e ≡ JsonFault.Memory) }
 {
     if items.reserve(1).is_err() {
         return Err(JsonFault::Memory);
     }
-    items.push_reserved(item);
+    items.push_reserved(T::blank());
     Ok(())
 }
 
-// One more item. Where there is room, it moves straight to its place.
-fn push_item<T: Drop>(items: &mut Vec<T>, item: T) -> Result<(), JsonFault>
-    ensures pushed { OnOk result (items.new.items ≡ items.old.items ++ item ∷ []) }
+// One more item, which is blank. Where there is room, it is made in its place.
+fn push_blank<T: Blank>(items: &mut Vec<T>) -> Result<(), JsonFault>
+    ensures pushed { OnOk result ((item : T) × (items.new.items ≡ items.old.items ++ item ∷ [])) }
     ensures memory { IfErr result (λ e. e ≡ JsonFault.Memory) }
 {
     if items.len() < items.capacity() {
-        items.push_reserved(item);
+        items.push_reserved(T::blank());
         return Ok(());
     }
-    push_growing(items, item)
+    push_growing(items)
+}
+
+// No items yet, and room for a few.
+fn item_room<T: Drop>(alloc: Global) -> Result<Vec<T>, JsonFault>
+    ensures { MatchResult result (λ items. items.items ≡ []) (λ e. e ≡ JsonFault.Memory) }
+{
+    match Vec::with_capacity(alloc, FIRST_ROOM) {
+        Ok(items) => Ok(items),
+        Err(_) => Err(JsonFault::Memory),
+    }
 }
 
 // Whether the closing bracket is next, behind white space. Then it is passed.
@@ -76,37 +89,31 @@ fn goes_on<'a>(reader: &mut Reader<'a>, close: u8) -> Result<bool, JsonFault>
 }
 
 // Passes this word.
-#[tactic(auto, unfolding(crate::specs::Reading::strip))]
+#[inline(always)]
 fn literal<'a>(reader: &mut Reader<'a>, word: &[u8]) -> Result<(), JsonFault>
     ensures reads { MatchResult result (λ _. strip word.now reader.old ≡ found tt reader.new)
         (λ e. (e ≡ JsonFault.Text) × (strip word.now reader.old ≡ wrong)) }
     ensures forward { length reader.new ≤ length reader.old }
 {
-    let mut rest = word;
-    while let Some((first, others)) = rest.split_first() {
-        match reader.next() {
-            None => return Err(JsonFault::Text),
-            Some(byte) => {
-                if byte != *first {
-                    return Err(JsonFault::Text);
-                }
-            }
-        }
-        rest = others;
+    if !reader.rest().starts_with(word) {
+        return Err(JsonFault::Text);
     }
+    reader.advance(word.len());
     Ok(())
 }
 
+#[inline(never)]
 fn null_value<'a>(reader: &mut Reader<'a>, out: &mut Value) -> Result<(), JsonFault>
     ensures reads { Gives (λ _. out.new) result reader.new (bind (strip text_null reader.old) (λ _ r. found null r)) }
     ensures forward { length reader.new ≤ length reader.old }
 {
     literal(reader, b"null")?;
-    *out = Value::Null;
+    out.fill(Value::Null);
     Ok(())
 }
 
 // The truth value for which this word stands.
+#[inline(never)]
 fn truth_value<'a>(
     reader: &mut Reader<'a>,
     word: &[u8],
@@ -117,7 +124,7 @@ fn truth_value<'a>(
     ensures forward { length reader.new ≤ length reader.old }
 {
     literal(reader, word)?;
-    *out = Value::Bool(truth);
+    out.fill(Value::Bool(truth));
     Ok(())
 }
 
@@ -127,7 +134,7 @@ fn plain_value(alloc: Global, text: &str, out: &mut Value) -> Result<(), JsonFau
     ensures { MatchResult result (λ _. out.new ≡ string text.now) (λ e. e ≡ JsonFault.Memory) }
 {
     let text = owned(alloc, text)?;
-    *out = Value::String(text);
+    out.fill(Value::String(text));
     Ok(())
 }
 
@@ -142,11 +149,11 @@ fn escaped_value<'a>(
     ensures forward { length reader.new ≤ length reader.old }
 {
     let text = escaped_string(alloc, reader)?;
-    *out = Value::String(text);
+    out.fill(Value::String(text));
     Ok(())
 }
 
-#[inline(always)]
+#[inline(never)]
 fn string_value<'a>(
     alloc: Global,
     reader: &mut Reader<'a>,
@@ -162,6 +169,7 @@ fn string_value<'a>(
 }
 
 // A value that is no array and no object.
+#[inline(always)]
 fn scalar<'a>(alloc: Global, reader: &mut Reader<'a>, out: &mut Value) -> Result<(), JsonFault>
     ensures reads { Gives (λ _. out.new) result reader.new (scalar_at reader.old) }
     ensures forward { length reader.new ≤ length reader.old }
@@ -231,18 +239,18 @@ fn array<'a>(
     ensures reads { Gives (λ _. out.new) result reader.new (array_at (value_at depth) reader.old) }
     ensures forward { length reader.new ≤ length reader.old }
 {
-    let mut items = Vec::new(alloc);
     if closes(reader, b']') {
-        *out = Value::Array(Items::from_vec(items));
+        out.fill(Value::Array(Items::from_vec(Vec::new(alloc))));
         return Ok(());
     }
+    let mut items = item_room(alloc)?;
     loop {
         reader.skip_spaces();
-        push_item(&mut items, Value::Null)?;
+        push_blank(&mut items)?;
         let last = items.len() - 1;
         value(alloc, reader, depth, &mut items[last])?;
         if !goes_on(reader, b']')? {
-            *out = Value::Array(Items::from_vec(items));
+            out.fill(Value::Array(Items::from_vec(items)));
             return Ok(());
         }
     }
@@ -268,7 +276,7 @@ fn name_separator<'a>(reader: &mut Reader<'a>) -> Result<(), JsonFault>
     }
 }
 
-// What follows the opening bracket of an object.
+// What follows the opening bracket of an object. A member gets its place first and is read into it.
 #[cycle(value)]
 #[inline(never)]
 fn object<'a>(
@@ -280,21 +288,22 @@ fn object<'a>(
     ensures reads { Gives (λ _. out.new) result reader.new (object_at (value_at depth) reader.old) }
     ensures forward { length reader.new ≤ length reader.old }
 {
-    let mut members = Members::new(alloc);
     if closes(reader, b'}') {
-        *out = Value::Object(Object { members });
+        let members = Members::new(alloc);
+        out.fill(Value::Object(Object { members }));
         return Ok(());
     }
+    let mut members = Members::with_room(alloc)?;
     loop {
         reader.skip_spaces();
         let key = string(alloc, reader)?;
         name_separator(reader)?;
         reader.skip_spaces();
-        let mut item = Value::Null;
-        value(alloc, reader, depth, &mut item)?;
-        members.put(alloc, key, item)?;
+        let at = members.put(alloc, key)?;
+        let member = &mut members.pairs[at];
+        value(alloc, reader, depth, &mut member.1)?;
         if !goes_on(reader, b'}')? {
-            *out = Value::Object(Object { members });
+            out.fill(Value::Object(Object { members }));
             return Ok(());
         }
     }

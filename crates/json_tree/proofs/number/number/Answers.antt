@@ -1,13 +1,14 @@
-use Rattle.std.proofs.Common.{true, false, ap, ◌∙◌}
+use Rattle.std.proofs.Common.{true, false, ap, sym, ◌∙◌}
 use Rattle.std.proofs.lemmas.Result.{err_from_is_err_and}
 use Rattle.json_tree.proofs.Numbers.{number-int, number-frac, number-exp, number-told}
 use Rattle.std.proofs.Common.{take, ◌-◌, length, refl, arith}
+use Rattle.json_tree.specs.Reading.{found}
 use Rattle.json_tree.proofs.Points.{frac-point, no-frac-point, mantissa-point}
 use Rattle.json_tree.proofs.Digits.{mantissa-utf8, exponent-utf8}
 use Rattle.json_tree.proofs.number.number.Goals as goal
 
-pub ascii_text-requires : goal.ascii_text-requires
-ascii_text-requires c =
+pub mantissa_text-requires : goal.mantissa_text-requires
+mantissa_text-requires c =
     let m = c.optional_minus.ensures.reads in
     let i = c.in_ok-integer_part.ensures.reads in
     let f = c.in_ok-fraction_part.ensures.reads in
@@ -53,6 +54,7 @@ returns-then-tail-whole-clause-reads c =
     number-told c.args.reader.now c.optional_minus.new.reader c.integer_part.new.reader c.fraction_part.new.reader c.exponent_part.new.reader m.0 i.0 f.0 e.0 m.1 i.1 f.1 e.1
     c.rest-start.result.now c.rest-tail.result.now c.rest-left.result.now c.in_ok-mantissa.mantissa c.in_ok-exponent.exponent c.rest-start.ensures c.rest-tail.ensures c.rest-left.ensures
     mant (c.in_ok-exponent.ensures.text ∙ c.behind_first-behind.ensures) true (point true (frac-point c.integer_part.new.reader c.fraction_part.new.reader f.0 f.1 (omega (arith, ap length c.rest-whole.ensures, ap length c.rest-tail.ensures, c.if-tail-whole.true))))
+    ∙ ap (λ v. found v c.exponent_part.new.reader) (sym c.fill.ensures)
 
 pub returns-else-tail-whole-clause-reads : goal.returns-else-tail-whole-clause-reads
 returns-else-tail-whole-clause-reads c =
@@ -65,3 +67,4 @@ returns-else-tail-whole-clause-reads c =
     number-told c.args.reader.now c.optional_minus.new.reader c.integer_part.new.reader c.fraction_part.new.reader c.exponent_part.new.reader m.0 i.0 f.0 e.0 m.1 i.1 f.1 e.1
     c.rest-start.result.now c.rest-tail.result.now c.rest-left.result.now c.in_ok-mantissa.mantissa c.in_ok-exponent.exponent c.rest-start.ensures c.rest-tail.ensures c.rest-left.ensures
     mant (c.in_ok-exponent.ensures.text ∙ c.behind_first-behind.ensures) false (point false (no-frac-point c.integer_part.new.reader c.fraction_part.new.reader f.0 f.1 (omega (arith, ap length c.rest-whole.ensures, ap length c.rest-tail.ensures, c.if-tail-whole.false))))
+    ∙ ap (λ v. found v c.exponent_part.new.reader) (sym c.fill-else-tail-whole.ensures)

@@ -6,7 +6,7 @@ use Rattle.json_tree.proofs.members.Members.add.Goals as goal
 pub invariant_of-self : goal.invariant_of-self
 invariant_of-self g c =
     let ms = c.self.inside.pairs.items in
-    let n : keys_of c.push_reserved.new.self.items ≡ keys_of ms ++ c.args.key ∷ [] = ap keys_of c.push_reserved.ensures.items ∙ keys-append ms c.args.key c.args.value in
+    let n : keys_of c.push_reserved.new.self.items ≡ keys_of ms ++ c.args.key ∷ [] = ap keys_of c.push_reserved.ensures.items ∙ keys-append ms c.args.key c.blank.result in
     let q = subst (λ xs. length xs ≤ place c.args.key (keys_of xs)) (sym c.self.view_is) c.requires in
     let l : length (keys_of ms) ≤ place c.args.key (keys_of ms) = omega (arith, q, length-keys ms) in
     let s : length (keys_of ms) < 16 = omega (arith, length-keys ms, c.len-at.ensures, c.self.inside.pairs.ok.0, c.if-at-lt-SCANNED.true) in

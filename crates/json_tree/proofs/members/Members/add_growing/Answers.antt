@@ -7,7 +7,7 @@ pub invariant_of-self-2 : goal.invariant_of-self-2
 invariant_of-self-2 g c =
     let ms = c.self.inside.pairs.items in
     let k = c.push_reserved.ensures.items in
-    let n : keys_of c.push_reserved.new.self.items ≡ keys_of ms ++ c.args.key ∷ [] = ap keys_of (k ∙ ap (λ r. r ++ (c.args.key, c.args.value) ∷ []) c.reserve.ensures.items) ∙ keys-append ms c.args.key c.args.value in
+    let n : keys_of c.push_reserved.new.self.items ≡ keys_of ms ++ c.args.key ∷ [] = ap keys_of (k ∙ ap (λ r. r ++ (c.args.key, c.blank.result) ∷ []) c.reserve.ensures.items) ∙ keys-append ms c.args.key c.blank.result in
     let q = subst (λ xs. length xs ≤ place c.args.key (keys_of xs)) (sym c.self.view_is) c.requires in
     let l : length (keys_of ms) ≤ place c.args.key (keys_of ms) = omega (arith, q, length-keys ms) in
     let a : c.len-at.result ≡ length (keys_of ms) = omega (arith, length-keys ms, c.len-at.ensures, ap length c.reserve.ensures.items, c.reserve.new.self.ok.0) in

@@ -1,7 +1,7 @@
 use Rattle.std.proofs.Common.{◌≡◌, ◌≤◌, length}
 use Rattle.json_tree.specs.InText.{InText}
 use Rattle.json_tree.specs.Reading.{skip}
-use Rattle.json_tree.proofs.reader.Reader.skip_spaces.Given as goal
+use Rattle.json_tree.proofs.reader.Reader.pass_spaces.Given as goal
 
 abbrev pub invariant-loop-first : goal.invariant-loop-first
 invariant-loop-first l = record {
