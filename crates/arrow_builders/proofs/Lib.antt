@@ -1,4 +1,17 @@
 pub mod Bits
+pub mod Boxed
 pub mod Contents
+pub mod Finds
 pub mod FixedSizes
+pub mod Growth
+pub mod ListFits
+pub mod ListOffsets
+pub mod ManyNulls
+pub mod NestedSlots
+pub mod OtherFits
+pub mod Rows
+pub mod Sizes
 pub mod Slots
+pub mod Takes
+pub mod Upto
+pub mod Weights

@@ -1,13 +1,13 @@
 -- Slots that are made by place, and one more.
-use Rattle.std.proofs.Common.{◌≡◌, ap, ◌∙◌, Bool, false, cond, ℕ, ◌+◌, ◌<◌, List, [], ◌∷◌, ◌++◌, map, length, get_or, Some, None, refl, arith, zero-add, Result, Ok, Err, IfOk}
+use Rattle.std.proofs.Common.{◌≡◌, ap, ◌∙◌, Bool, true, false, cond, ℕ, ◌+◌, ◌<◌, List, [], ◌∷◌, ◌++◌, map, length, get_or, Option, Some, None, refl, arith, zero-add, Result, Ok, Err, IfOk}
 use Rattle.std.specs.List.{range_with_len}
-use Rattle.std.proofs.lemmas.List.{get_or_append_left, get_or_push, length_push, length-map, map-append}
+use Rattle.std.proofs.lemmas.List.{get_or-replicate, get_or_append_left, get_or_push, length_push, length-map, map-append}
 use Rattle.std.proofs.lemmas.List.FromFn.{length-map-range_with_len, map-range_with_len_more}
 use Rattle.arrow_types.specs.declared.slot.Slot.{Slot}
 use Rattle.arrow_types.specs.declared.slot.Slot.TheVariants as slot
 use Rattle.arrow_bitmap.specs.Bits.{Packed}
 use Rattle.arrow_array.specs.Slots.{slots_of, shown, null_at, truth_at, native_at}
-use Rattle.arrow_builders.specs.Bits.{mask_of}
+use Rattle.arrow_builders.specs.Bits.{mask_of, Tells}
 use Rattle.arrow_builders.proofs.Bits.{made_alike}
 
 pub masked : (ℕ → Slot) → List Bool → ℕ → List Slot
@@ -63,6 +63,14 @@ nulls_at-push n m e = rw e (map-range_with_len_more (λ i. slot.Null) 0 n n (ome
 -- the slots that an array shows over the bits of a builder's validity
 pub slots_of-frozen : (f g : ℕ → Slot) (v : Packed) (ts : List Bool) (m n : ℕ) → f ≡ g → v.truths ≡ ts → m ≡ n → slots_of f (Some v) 0 m ≡ slots_of g (Some (mask_of ts)) 0 n
 slots_of-frozen f g v ts m n e d l = rw (e, d, l) refl
+
+-- the same, where no validity says that all are valid
+pub slots_of-told : (f g : ℕ → Slot) (v : Option Packed) (ts : List Bool) (m n : ℕ) → f ≡ g → Tells v ts → m ≡ n → n ≡ length ts → slots_of f v 0 m ≡ slots_of g (Some (mask_of ts)) 0 n
+slots_of-told f g (Some v) ts m n e d l k = slots_of-frozen f g v ts m n e d l
+slots_of-told f g None ts m n e d l k =
+    let all : (i : ℕ) → i < n → get_or ts i false ≡ true = λ i h. ap (λ (xs : List Bool). get_or xs i false) d ∙ get_or-replicate (length ts) i true false (omega (arith, h, k)) in
+    rw (e, l) (made_alike (λ i. g (0 + i)) (λ i. cond (get_or ts i false) (g (0 + i)) slot.Null) 0 0 n (λ i h.
+    rw (zero-add i) (rw (zero-add i) (rw (all i h) refl))))
 
 -- what is known of an array's slots, told of an equal list
 pub IfOk-same : {A E : Type 0} (slots : A → List Slot) (r : Result A E) (xs ys : List Slot) → IfOk r (λ a. slots a ≡ xs) → xs ≡ ys → IfOk r (λ a. slots a ≡ ys)

@@ -1,7 +1,13 @@
 pub mod Bits
 pub mod Builders
+pub mod Children
 pub mod Contents
 pub mod Dictionaries
+pub mod Fits
+pub mod Found
+pub mod Lending
 pub mod MutableArrays
+pub mod Nested
 pub mod Nodes
 pub mod Room
+pub mod Shapes

@@ -1,6 +1,6 @@
 //! A bitmap that grows.
 
-ghost use Rattle.std.specs.Prelude.{◌≡◌, ◌≢◌, ℕ, ◌+◌, ◌*◌, ◌<◌, ◌≤◌, ◌++◌, ◌∷◌, [], length, vec_len, vec_capacity, IsOk, IfOk, IfErr, OnOk, OnErr};
+ghost use Rattle.std.specs.Prelude.{◌≡◌, ◌≢◌, ℕ, ◌+◌, ◌*◌, ◌<◌, ◌≤◌, ◌++◌, ◌∷◌, [], length, vec_len, vec_capacity, MatchBool, IsOk, IfOk, IfErr, OnOk, OnErr};
 ghost use Rattle.arrow_bitmap.specs.Bits.{bit_of, truth_of};
 ghost use Rattle.arrow_lists.specs.declared.error.Error.TheVariants.{OutOfMemory};
 
@@ -131,11 +131,38 @@ impl MutableBitmap {
         self.count += 1;
     }
 
+    /// Appends a bit where the last word isn't full; false, and nothing changed, where it is.
+    #[inline(always)]
+    pub fn push_within(&mut self, value: bool) -> bool
+        ensures { MatchBool result
+            ((1 ≤ length self.old.items)
+            × (self.new.items ≡ self.old.items ++ value ∷ [])
+            × (self.new.spare + 1 ≡ self.old.spare))
+            (self.new ≡ self.old) }
+    {
+        if self.count % 64 == 0 {
+            return false;
+        }
+        write_bit(&mut self.words, self.count, value);
+        self.count += 1;
+        true
+    }
+
     /// How many bits there are.
     pub fn len(&self) -> usize
         ensures { result ≡ length self.now.items }
     {
         self.count
+    }
+
+    /// How many more bits fit before memory is asked for.
+    pub fn room(&self) -> usize
+        ensures spare { result ≡ self.now.spare }
+        ensures few { result ≤ 9223372036854775744 }
+    {
+        let room = self.words.capacity().saturating_mul(64);
+        let room = if room < MOST_BITS { room } else { MOST_BITS };
+        room - self.count
     }
 
     /// The bitmap of these bits, over the same words.
@@ -155,14 +182,4 @@ impl MutableBitmap {
         self.words.clear();
         self.count = 0;
     }
-}
-
-/// The bitmaps of the bits of both, over the same words.
-pub(crate) fn freeze_both(left: MutableBitmap, right: MutableBitmap) -> Result<(Bitmap, Bitmap)>
-    ensures ok { IfOk result (λ b. (b.0.truths ≡ left.items) × (b.1.truths ≡ right.items)) }
-    ensures err { IfErr result (λ e. e ≡ OutOfMemory) }
-{
-    let left = left.freeze()?;
-    let right = right.freeze()?;
-    Ok((left, right))
 }

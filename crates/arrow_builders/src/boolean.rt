@@ -3,13 +3,15 @@
 ghost use Rattle.std.specs.Prelude.{◌≡◌, ◌≤◌, ◌++◌, ◌∷◌, [], length, if◌then◌else◌, IsOk, IfOk, IfErr, OnOk, OnErr};
 ghost use Rattle.arrow_lists.specs.declared.error.Error.TheVariants.{OutOfMemory};
 ghost use Rattle.arrow_types.specs.declared.slot.Slot.TheVariants.{Null as NullSlot, Truth};
+ghost use Rattle.arrow_builders.specs.Bits.{Tells};
 ghost use Rattle.arrow_builders.specs.Builders.{plain_node, optional_slot};
 ghost use Rattle.arrow_builders.specs.Nodes.{KeepsRoom, Roomier, Emptied, HasRoom};
 
-use crate::bitmap::{MutableBitmap, freeze_both};
+use crate::bitmap::MutableBitmap;
 use crate::container::Container;
 use crate::lengths::NodeLengths;
-use arrow_array::BooleanArray;
+use crate::validity::MutableValidity;
+use arrow_array::{Bitmap, BooleanArray};
 use arrow_lists::Result;
 use arrow_types::DataType;
 use std::alloc::Global;
@@ -23,7 +25,7 @@ pub struct MutableBooleanArray {
     alloc: Global,
     data_type: DataType,
     values: MutableBitmap,
-    validity: MutableBitmap,
+    validity: MutableValidity,
 }
 
 impl Model for MutableBooleanArray {
@@ -55,7 +57,7 @@ impl Container for MutableBooleanArray {
     fn with_capacity(alloc: Global, capacity: usize) -> Result<MutableBooleanArray> {
         let mut values = MutableBitmap::new(alloc);
         values.reserve(capacity)?;
-        let mut validity = MutableBitmap::new(alloc);
+        let mut validity = MutableValidity::new(alloc);
         validity.reserve(capacity)?;
         Ok(MutableBooleanArray {
             alloc,
@@ -72,7 +74,7 @@ impl MutableBooleanArray {
     pub fn len(&self) -> usize
         ensures { result ≡ length self.now.slots }
     {
-        self.validity.len()
+        self.values.len()
     }
 
     /// The data type, Boolean.
@@ -88,7 +90,7 @@ impl MutableBooleanArray {
         ensures bytes { result.bytes ≡ 0 }
     {
         NodeLengths {
-            slots: self.validity.len(),
+            slots: self.values.len(),
             bytes: 0,
         }
     }
@@ -132,9 +134,8 @@ impl MutableBooleanArray {
         ensures roomy { 1 ≤ self.old.spare → IsOk result }
     {
         self.values.reserve_one()?;
-        self.validity.reserve_one()?;
+        self.validity.push(is_valid)?;
         self.values.push_reserved(truth);
-        self.validity.push_reserved(is_valid);
         Ok(())
     }
 
@@ -172,9 +173,19 @@ impl MutableBooleanArray {
         ensures memory { IfErr result (λ e. e ≡ OutOfMemory) }
     {
         let values = mem::replace(&mut self.values, MutableBitmap::new(self.alloc));
-        let validity = mem::replace(&mut self.validity, MutableBitmap::new(self.alloc));
+        let validity = mem::replace(&mut self.validity, MutableValidity::new(self.alloc));
         let (values, validity) = freeze_both(values, validity)?;
         let data_type = self.data_type.try_clone(self.alloc)?;
-        Ok(BooleanArray::from_bitmaps(data_type, values, Some(validity)))
+        Ok(BooleanArray::from_bitmaps(data_type, values, validity))
     }
+}
+
+/// The bitmaps of both, over the same words.
+fn freeze_both(values: MutableBitmap, validity: MutableValidity) -> Result<(Bitmap, Option<Bitmap>)>
+    ensures ok { IfOk result (λ b. (b.0.truths ≡ values.items) × Tells b.1 validity.items) }
+    ensures err { IfErr result (λ e. e ≡ OutOfMemory) }
+{
+    let values = values.freeze()?;
+    let validity = validity.freeze()?;
+    Ok((values, validity))
 }

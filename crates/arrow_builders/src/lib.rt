@@ -11,11 +11,19 @@ mod boolean;
 mod container;
 mod content;
 mod dictionary;
+mod find;
 mod fixed_size_binary;
+mod fixed_size_list;
+mod large_list;
 mod lengths;
+mod list;
+mod lists;
+mod marks;
 mod null;
 mod primitive;
+mod structs;
 mod utf8;
+mod validity;
 
 pub use array::MutableArray;
 pub use binary::{ByteStrings, MutableBinaryArray};
@@ -24,12 +32,20 @@ pub use container::Container;
 pub use content::{Content, MutableContentArray};
 pub use dictionary::FixedItemsUtf8Dictionary;
 pub use fixed_size_binary::MutableFixedSizeBinaryArray;
+pub use fixed_size_list::MutableFixedSizeListArray;
+pub use large_list::DynMutableLargeListArray;
 pub use lengths::NodeLengths;
+pub use list::DynMutableListArray;
 pub use null::MutableNullArray;
 pub use primitive::MutablePrimitiveArray;
+pub use structs::DynMutableStructArray;
 pub use utf8::{MutableUtf8Array, Texts};
 
 #[cfg(test)]
 mod flat_tests;
+#[cfg(test)]
+mod kind_tests;
+#[cfg(test)]
+mod nested_tests;
 #[cfg(test)]
 mod tests;

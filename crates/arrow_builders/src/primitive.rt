@@ -7,9 +7,9 @@ ghost use Rattle.arrow_array.specs.Parts.{IsPlain};
 ghost use Rattle.arrow_builders.specs.Builders.{plain_node, plain_type, optional_slot};
 ghost use Rattle.arrow_builders.specs.Nodes.{KeepsRoom, Roomier, Emptied, HasRoom};
 
-use crate::bitmap::MutableBitmap;
 use crate::container::Container;
 use crate::lengths::NodeLengths;
+use crate::validity::MutableValidity;
 use arrow_array::PrimitiveArray;
 use arrow_lists::Result;
 use arrow_types::{DataType, IntervalUnit, NativeType, PrimitiveType};
@@ -24,7 +24,7 @@ pub struct MutablePrimitiveArray<T: NativeType> {
     alloc: Global,
     data_type: DataType,
     values: Vec<T>,
-    validity: MutableBitmap,
+    validity: MutableValidity,
 }
 
 impl<T: NativeType> Model for MutablePrimitiveArray<T> {
@@ -78,7 +78,7 @@ impl<T: NativeType> Container for MutablePrimitiveArray<T> {
 
     fn with_capacity(alloc: Global, capacity: usize) -> Result<MutablePrimitiveArray<T>> {
         let values = Vec::with_capacity(alloc, capacity)?;
-        let mut validity = MutableBitmap::new(alloc);
+        let mut validity = MutableValidity::new(alloc);
         validity.reserve(capacity)?;
         Ok(MutablePrimitiveArray {
             alloc,
@@ -116,7 +116,7 @@ impl<T: NativeType> MutablePrimitiveArray<T> {
     pub fn len(&self) -> usize
         ensures { result ≡ length self.now.slots }
     {
-        self.validity.len()
+        self.values.len()
     }
 
     /// The data type.
@@ -132,7 +132,7 @@ impl<T: NativeType> MutablePrimitiveArray<T> {
         ensures bytes { result.bytes ≡ 0 }
     {
         NodeLengths {
-            slots: self.validity.len(),
+            slots: self.values.len(),
             bytes: 0,
         }
     }
@@ -177,9 +177,8 @@ impl<T: NativeType> MutablePrimitiveArray<T> {
         ensures roomy { 1 ≤ self.old.spare → IsOk result }
     {
         self.values.reserve(1)?;
-        self.validity.reserve_one()?;
+        self.validity.push(is_valid)?;
         self.values.push_reserved(value);
-        self.validity.push_reserved(is_valid);
         Ok(())
     }
 
@@ -217,9 +216,9 @@ impl<T: NativeType> MutablePrimitiveArray<T> {
         ensures memory { IfErr result (λ e. e ≡ OutOfMemory) }
     {
         let values = mem::replace(&mut self.values, Vec::new(self.alloc));
-        let validity = mem::replace(&mut self.validity, MutableBitmap::new(self.alloc));
+        let validity = mem::replace(&mut self.validity, MutableValidity::new(self.alloc));
         let validity = validity.freeze()?;
         let data_type = self.data_type.try_clone(self.alloc)?;
-        PrimitiveArray::try_new(self.alloc, data_type, values, Some(validity))
+        PrimitiveArray::try_new(self.alloc, data_type, values, validity)
     }
 }

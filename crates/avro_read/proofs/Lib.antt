@@ -1,3 +1,4 @@
+pub mod CarriedKinds
 pub mod Counting
 pub mod Growth
 pub mod Inferring

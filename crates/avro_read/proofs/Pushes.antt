@@ -1,5 +1,5 @@
 -- What a push brings to a builder's node, and when it has memory.
-use Rattle.std.proofs.Common.{◌≡◌, ◌∙◌, ◌⊎◌, inl, inr, ℕ, ◌+◌, ◌<◌, ◌≤◌, List, [], ◌∷◌, ◌++◌, length, take, drop, false, All, Result, Ok, Err, ap, arith}
+use Rattle.std.proofs.Common.{◌≡◌, ◌∙◌, ◌⊎◌, inl, inr, ℕ, ◌+◌, ◌<◌, ◌≤◌, List, [], ◌∷◌, ◌++◌, length, take, drop, false, Result, Ok, Err, ap, arith}
 use Rattle.std.specs.Prelude.{OnOk, OnErr, IfErr}
 use Rattle.std.specs.List.{AllZip}
 use Rattle.std.proofs.lemmas.List.{length-append, length-take-le, length-drop}
@@ -116,8 +116,8 @@ no_more_content (x ∷ xs) (y ∷ ys) h =
     let b = content_cons y ys in
     omega (arith, r, h.0.bytes_added, a, b)
 
-pub null_grows : (bytes : List ℕ) (xs ys : List Node) → AllZip (Takes 1 0) xs ys → Grows (passed bytes bytes + 1) xs ys
-null_grows bytes xs ys h =
+pub nodes_grow : (bytes : List ℕ) (xs ys : List Node) → AllZip (Takes 1 0) xs ys → Grows (passed bytes bytes + 1) xs ys
+nodes_grow bytes xs ys h =
     let r = no_more_content xs ys h in
     record { each = wider xs ys h; all = omega (arith, r) }
   where
@@ -126,6 +126,3 @@ null_grows bytes xs ys h =
     wider [] (y ∷ ys) h = absurd h
     wider (x ∷ xs) [] h = absurd h
     wider (x ∷ xs) (y ∷ ys) h = (fills 1 0 (passed bytes bytes + 1) x y h.0 (omega arith) (omega arith), wider xs ys h.1)
-
-pub null_has_memory : (n : ℕ) (xs : List Node) (A : Type 0) (r : Result (Unit {0}) DecodeFault) → (All (λ x. 1 ≤ x.spare) xs → A) → (A → HasMemory r) → All (HasRoom (n + 1)) xs → HasMemory r
-null_has_memory n xs A r roomy answered h = answered (roomy (λ k d lt. let s = (h k d lt).slots in omega (arith, s)))

@@ -4,13 +4,14 @@ use Rattle.std.specs.List.{AllZip}
 use Rattle.std.proofs.lemmas.List.Sums.{sum_by-set, sum_by-cons}
 use Rattle.std.proofs.lemmas.List.Elements.{All-cons}
 use Rattle.arrow_builders.specs.declared.array.MutableArray.{MutableArray}
-use Rattle.arrow_builders.specs.declared.array.MutableArray.TheVariants.{Boolean, Int32, Int64, Utf8}
-use Rattle.arrow_builders.specs.MutableArrays.{builder_slots, nodes}
+use Rattle.arrow_builders.specs.declared.array.MutableArray.{Boolean, Int32, Int64, Utf8}
+use Rattle.arrow_builders.specs.MutableArrays.{builder_kind, builder_slots, nodes}
 use Rattle.arrow_builders.specs.Nodes.{Node, HasRoom, KeepsRoom, IsEmpty, Emptied}
 use Rattle.avro_reading.specs.ValidBlock.{small_limit}
 use Rattle.avro_read.specs.declared.fault.DecodeFault.{DecodeFault}
 use Rattle.avro_read.specs.Counting.{passed, Moves, CostsNumber}
 use Rattle.avro_read.specs.Room.{HasMemory, content, OffsetsReach, Fills, Grows, AtNodes, BetweenNodes, total_content, AllGrow, ReservedRoomStays}
+use Rattle.avro_read.specs.Today.{IsKindToday}
 use Rattle.avro_read.proofs.Counting.{not_longer}
 use Rattle.avro_read.proofs.Pushes.{fills, fills_none, content_cons}
 
@@ -213,11 +214,12 @@ no_slots : {A : Type 0} (xs : List A) → length xs ≡ 0 → xs ≡ []
 no_slots [] e = refl
 no_slots (x ∷ xs) e = absurd (omega (arith, e))
 
-pub empty_slots : (b : MutableArray) → All IsEmpty (nodes b) → builder_slots b ≡ []
-empty_slots (Boolean b) h = no_slots b.slots (first_of IsEmpty _ h).slots
-empty_slots (Int32 b) h = no_slots b.slots (first_of IsEmpty _ h).slots
-empty_slots (Int64 b) h = no_slots b.slots (first_of IsEmpty _ h).slots
-empty_slots (Utf8 b) h = no_slots b.slots (first_of IsEmpty _ h).slots
+pub empty_slots : (b : MutableArray) → IsKindToday (builder_kind b) → All IsEmpty (nodes b) → builder_slots b ≡ []
+empty_slots (Boolean b) t h = no_slots b.slots (first_of IsEmpty _ h).slots
+empty_slots (Int32 b) t h = no_slots b.slots (first_of IsEmpty _ h).slots
+empty_slots (Int64 b) t h = no_slots b.slots (first_of IsEmpty _ h).slots
+empty_slots (Utf8 b) t h = no_slots b.slots (first_of IsEmpty _ h).slots
+empty_slots _ t h = absurd t
 
 -- ---- builders that are filled and cleared, again and again
 

@@ -1,6 +1,7 @@
 use Rattle.avro_read.proofs.Today.{carried_union, union_kind}
 use Rattle.avro_read.proofs.Counting.{next_moves, next_costs, moves_none, kept_none, number_costs, number_first, kept_on_ok, byte_moves, ended_moves, byte_costs, still_moves, drop_moves, drop_shorter, forward_none}
-use Rattle.avro_read.proofs.Pushes.{fills_none, takes_none, number_fills, byte_fills, number_has_memory, byte_has_memory, text_takes, null_grows, null_has_memory}
+use Rattle.avro_read.proofs.Pushes.{fills_none, takes_none, number_fills, byte_fills, number_has_memory, byte_has_memory, text_takes}
+use Rattle.avro_read.proofs.CarriedKinds.{member_today, kind_today, kinds_stay, null_grows, null_has_memory, no_memory}
 use Rattle.avro_read.proofs.Room.{grows_none, one_grows, grows_one_wider, memory_with_one_more, member_reach, member_grows, member_has_memory, few_slots_left, few_slots_passed, few_content_left, few_content_passed, room_left, room_kept}
 use Rattle.avro_read.proofs.Numbers.{number_is, string_good, string_wrong, string_short, string_none, number_passes, number_bad, raw_passes, sized_passes, sized_bad, first_passes, second_passes, union_bad, skip_other, read_other, read_no_place, read_first, read_second, null_read, null_skipped, union_read, union_skipped}
 use Rattle.avro_read.proofs.Unfolded.{push_none, push_some, boolean_none, boolean_some, int_is, long_is, bytes_are, jump_is}
@@ -19,8 +20,10 @@ pub ruleset texts = (fills_none, push_none, push_some, string_good, string_wrong
 
 pub ruleset fronts = (still_moves, drop_moves, drop_shorter, bytes_are, jump_is)
 
-pub ruleset choices = (grows_none, member_reach, member_grows, member_has_memory, number_first, kept_on_ok, push_none, push_some, first_passes, second_passes, union_bad, skip_other, read_other, read_no_place, read_first, read_second)
+pub ruleset choices = (member_today, grows_none, member_reach, member_grows, member_has_memory, number_first, kept_on_ok, push_none, push_some, first_passes, second_passes, union_bad, skip_other, read_other, read_no_place, read_first, read_second)
 
 pub ruleset skips = (number_first, number_passes, number_bad, raw_passes, sized_passes, sized_bad)
 
 pub ruleset wholes = (forward_none, few_slots_left, few_slots_passed, few_content_left, few_content_passed, room_left, room_kept)
+
+pub ruleset frozen = (kind_today, kinds_stay, no_memory)

@@ -1,5 +1,5 @@
 -- A block's columns, and the arrays of its builders.
-use Rattle.std.proofs.Common.{◌≡◌, ◌∙◌, ℕ, zero, suc, ◌+◌, ◌<◌, ◌≤◌, Bool, List, [], ◌∷◌, ◌++◌, length, get_or, drop, set, map, Result, Ok, Err, refl, sym, ap, subst, add-one, arith}
+use Rattle.std.proofs.Common.{◌≡◌, ◌∙◌, ℕ, zero, suc, ◌+◌, ◌<◌, ◌≤◌, Bool, List, [], ◌∷◌, ◌++◌, length, get_or, drop, set, map, All, Result, Ok, Err, refl, sym, ap, subst, add-one, arith}
 use Rattle.std.specs.Prelude.{IfErr}
 use Rattle.std.proofs.lemmas.List.{append-nil, length-map, get_or-map, drop-set-lt}
 use Rattle.std.proofs.lemmas.List.FromFn.{get_or-map-range_with_len}
@@ -10,7 +10,7 @@ use Rattle.arrow_array.specs.Arrays.{array_slots}
 use Rattle.arrow_array.specs.Chunks.{AreSameLength}
 use Rattle.arrow_builders.specs.declared.array.MutableArray.{MutableArray}
 use Rattle.arrow_builders.specs.Nodes.{IsEmpty}
-use Rattle.arrow_builders.specs.MutableArrays.{builder_slots}
+use Rattle.arrow_builders.specs.MutableArrays.{builder_kind, builder_slots}
 use Rattle.avro_file.specs.declared.schema.AvroField.{AvroField}
 use Rattle.avro_grammar.specs.Rows.{Pieces, Rows, column, total_kept, total_seen, total_hidden}
 use Rattle.avro_reading.specs.Skip.{Bad}
@@ -23,12 +23,14 @@ use Rattle.avro_read.specs.Room.{AtNodes}
 use Rattle.avro_read.specs.declared.fault.DecodeFault.{DecodeFault}
 use Rattle.avro_read.specs.declared.fault.DecodeFault.TheVariants.{Bytes}
 use Rattle.avro_read.specs.Refusals.{AreCounted}
+use Rattle.avro_read.specs.Today.{IsKindToday}
 use Rattle.avro_read.proofs.Room.{empty_slots}
 use Rattle.avro_read.proofs.Growth.{AreEmpty, grown_columns, length-grown_by}
 
-pub slots_empty : (builders : List MutableArray) → AtNodes IsEmpty builders → AreEmpty (map builder_slots builders)
-slots_empty [] h = tt
-slots_empty (b ∷ bs) h = (empty_slots b (h 0 b (omega arith)), slots_empty bs (λ k d lt. h (suc k) d (omega (arith, lt))))
+pub slots_empty : (builders : List MutableArray) → All IsKindToday (map builder_kind builders) → AtNodes IsEmpty builders → AreEmpty (map builder_slots builders)
+slots_empty [] t h = tt
+slots_empty (b ∷ bs) t h =
+    (empty_slots b (t 0 (builder_kind b) (omega arith)) (h 0 b (omega arith)), slots_empty bs (λ k d lt. t (suc k) d (omega (arith, lt))) (λ k d lt. h (suc k) d (omega (arith, lt))))
 
 wide_same : (m n : ℕ) (rs : List (List Slot)) → m ≡ n → AreWide m rs → AreWide n rs
 wide_same m n rs e w = rw (sym e) w

@@ -55,6 +55,14 @@ flat_kind (Long logical) = physical.Primitive primitive.Int64
 flat_kind (String logical) = physical.Utf8
 flat_kind _ = physical.Null
 
+-- the kinds that have values today
+abbrev pub IsKindToday : PhysicalType → Type 0
+IsKindToday physical.Boolean = Unit {0}
+IsKindToday (physical.Primitive primitive.Int32) = Unit {0}
+IsKindToday (physical.Primitive primitive.Int64) = Unit {0}
+IsKindToday physical.Utf8 = Unit {0}
+IsKindToday _ = ⊥
+
 abbrev pub pair_kind : Schema → Schema → PhysicalType
 pair_kind s u = if is_null s then flat_kind u else flat_kind s
 

@@ -1,11 +1,11 @@
 //! Blocks of rows into columns.
 
-ghost use Rattle.std.specs.Prelude.{◌≡◌, ◌≤◌, ◌+◌, ◌*◌, [], length, map, OnOk, IfOk, IfErr};
+ghost use Rattle.std.specs.Prelude.{◌≡◌, ◌≤◌, ◌+◌, ◌*◌, [], length, map, All, OnOk, IfOk, IfErr};
 ghost use Rattle.arrow_lists.specs.declared.error.Error.TheVariants.{OutOfMemory};
 ghost use Rattle.arrow_array.specs.Arrays.{array_type, array_slots};
 ghost use Rattle.arrow_builders.specs.Nodes.{IsEmpty, KeepsRoom, HasRoom};
 ghost use Rattle.arrow_builders.specs.MutableArrays.{builder_type, builder_slots, builder_kind};
-ghost use Rattle.avro_read.specs.Today.{AllCarriedToday, kept_kinds, kept_types};
+ghost use Rattle.avro_read.specs.Today.{AllCarriedToday, IsKindToday, kept_kinds, kept_types};
 ghost use Rattle.avro_file.specs.Number.{MovesForward};
 ghost use Rattle.avro_read.specs.Columns.{AreColumns};
 ghost use Rattle.avro_read.specs.Counting.{ShowsAtMost, CallsAtMost};
@@ -116,7 +116,9 @@ pub fn deserialize_into<'a, C: Cursor<'a>>(
 }
 
 /// The arrays of the builders, in order.
+#[tactic(auto, using(crate::proofs::Sets::frozen))]
 fn freeze(alloc: Global, builders: &mut [MutableArray]) -> Result<Vec<Array>>
+    requires today { All IsKindToday (map builder_kind builders.old) }
     ensures data_types { IfOk result (λ arrays. map array_type arrays.items ≡ map builder_type builders.old) }
     ensures slots { IfOk result (λ arrays. map array_slots arrays.items ≡ map builder_slots builders.old) }
     ensures memory { IfErr result (λ e. e ≡ OutOfMemory) }

@@ -11,7 +11,7 @@ ghost use Rattle.avro_reading.specs.Listed.{read_union_of};
 ghost use Rattle.arrow_builders.specs.Builders.{plain_node, content_node};
 ghost use Rattle.arrow_builders.specs.Nodes.{Takes, HasRoom};
 ghost use Rattle.arrow_builders.specs.MutableArrays.{builder_type, builder_slots, builder_kind, nodes};
-ghost use Rattle.avro_read.specs.Today.{IsFlatToday, CarriedToday, CarriedMembersOf, flat_kind, kind_of, members_kind_of};
+ghost use Rattle.avro_read.specs.Today.{IsFlatToday, CarriedToday, CarriedMembersOf, IsKindToday, flat_kind, kind_of, members_kind_of};
 ghost use Rattle.avro_read.specs.Counting.{passed, Moves, CostsKept, CostsNumber};
 ghost use Rattle.avro_read.specs.Decoding.{Gives, IsTextFault, length_at, member_at};
 ghost use Rattle.avro_read.specs.Room.{OffsetsReach, Fills, Grows, HasMemory};
@@ -91,6 +91,7 @@ fn decode_member<'a, C: Cursor<'a>>(
     schema: &AvroSchema,
     builder: &mut MutableArray,
 ) -> Result<(), DecodeFault>
+    requires today { IsKindToday (builder_kind builder.old) }
     requires member { IsNull schema.now ⊎ (IsFlatToday schema.now × (builder_kind builder.old ≡ flat_kind schema.now)) }
     requires offsets { All (OffsetsReach (length (C.rest cursor.old))) (nodes builder.old) }
     ensures kind { builder_kind builder.new ≡ builder_kind builder.old }

@@ -1,8 +1,17 @@
-use Rattle.std.proofs.Common.{List, drop, sym, subst}
+use Rattle.std.proofs.Common.{◌∙◌, List, drop, map, sym, ap, subst}
 use Rattle.arrow_types.specs.declared.slot.Slot.{Slot}
+use Rattle.arrow_builders.specs.declared.array.MutableArray.{MutableArray}
+use Rattle.arrow_builders.specs.MutableArrays.{builder_kind}
 use Rattle.avro_read.specs.Columns.{AreColumns}
+use Rattle.avro_read.proofs.CarriedKinds.{kinds_today}
 use Rattle.avro_read.proofs.Wholes.{same_lengths, never_refused}
 use Rattle.avro_read.proofs.blocks.deserialize.Goals as goal
+
+pub freeze-requires : goal.freeze-requires
+freeze-requires c =
+    let made = c.in_ok-builders.ensures in
+    let lent = ap (λ (builders : List MutableArray). map builder_kind builders) c.as_mut_slice-builders.ensures.value in
+    record { today = kinds_today _ _ _ made.together.carried (c.in_ok-deserialize_into.ensures.kinds ∙ lent ∙ made.kinds) }
 
 pub returns-clause-err : goal.returns-clause-err
 returns-clause-err c =

@@ -1,5 +1,6 @@
 use Rattle.std.proofs.Common.{◌≤◌, length, arith, refl}
 use Rattle.avro_reading.specs.ValidBlock.{small_limit}
+use Rattle.avro_read.proofs.CarriedKinds.{kinds_today}
 use Rattle.avro_read.proofs.Room.{empty_reach}
 use Rattle.avro_read.proofs.Wholes.{slots_empty, block_columns, block_refused, shows_at_most, calls_at_most}
 use Rattle.avro_read.proofs.blocks.deserialize_into.Goals as goal
@@ -14,7 +15,7 @@ decode_block-requires g c κs =
 pub returns-in-Ok-clause-columns : goal.returns-in-Ok-clause-columns
 returns-in-Ok-clause-columns g c =
     let r = c.in-Ok.ensures.reads in
-    block_columns _ _ _ _ _ _ (slots_empty _ c.requires.empty) (r.1, r.2, r.3, r.4)
+    block_columns _ _ _ _ _ _ (slots_empty _ (kinds_today _ _ _ c.requires.carried c.requires.kinds) c.requires.empty) (r.1, r.2, r.3, r.4)
 
 pub returns-in-Ok-clause-shown : goal.returns-in-Ok-clause-shown
 returns-in-Ok-clause-shown g c =

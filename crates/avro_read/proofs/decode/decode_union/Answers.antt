@@ -1,4 +1,5 @@
 use Rattle.avro_read.proofs.Counting.{number_first}
+use Rattle.avro_read.proofs.Room.{member_grows}
 use Rattle.avro_read.proofs.decode.decode_union.Goals as goal
 
 pub returns-then-place-eq0-clause-moves : goal.returns-then-place-eq0-clause-moves
@@ -8,3 +9,11 @@ returns-then-place-eq0-clause-moves g c =
 pub returns-then-place-eq1-clause-moves : goal.returns-then-place-eq1-clause-moves
 returns-then-place-eq1-clause-moves g c =
     number_first _ _ _ _ _ _ c.in-Some.ensures.costs c.in-Some.ensures.moves c.decode_member-then-place-eq1.ensures.moves
+
+pub returns-then-place-eq0-clause-grows : goal.returns-then-place-eq0-clause-grows
+returns-then-place-eq0-clause-grows g c =
+    member_grows _ _ _ _ _ c.in-Some.ensures.costs _ _ _ c.decode_member.ensures.moves c.decode_member.ensures.grows
+
+pub returns-then-place-eq1-clause-grows : goal.returns-then-place-eq1-clause-grows
+returns-then-place-eq1-clause-grows g c =
+    member_grows _ _ _ _ _ c.in-Some.ensures.costs _ _ _ c.decode_member-then-place-eq1.ensures.moves c.decode_member-then-place-eq1.ensures.grows

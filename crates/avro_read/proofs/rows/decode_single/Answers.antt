@@ -1,5 +1,15 @@
-use Rattle.avro_read.proofs.SingleRows.{single_kept, single_passed}
+use Rattle.std.proofs.Common.{refl, arith}
+use Rattle.avro_read.proofs.RowSteps.{carried_at}
+use Rattle.avro_read.proofs.SingleRows.{one_builder, single_kind, single_kept, single_passed}
 use Rattle.avro_read.proofs.rows.decode_single.Goals as goal
+
+pub decode_value-requires : goal.decode_value-requires
+decode_value-requires g c κs =
+    let field = c.index-avro_fields-0 in
+    let builder = c.index-builders-0.result in
+    let l = one_builder _ _ field.result c.requires.single c.requires.lengths field.is _ c.requires.kinds c.if-projection.true in
+    let k = single_kind _ _ field.result c.requires.single c.requires.lengths field.is _ c.requires.kinds builder c.if-projection.true in
+    ((refl, tt), (carried_at _ 0 field.result (omega (arith, c.requires.single)) field.is c.requires.carried, (k, c.requires.offsets 0 builder (omega (arith, l)))))
 
 pub returns-then-projection-clause-reads : goal.returns-then-projection-clause-reads
 returns-then-projection-clause-reads g c =

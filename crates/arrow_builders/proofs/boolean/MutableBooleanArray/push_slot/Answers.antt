@@ -7,18 +7,17 @@ use Rattle.arrow_builders.proofs.boolean.MutableBooleanArray.push_slot.Goals as 
 pub returns-clause-ok : goal.returns-clause-ok
 returns-clause-ok c = rw (← c.self.view_is) (truths_at-push _ _ _ _ _ _ c.self.invariant.0
     (c.push_reserved.ensures.items ∙ ap (λ (xs : List Bool). xs ++ c.args.truth ∷ []) c.reserve_one.ensures.items)
-    (c.push_reserved-2.ensures.items ∙ ap (λ (xs : List Bool). xs ++ c.args.is_valid ∷ []) c.reserve_one-2.ensures.items))
+    c.in_ok-push.ensures.ok)
 
 pub returns-clause-room : goal.returns-clause-room
 returns-clause-room c =
     let old = c.self.inside.validity.items in
-    let new = c.push_reserved-2.new.self.items in
+    let new = c.push.new.self.items in
     let m = length-slots_of (truth_at c.self.inside.values.items) old (length old) in
     let n = length-slots_of (truth_at c.push_reserved.new.self.items) new (length new) in
-    let k = ap length c.push_reserved-2.ensures.items in
-    let l = length_push c.reserve_one-2.new.self.items c.args.is_valid in
-    let j = ap length c.reserve_one-2.ensures.items in
+    let k = ap length c.in_ok-push.ensures.ok in
+    let l = length_push old c.args.is_valid in
     rw (← c.self.view_is) (record {
-      slots = omega (arith, m, n, k, l, j, c.reserve_one.ensures.room, c.reserve_one-2.ensures.room, c.push_reserved.ensures.room, c.push_reserved-2.ensures.room);
+      slots = omega (arith, m, n, k, l, c.reserve_one.ensures.room, c.push_reserved.ensures.room, c.push.ensures.room);
       bytes = omega arith;
     })

@@ -1,0 +1,202 @@
+//! A builder of lists of one length.
+
+ghost use Rattle.std.specs.Prelude.{◌≡◌, ◌+◌, ◌*◌, ◌≤◌, ◌++◌, ◌∷◌, [], length, drop, IsOk, IfOk, IfErr, OnOk, OnErr};
+ghost use Rattle.std.specs.Borrow.{sem};
+ghost use Rattle.std.specs.List.{All, AllZip};
+ghost use Rattle.arrow_lists.specs.declared.error.Error.TheVariants.{OutOfMemory};
+ghost use Rattle.arrow_types.specs.declared.slot.Slot.TheVariants.{Null as NullSlot, Listed};
+ghost use Rattle.arrow_array.specs.FixedLists.{list_size};
+ghost use Rattle.arrow_array.specs.Parts.{IsRefusalOf};
+ghost use Rattle.arrow_builders.specs.Fits.{ChildrenFit};
+ghost use Rattle.arrow_builders.specs.Found.{found_at};
+ghost use Rattle.arrow_builders.specs.Lending.{LendsFixedSizeListValues};
+ghost use Rattle.arrow_builders.specs.MutableArrays.{builder_type, builder_slots, nodes};
+ghost use Rattle.arrow_builders.specs.Nested.{marks_node, null_slots};
+ghost use Rattle.arrow_builders.specs.Nodes.{Takes, Roomier, Emptied, HasRoom, IsEmpty};
+ghost use Rattle.arrow_builders.specs.Shapes.{shape, nulls_at, AllTake, FitsIn};
+ghost use Rattle.arrow_builders.specs.declared.array.MutableArray.{FixedSizeList};
+
+use crate::array::MutableArray;
+use crate::find::here_or;
+use crate::lengths::NodeLengths;
+use crate::marks::MutableMarks;
+use arrow_array::FixedSizeListArray;
+use arrow_lists::Result;
+use arrow_types::DataType;
+use std::alloc::Global;
+
+/// A builder of lists of one length: the items of each are as many slots of its child, one list
+/// after another (Arrow columnar format, "Fixed-Size List Layout").
+///
+/// A null takes as many of the child's slots as a list.
+#[cycle(builders)]
+#[derive(Drop)]
+pub struct MutableFixedSizeListArray {
+    marks: MutableMarks,
+    values: Box<MutableArray>,
+}
+
+/// How many items each list of this type has; 0 where it is no type of lists of one length.
+fn list_size_of(data_type: &DataType) -> usize
+    ensures { result ≡ list_size data_type.now }
+{
+    match data_type {
+        DataType::FixedSizeList(_, size) => *size,
+        _ => 0,
+    }
+}
+
+impl MutableFixedSizeListArray {
+    /// An empty builder of lists of so many of the slots that `values` takes. The type is one of
+    /// lists of this size.
+    ///
+    /// Where the size is 0, or the items of the type have another type than the child, `as_box`
+    /// refuses. `OutOfMemory` alone.
+    pub fn new_from(
+        alloc: Global,
+        values: MutableArray,
+        data_type: DataType,
+        size: usize,
+    ) -> Result<MutableFixedSizeListArray>
+        requires { list_size data_type ≡ size }
+        ensures data_type { IfOk result (λ b. b.marks.data_type ≡ data_type) }
+        ensures truths { IfOk result (λ b. b.marks.truths ≡ []) }
+        ensures slots { IfOk result (λ b. builder_slots (FixedSizeList b) ≡ []) }
+        ensures values { IfOk result (λ b. b.values.value ≡ values) }
+        ensures memory { IfErr result (λ e. e ≡ OutOfMemory) }
+    {
+        let _size = size;
+        let values = Box::new(alloc, values)?;
+        Ok(MutableFixedSizeListArray {
+            marks: MutableMarks::new(alloc, data_type),
+            values,
+        })
+    }
+
+    /// The child, which takes the items of the lists.
+    pub fn mut_values(&mut self) -> &mut MutableArray
+        ensures* writes_back { sem 𝓛 (LendsFixedSizeListValues self.entry result) }
+        ensures value { result.now ≡ self.old.values.value }
+    {
+        &mut self.values
+    }
+
+    /// Appends the list of the items that the child took since the last slot, which are as many
+    /// as each list has. `OutOfMemory` changes nothing.
+    pub fn try_push_valid(&mut self) -> Result<()>
+        requires { length (builder_slots self.old.values.value)
+            ≡ (length self.old.marks.truths + 1) * list_size self.old.marks.data_type }
+        ensures data_type { self.new.marks.data_type ≡ self.old.marks.data_type }
+        ensures values { self.new.values ≡ self.old.values }
+        ensures ok { OnOk result (builder_slots (FixedSizeList self.new) ≡ builder_slots (FixedSizeList self.old)
+            ++ Listed (drop (length self.old.marks.truths * list_size self.old.marks.data_type) (builder_slots self.old.values.value)) ∷ []) }
+        ensures err { OnErr result (self.new ≡ self.old) }
+        ensures memory { IfErr result (λ e. e ≡ OutOfMemory) }
+        ensures takes { Takes 1 0 (marks_node self.old.marks) (marks_node self.new.marks) }
+        ensures roomy { 1 ≤ self.old.marks.spare → IsOk result }
+    {
+        self.marks.push(true)?;
+        Ok(())
+    }
+
+    /// How many slots there are.
+    pub(crate) fn len(&self) -> usize
+        ensures { result ≡ length (builder_slots (FixedSizeList self.now)) }
+    {
+        self.marks.len()
+    }
+
+    /// The data type.
+    pub(crate) fn data_type(&self) -> &DataType
+        ensures { result.now ≡ builder_type (FixedSizeList self.now) }
+    {
+        self.marks.data_type()
+    }
+
+    /// What the node of this number holds, counted in preorder from 0, or how far the number is
+    /// past the last one.
+    #[cycle(searches)]
+    pub(crate) fn find_node(&self, node: usize) -> std::result::Result<NodeLengths, usize>
+        ensures { result ≡ found_at (nodes (FixedSizeList self.now)) node }
+    {
+        match here_or(self.marks.lengths(), node) {
+            Ok(here) => Ok(here),
+            Err(left) => self.values.find_node(left),
+        }
+    }
+
+    /// Appends a null, and beneath it as many nulls as a list has items.
+    ///
+    /// After `OutOfMemory` the child may have taken some of them.
+    #[cycle(nulls)]
+    pub(crate) fn push_null(&mut self) -> Result<()>
+        ensures shape { shape (FixedSizeList self.new) ≡ shape (FixedSizeList self.old) }
+        ensures ok { OnOk result (builder_slots (FixedSizeList self.new)
+            ≡ builder_slots (FixedSizeList self.old) ++ NullSlot ∷ []) }
+        ensures memory { IfErr result (λ e. e ≡ OutOfMemory) }
+        ensures takes { AllTake (nulls_at 1 (FixedSizeList self.old)) (nodes (FixedSizeList self.old)) (nodes (FixedSizeList self.new)) }
+        ensures roomy { AllZip FitsIn (nulls_at 1 (FixedSizeList self.old)) (nodes (FixedSizeList self.old)) → IsOk result }
+    {
+        let size = list_size_of(self.marks.data_type());
+        push_nulls(&mut self.values, size)?;
+        self.marks.push(false)?;
+        Ok(())
+    }
+
+    /// Makes room for so many more lists, and so much more in the child.
+    #[cycle(reserves)]
+    pub(crate) fn reserve_for(&mut self, bytes: usize) -> Result<()>
+        ensures shape { shape (FixedSizeList self.new) ≡ shape (FixedSizeList self.old) }
+        ensures slots { builder_slots (FixedSizeList self.new) ≡ builder_slots (FixedSizeList self.old) }
+        ensures room { AllZip Roomier (nodes (FixedSizeList self.old)) (nodes (FixedSizeList self.new)) }
+        ensures ok { OnOk result (All (HasRoom bytes) (nodes (FixedSizeList self.new))) }
+        ensures memory { IfErr result (λ e. e ≡ OutOfMemory) }
+    {
+        self.marks.reserve_for(bytes)?;
+        self.values.reserve_for(bytes)?;
+        Ok(())
+    }
+
+    /// Drops every slot, those of the child too, and keeps the room.
+    #[cycle(clears)]
+    pub(crate) fn clear(&mut self)
+        ensures shape { shape (FixedSizeList self.new) ≡ shape (FixedSizeList self.old) }
+        ensures slots { builder_slots (FixedSizeList self.new) ≡ [] }
+        ensures room { AllZip Emptied (nodes (FixedSizeList self.old)) (nodes (FixedSizeList self.new)) }
+    {
+        self.marks.clear();
+        self.values.clear();
+    }
+
+    /// The array of the slots. The builder and its child are then empty.
+    #[cycle(boxes)]
+    pub(crate) fn as_box(&mut self) -> Result<FixedSizeListArray>
+        ensures shape { shape (FixedSizeList self.new) ≡ shape (FixedSizeList self.old) }
+        ensures array_type { IfOk result (λ a. a.data_type ≡ builder_type (FixedSizeList self.old)) }
+        ensures array_slots { IfOk result (λ a. a.slots ≡ builder_slots (FixedSizeList self.old)) }
+        ensures slots { OnOk result (builder_slots (FixedSizeList self.new) ≡ []) }
+        ensures emptied { OnOk result (All IsEmpty (nodes (FixedSizeList self.new))) }
+        ensures fits { OnOk result (ChildrenFit (FixedSizeList self.old)) }
+        ensures err { IfErr result (IsRefusalOf (ChildrenFit (FixedSizeList self.old))) }
+    {
+        let alloc = self.marks.alloc();
+        let values = self.values.as_box()?;
+        let (data_type, validity) = self.marks.take()?;
+        FixedSizeListArray::try_new(alloc, data_type, values, Some(validity))
+    }
+}
+
+/// Appends so many nulls. After `OutOfMemory` some of them may be there.
+#[cycle(nulls)]
+fn push_nulls(builder: &mut MutableArray, count: usize) -> Result<()>
+    ensures shape { shape builder.new ≡ shape builder.old }
+    ensures ok { OnOk result (builder_slots builder.new ≡ builder_slots builder.old ++ null_slots count) }
+    ensures memory { IfErr result (λ e. e ≡ OutOfMemory) }
+    ensures takes { AllTake (nulls_at count builder.old) (nodes builder.old) (nodes builder.new) }
+    ensures roomy { AllZip FitsIn (nulls_at count builder.old) (nodes builder.old) → IsOk result }
+{
+    for _ in 0..count {
+        builder.push_null()?;
+    }
+    Ok(())
+}

@@ -1,0 +1,174 @@
+//! A builder of lists with offsets of 32 bits.
+
+ghost use Rattle.std.specs.Prelude.{◌≡◌, ◌<◌, ◌≤◌, ◌++◌, ◌∷◌, [], ◌⊎◌, ◌↔◌, false, length, drop, Err, IsOk, IfOk, IfErr, OnOk, OnErr};
+ghost use Rattle.std.specs.Borrow.{sem};
+ghost use Rattle.std.specs.List.{All, AllZip};
+ghost use Rattle.arrow_lists.specs.declared.error.Error.TheVariants.{OutOfMemory, Overflow};
+ghost use Rattle.arrow_types.specs.Numbers.{last_place};
+ghost use Rattle.arrow_types.specs.declared.slot.Slot.TheVariants.{Null as NullSlot, Listed};
+ghost use Rattle.arrow_array.specs.Parts.{IsRefusalOf};
+ghost use Rattle.arrow_builders.specs.Fits.{ChildrenFit};
+ghost use Rattle.arrow_builders.specs.Found.{found_at};
+ghost use Rattle.arrow_builders.specs.Lending.{LendsListValues};
+ghost use Rattle.arrow_builders.specs.MutableArrays.{builder_type, builder_slots, nodes};
+ghost use Rattle.arrow_builders.specs.Nested.{items_of, lists_node};
+ghost use Rattle.arrow_builders.specs.Nodes.{Takes, Roomier, Emptied, HasRoom, IsEmpty};
+ghost use Rattle.arrow_builders.specs.Shapes.{shape, nulls_at, AllTake, FitsIn};
+ghost use Rattle.arrow_builders.specs.declared.array.MutableArray.{List};
+
+use crate::array::MutableArray;
+use crate::find::here_or;
+use crate::lengths::NodeLengths;
+use crate::lists::MutableLists;
+use arrow_array::ListArray;
+use arrow_lists::Result;
+use arrow_types::DataType;
+use std::alloc::Global;
+
+/// A builder of lists: the items of each are the slots that its child took since the last one
+/// (Arrow columnar format, "Variable-size List Layout"). Offsets have 32 bits.
+#[cycle(builders)]
+#[derive(Drop)]
+pub struct DynMutableListArray {
+    lists: MutableLists<i32>,
+    values: Box<MutableArray>,
+}
+
+impl DynMutableListArray {
+    /// An empty builder of lists of the slots that `values` takes from now on. Of the capacity
+    /// nothing is promised.
+    ///
+    /// Where the type isn't that of lists of the child's type, `as_box` refuses. `OutOfMemory`
+    /// alone.
+    pub fn new_from(
+        alloc: Global,
+        values: MutableArray,
+        data_type: DataType,
+        capacity: usize,
+    ) -> Result<DynMutableListArray>
+        ensures data_type { IfOk result (λ b. b.lists.data_type ≡ data_type) }
+        ensures lens { IfOk result (λ b. b.lists.lens ≡ []) }
+        ensures slots { IfOk result (λ b. builder_slots (List b) ≡ []) }
+        ensures values { IfOk result (λ b. b.values.value ≡ values) }
+        ensures memory { IfErr result (λ e. e ≡ OutOfMemory) }
+    {
+        let values = Box::new(alloc, values)?;
+        let lists = MutableLists::new(alloc, data_type, capacity)?;
+        Ok(DynMutableListArray { lists, values })
+    }
+
+    /// The child, which takes the items of the lists.
+    pub fn mut_values(&mut self) -> &mut MutableArray
+        ensures* writes_back { sem 𝓛 (LendsListValues self.entry result) }
+        ensures value { result.now ≡ self.old.values.value }
+    {
+        &mut self.values
+    }
+
+    /// Appends the list of the items that the child took since the last list. A null list has none.
+    ///
+    /// `Overflow` exactly where the child has fewer items than the lists so far, or more than the
+    /// greatest offset. `OutOfMemory`. Either changes nothing.
+    pub fn try_push_valid(&mut self) -> Result<()>
+        ensures data_type { self.new.lists.data_type ≡ self.old.lists.data_type }
+        ensures values { self.new.values ≡ self.old.values }
+        ensures ok { OnOk result (builder_slots (List self.new) ≡ builder_slots (List self.old)
+            ++ Listed (drop (items_of self.old.lists.lens) (builder_slots self.old.values.value)) ∷ []) }
+        ensures end { OnOk result (items_of self.new.lists.lens ≡ length (builder_slots self.old.values.value)) }
+        ensures err { OnErr result (self.new ≡ self.old) }
+        ensures errors { IfErr result (λ e. (e ≡ Overflow) ⊎ (e ≡ OutOfMemory)) }
+        ensures overflow { (result ≡ Err Overflow)
+            ↔ ((length (builder_slots self.old.values.value) < items_of self.old.lists.lens)
+            ⊎ (last_place false < length (builder_slots self.old.values.value))) }
+        ensures takes { Takes 1 0 (lists_node self.old.lists) (lists_node self.new.lists) }
+        ensures roomy { 1 ≤ self.old.lists.spare
+            → items_of self.old.lists.lens ≤ length (builder_slots self.old.values.value)
+            → length (builder_slots self.old.values.value) ≤ last_place false
+            → IsOk result }
+    {
+        let end = self.values.len();
+        self.lists.push_list(end)?;
+        Ok(())
+    }
+
+    /// How many slots there are.
+    pub(crate) fn len(&self) -> usize
+        ensures { result ≡ length (builder_slots (List self.now)) }
+    {
+        self.lists.len()
+    }
+
+    /// The data type.
+    pub(crate) fn data_type(&self) -> &DataType
+        ensures { result.now ≡ builder_type (List self.now) }
+    {
+        self.lists.data_type()
+    }
+
+    /// What the node of this number holds, counted in preorder from 0, or how far the number is
+    /// past the last one.
+    #[cycle(searches)]
+    pub(crate) fn find_node(&self, node: usize) -> std::result::Result<NodeLengths, usize>
+        ensures { result ≡ found_at (nodes (List self.now)) node }
+    {
+        match here_or(self.lists.lengths(), node) {
+            Ok(here) => Ok(here),
+            Err(left) => self.values.find_node(left),
+        }
+    }
+
+    /// Appends a null, which has no items.
+    pub(crate) fn push_null(&mut self) -> Result<()>
+        ensures shape { shape (List self.new) ≡ shape (List self.old) }
+        ensures ok { OnOk result (builder_slots (List self.new)
+            ≡ builder_slots (List self.old) ++ NullSlot ∷ []) }
+        ensures memory { IfErr result (λ e. e ≡ OutOfMemory) }
+        ensures takes { AllTake (nulls_at 1 (List self.old)) (nodes (List self.old)) (nodes (List self.new)) }
+        ensures roomy { AllZip FitsIn (nulls_at 1 (List self.old)) (nodes (List self.old)) → IsOk result }
+    {
+        self.lists.push_null()?;
+        Ok(())
+    }
+
+    /// Makes room for so many more lists, and so much more in the child.
+    #[cycle(reserves)]
+    pub(crate) fn reserve_for(&mut self, bytes: usize) -> Result<()>
+        ensures shape { shape (List self.new) ≡ shape (List self.old) }
+        ensures slots { builder_slots (List self.new) ≡ builder_slots (List self.old) }
+        ensures room { AllZip Roomier (nodes (List self.old)) (nodes (List self.new)) }
+        ensures ok { OnOk result (All (HasRoom bytes) (nodes (List self.new))) }
+        ensures memory { IfErr result (λ e. e ≡ OutOfMemory) }
+    {
+        self.lists.reserve_for(bytes)?;
+        self.values.reserve_for(bytes)?;
+        Ok(())
+    }
+
+    /// Drops every slot, those of the child too, and keeps the room.
+    #[cycle(clears)]
+    pub(crate) fn clear(&mut self)
+        ensures shape { shape (List self.new) ≡ shape (List self.old) }
+        ensures slots { builder_slots (List self.new) ≡ [] }
+        ensures room { AllZip Emptied (nodes (List self.old)) (nodes (List self.new)) }
+    {
+        self.lists.clear();
+        self.values.clear();
+    }
+
+    /// The array of the slots. The builder and its child are then empty.
+    #[cycle(boxes)]
+    pub(crate) fn as_box(&mut self) -> Result<ListArray>
+        ensures shape { shape (List self.new) ≡ shape (List self.old) }
+        ensures array_type { IfOk result (λ a. a.data_type ≡ builder_type (List self.old)) }
+        ensures array_slots { IfOk result (λ a. a.slots ≡ builder_slots (List self.old)) }
+        ensures slots { OnOk result (builder_slots (List self.new) ≡ []) }
+        ensures emptied { OnOk result (All IsEmpty (nodes (List self.new))) }
+        ensures fits { OnOk result (ChildrenFit (List self.old)) }
+        ensures err { IfErr result (IsRefusalOf (ChildrenFit (List self.old))) }
+    {
+        let alloc = self.lists.alloc();
+        let values = self.values.as_box()?;
+        let (data_type, offsets, validity) = self.lists.take()?;
+        ListArray::try_new(alloc, data_type, offsets, values, Some(validity))
+    }
+}

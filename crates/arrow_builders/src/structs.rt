@@ -1,0 +1,246 @@
+//! A builder of records.
+
+ghost use Rattle.std.specs.Prelude.{◌≡◌, ◌-◌, ◌<◌, ◌≤◌, ◌++◌, ◌∷◌, [], length, map, get_or, vec_len, IsOk, IfOk, IfErr, OnOk, OnErr};
+ghost use Rattle.std.specs.Borrow.{sem};
+ghost use Rattle.std.specs.List.{All, AllZip};
+ghost use Rattle.arrow_lists.specs.declared.error.Error.TheVariants.{OutOfMemory};
+ghost use Rattle.arrow_types.specs.declared.slot.Slot.TheVariants.{Null as NullSlot};
+ghost use Rattle.arrow_array.specs.Arrays.{array_type, array_slots};
+ghost use Rattle.arrow_array.specs.Parts.{IsRefusalOf};
+ghost use Rattle.arrow_array.specs.Structs.{record_at};
+ghost use Rattle.arrow_builders.specs.Children.{all_nodes, all_nulls, AllFit};
+ghost use Rattle.arrow_builders.specs.Fits.{ChildrenFit};
+ghost use Rattle.arrow_builders.specs.Found.{found_at};
+ghost use Rattle.arrow_builders.specs.Lending.{LendsField};
+ghost use Rattle.arrow_builders.specs.MutableArrays.{builder_type, builder_slots, nodes};
+ghost use Rattle.arrow_builders.specs.Nested.{marks_node};
+ghost use Rattle.arrow_builders.specs.Nodes.{Takes, Roomier, Emptied, HasRoom, IsEmpty};
+ghost use Rattle.arrow_builders.specs.Shapes.{shape, nulls_at, AllTake, FitsIn};
+ghost use Rattle.arrow_builders.specs.declared.array.MutableArray.{Struct};
+
+use crate::array::MutableArray;
+use crate::find::here_or;
+use crate::lengths::NodeLengths;
+use crate::marks::MutableMarks;
+use arrow_array::{Array, StructArray};
+use arrow_lists::Result;
+use arrow_types::DataType;
+use std::alloc::Global;
+
+/// A builder of records: the fields of each are the slots of its children at its place
+/// (Arrow columnar format, "Struct Layout").
+///
+/// Beneath a null record each child takes a null.
+#[cycle(builders)]
+#[derive(Drop)]
+pub struct DynMutableStructArray {
+    marks: MutableMarks,
+    values: Vec<MutableArray>,
+}
+
+impl DynMutableStructArray {
+    /// An empty builder of records of the slots that `values` take, one for each field.
+    ///
+    /// Where there is no child, or the type isn't that of records of their types in order,
+    /// `as_box` refuses. `OutOfMemory` alone.
+    pub fn new(
+        alloc: Global,
+        values: Vec<MutableArray>,
+        data_type: DataType,
+    ) -> Result<DynMutableStructArray>
+        ensures data_type { IfOk result (λ b. b.marks.data_type ≡ data_type) }
+        ensures truths { IfOk result (λ b. b.marks.truths ≡ []) }
+        ensures slots { IfOk result (λ b. builder_slots (Struct b) ≡ []) }
+        ensures values { IfOk result (λ b. b.values ≡ values) }
+        ensures memory { IfErr result (λ e. e ≡ OutOfMemory) }
+    {
+        Ok(DynMutableStructArray {
+            marks: MutableMarks::new(alloc, data_type),
+            values,
+        })
+    }
+
+    /// The child of this field.
+    pub fn mut_values(&mut self, field: usize) -> &mut MutableArray
+        requires { field < vec_len self.old.values }
+        ensures* writes_back { sem 𝓛 (LendsField self.entry field result) }
+        ensures value { result.now ≡ get_or self.old.values.items field result.now }
+    {
+        &mut self.values[field]
+    }
+
+    /// Appends the record of the children's slots at its place. `OutOfMemory` changes nothing.
+    pub fn try_push_valid(&mut self) -> Result<()>
+        ensures data_type { self.new.marks.data_type ≡ self.old.marks.data_type }
+        ensures values { self.new.values ≡ self.old.values }
+        ensures ok { OnOk result (builder_slots (Struct self.new) ≡ builder_slots (Struct self.old)
+            ++ record_at (map builder_slots self.old.values.items) (length self.old.marks.truths) ∷ []) }
+        ensures err { OnErr result (self.new ≡ self.old) }
+        ensures memory { IfErr result (λ e. e ≡ OutOfMemory) }
+        ensures takes { Takes 1 0 (marks_node self.old.marks) (marks_node self.new.marks) }
+        ensures roomy { 1 ≤ self.old.marks.spare → IsOk result }
+    {
+        self.marks.push(true)?;
+        Ok(())
+    }
+
+    /// How many slots there are.
+    pub(crate) fn len(&self) -> usize
+        ensures { result ≡ length (builder_slots (Struct self.now)) }
+    {
+        self.marks.len()
+    }
+
+    /// The data type.
+    pub(crate) fn data_type(&self) -> &DataType
+        ensures { result.now ≡ builder_type (Struct self.now) }
+    {
+        self.marks.data_type()
+    }
+
+    /// What the node of this number holds, counted in preorder from 0, or how far the number is
+    /// past the last one.
+    #[cycle(searches)]
+    pub(crate) fn find_node(&self, node: usize) -> std::result::Result<NodeLengths, usize>
+        ensures { result ≡ found_at (nodes (Struct self.now)) node }
+    {
+        match here_or(self.marks.lengths(), node) {
+            Ok(here) => Ok(here),
+            Err(left) => find_below(self.values.as_slice(), left),
+        }
+    }
+
+    /// Appends a null, and a null to each child.
+    ///
+    /// After `OutOfMemory` some children may have taken one.
+    #[cycle(nulls)]
+    pub(crate) fn push_null(&mut self) -> Result<()>
+        ensures shape { shape (Struct self.new) ≡ shape (Struct self.old) }
+        ensures ok { OnOk result (builder_slots (Struct self.new)
+            ≡ builder_slots (Struct self.old) ++ NullSlot ∷ []) }
+        ensures memory { IfErr result (λ e. e ≡ OutOfMemory) }
+        ensures takes { AllTake (nulls_at 1 (Struct self.old)) (nodes (Struct self.old)) (nodes (Struct self.new)) }
+        ensures roomy { AllZip FitsIn (nulls_at 1 (Struct self.old)) (nodes (Struct self.old)) → IsOk result }
+    {
+        push_null_all(&mut self.values)?;
+        self.marks.push(false)?;
+        Ok(())
+    }
+
+    /// Makes room for so many more records, and so much more in each child.
+    #[cycle(reserves)]
+    pub(crate) fn reserve_for(&mut self, bytes: usize) -> Result<()>
+        ensures shape { shape (Struct self.new) ≡ shape (Struct self.old) }
+        ensures slots { builder_slots (Struct self.new) ≡ builder_slots (Struct self.old) }
+        ensures room { AllZip Roomier (nodes (Struct self.old)) (nodes (Struct self.new)) }
+        ensures ok { OnOk result (All (HasRoom bytes) (nodes (Struct self.new))) }
+        ensures memory { IfErr result (λ e. e ≡ OutOfMemory) }
+    {
+        self.marks.reserve_for(bytes)?;
+        reserve_all(&mut self.values, bytes)?;
+        Ok(())
+    }
+
+    /// Drops every slot, those of the children too, and keeps the room.
+    #[cycle(clears)]
+    pub(crate) fn clear(&mut self)
+        ensures shape { shape (Struct self.new) ≡ shape (Struct self.old) }
+        ensures slots { builder_slots (Struct self.new) ≡ [] }
+        ensures room { AllZip Emptied (nodes (Struct self.old)) (nodes (Struct self.new)) }
+    {
+        self.marks.clear();
+        clear_all(&mut self.values);
+    }
+
+    /// The array of the slots. The builder and its children are then empty.
+    #[cycle(boxes)]
+    pub(crate) fn as_box(&mut self) -> Result<StructArray>
+        ensures shape { shape (Struct self.new) ≡ shape (Struct self.old) }
+        ensures array_type { IfOk result (λ a. a.data_type ≡ builder_type (Struct self.old)) }
+        ensures array_slots { IfOk result (λ a. a.slots ≡ builder_slots (Struct self.old)) }
+        ensures slots { OnOk result (builder_slots (Struct self.new) ≡ []) }
+        ensures emptied { OnOk result (All IsEmpty (nodes (Struct self.new))) }
+        ensures fits { OnOk result (ChildrenFit (Struct self.old)) }
+        ensures err { IfErr result (IsRefusalOf (ChildrenFit (Struct self.old))) }
+    {
+        let alloc = self.marks.alloc();
+        let values = box_all(alloc, &mut self.values)?;
+        let (data_type, validity) = self.marks.take()?;
+        StructArray::try_new(alloc, data_type, values, Some(validity))
+    }
+}
+
+/// What the node of this number beneath the children holds, or how far the number is past the last.
+#[cycle(searches)]
+fn find_below(children: &[MutableArray], node: usize) -> std::result::Result<NodeLengths, usize>
+    ensures { result ≡ found_at (all_nodes children.now) node }
+{
+    let mut left = node;
+    for child in children {
+        match child.find_node(left) {
+            Ok(here) => return Ok(here),
+            Err(past) => left = past,
+        }
+    }
+    Err(left)
+}
+
+/// Appends a null to each child. After `OutOfMemory` some may have taken one.
+#[cycle(nulls)]
+fn push_null_all(children: &mut [MutableArray]) -> Result<()>
+    ensures shapes { map shape children.new ≡ map shape children.old }
+    ensures ok { OnOk result (map builder_slots children.new
+        ≡ map (λ b. builder_slots b ++ NullSlot ∷ []) children.old) }
+    ensures memory { IfErr result (λ e. e ≡ OutOfMemory) }
+    ensures takes { AllTake (all_nulls 1 children.old) (all_nodes children.old) (all_nodes children.new) }
+    ensures roomy { AllZip FitsIn (all_nulls 1 children.old) (all_nodes children.old) → IsOk result }
+{
+    for i in 0..children.len() {
+        children[i].push_null()?;
+    }
+    Ok(())
+}
+
+/// Makes room in each child.
+#[cycle(reserves)]
+fn reserve_all(children: &mut [MutableArray], bytes: usize) -> Result<()>
+    ensures shapes { map shape children.new ≡ map shape children.old }
+    ensures slots { map builder_slots children.new ≡ map builder_slots children.old }
+    ensures room { AllZip Roomier (all_nodes children.old) (all_nodes children.new) }
+    ensures ok { OnOk result (All (HasRoom bytes) (all_nodes children.new)) }
+    ensures memory { IfErr result (λ e. e ≡ OutOfMemory) }
+{
+    for i in 0..children.len() {
+        children[i].reserve_for(bytes)?;
+    }
+    Ok(())
+}
+
+/// Drops every slot of each child and keeps the room.
+#[cycle(clears)]
+fn clear_all(children: &mut [MutableArray])
+    ensures shapes { map shape children.new ≡ map shape children.old }
+    ensures room { AllZip Emptied (all_nodes children.old) (all_nodes children.new) }
+{
+    for i in 0..children.len() {
+        children[i].clear();
+    }
+}
+
+/// The arrays of the children's slots. The children are then empty.
+#[cycle(boxes)]
+fn box_all(alloc: Global, children: &mut [MutableArray]) -> Result<Vec<Array>>
+    ensures shapes { map shape children.new ≡ map shape children.old }
+    ensures array_types { IfOk result (λ arrays. map array_type arrays.items ≡ map builder_type children.old) }
+    ensures array_slots { IfOk result (λ arrays. map array_slots arrays.items ≡ map builder_slots children.old) }
+    ensures emptied { OnOk result (All IsEmpty (all_nodes children.new)) }
+    ensures fits { OnOk result (AllFit children.old) }
+    ensures err { IfErr result (IsRefusalOf (AllFit children.old)) }
+{
+    let mut arrays = Vec::with_capacity(alloc, children.len())?;
+    for i in 0..children.len() {
+        let array = children[i].as_box()?;
+        arrays.push(array)?;
+    }
+    Ok(arrays)
+}
