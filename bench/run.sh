@@ -1,0 +1,26 @@
+#!/bin/sh
+# Measures one of the folders beside this script: arrays, block, builders or json_tree.
+#     bench/run.sh NAME
+# `main.rattle` of the folder is a Rattle program over the crates that `crates` names, `plain.rs`, where there is one, the same in plain
+# Rust, and `measure.py` runs both on the same input and prints what it found. All is built in a folder of its own outside of
+# the repository. Measure with nothing else running.
+set -eu
+name=$1
+bench=$(cd "$(dirname "$0")" && pwd)
+work=$(mktemp -d)
+trap 'rm -rf "$work"' EXIT
+mkdir "$work/crates"
+cp "$bench/../HANDLES" "$bench/../crates.txt" "$work"
+for crate in "$bench"/../crates/*; do
+    mkdir "$work/crates/$(basename "$crate")"
+    (cd "$crate" && tar cf - --exclude=out --exclude=must-fail .) | (cd "$work/crates/$(basename "$crate")" && tar xf -)
+done
+mkdir -p "$work/crates/bench/src"
+cp "$bench/$name/main.rattle" "$work/crates/bench/src/main.rt"
+echo "bench: $(cat "$bench/$name/crates")" >> "$work/crates.txt"
+# The program does nothing on no words; what counts here is that it is built.
+(cd "$work/crates/bench" && rt run < /dev/null > /dev/null) || test -x "$work/crates/bench/out/bench"
+if test -e "$bench/$name/plain.rs"; then
+    rustc --edition 2021 -O -o "$work/plain" "$bench/$name/plain.rs"
+fi
+PYTHONPATH=$bench python3 -B "$bench/$name/measure.py" "$work"
