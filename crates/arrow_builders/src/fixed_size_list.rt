@@ -47,8 +47,8 @@ fn list_size_of(data_type: &DataType) -> usize
 }
 
 impl MutableFixedSizeListArray {
-    /// An empty builder of lists of so many of the slots that `values` takes. The type is one of
-    /// lists of this size.
+    /// An empty builder of lists of `_size` of the slots that `values` takes. The type is one of
+    /// lists of this size, and says it already.
     ///
     /// Where the size is 0, or the items of the type have another type than the child, `as_box`
     /// refuses. `OutOfMemory` alone.
@@ -56,16 +56,15 @@ impl MutableFixedSizeListArray {
         alloc: Global,
         values: MutableArray,
         data_type: DataType,
-        size: usize,
+        _size: usize,
     ) -> Result<MutableFixedSizeListArray>
-        requires { list_size data_type ≡ size }
+        requires { list_size data_type ≡ _size }
         ensures data_type { IfOk result (λ b. b.marks.data_type ≡ data_type) }
         ensures truths { IfOk result (λ b. b.marks.truths ≡ []) }
         ensures slots { IfOk result (λ b. builder_slots (FixedSizeList b) ≡ []) }
         ensures values { IfOk result (λ b. b.values.value ≡ values) }
         ensures memory { IfErr result (λ e. e ≡ OutOfMemory) }
     {
-        let _size = size;
         let values = Box::new(alloc, values)?;
         Ok(MutableFixedSizeListArray {
             marks: MutableMarks::new(alloc, data_type),

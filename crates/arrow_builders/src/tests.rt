@@ -1,5 +1,4 @@
 use crate::{Container, MutableArray, MutablePrimitiveArray, MutableUtf8Array, NodeLengths};
-use arrow_array::Array;
 use arrow_lists::Result;
 use arrow_types::DataType;
 use std::alloc::Global;
@@ -66,62 +65,4 @@ fn reserved_room_is_filled(rt: HostRuntime) -> std::result::Result<(), Fail> {
     };
     assert_eq!(rt; builder.node_lengths(0), Some(lengths));
     Ok(())
-}
-
-fn is_one_null(array: &Array) -> bool {
-    array.len() == 1 && !array.is_valid(0)
-}
-
-/// The one array of what came after the builder was cleared.
-fn cleared_and_pushed(alloc: Global, builder: &mut MutableArray) -> Result<Vec<Array>> {
-    builder.push_null()?;
-    builder.clear();
-    builder.push_null()?;
-    let mut arrays = Vec::with_capacity(alloc, 1)?;
-    arrays.push_reserved(builder.as_box()?);
-    Ok(arrays)
-}
-
-/// Whether a builder that was cleared gives the array of what came after.
-fn starts_again(alloc: Global, builder: &mut MutableArray) -> bool {
-    match cleared_and_pushed(alloc, builder) {
-        Ok(arrays) => arrays.as_slice().iter().any(is_one_null),
-        Err(_) => false,
-    }
-}
-
-fn truths_start_again(alloc: Global) -> bool {
-    match empty(alloc) {
-        Ok(builder) => starts_again(alloc, &mut MutableArray::Boolean(builder)),
-        Err(_) => false,
-    }
-}
-
-fn short_numbers_start_again(alloc: Global) -> bool {
-    match empty(alloc) {
-        Ok(builder) => starts_again(alloc, &mut MutableArray::Int32(builder)),
-        Err(_) => false,
-    }
-}
-
-fn long_numbers_start_again(alloc: Global) -> bool {
-    match empty(alloc) {
-        Ok(builder) => starts_again(alloc, &mut MutableArray::Int64(builder)),
-        Err(_) => false,
-    }
-}
-
-fn texts_start_again(alloc: Global) -> bool {
-    match empty(alloc) {
-        Ok(builder) => starts_again(alloc, &mut MutableArray::Utf8(builder)),
-        Err(_) => false,
-    }
-}
-
-#[test]
-fn a_builder_of_any_kind_starts_again(rt: HostRuntime) {
-    assert!(rt; truths_start_again(rt.alloc()));
-    assert!(rt; short_numbers_start_again(rt.alloc()));
-    assert!(rt; long_numbers_start_again(rt.alloc()));
-    assert!(rt; texts_start_again(rt.alloc()));
 }

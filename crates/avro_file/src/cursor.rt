@@ -66,14 +66,14 @@ pub trait Cursor<'a> {
 pub struct SliceCursor<'a> {
     bytes: &'a [u8],
     at: usize,
-    // Of the bytes before `at`, those that `jump` passed, and those that `take` or `jump` passed.
+    // How many of the bytes before `at` `jump` passed, and how many `take` or `jump` passed.
     jumped: usize,
-    not_single: usize,
+    taken_or_jumped: usize,
     // Every call but those of `byte` that handed out a byte.
     other_calls: u64,
     ghost within: { at ≤ length bytes.now },
-    ghost part: { not_single ≤ at },
-    ghost least: { jumped ≤ not_single },
+    ghost part: { taken_or_jumped ≤ at },
+    ghost least: { jumped ≤ taken_or_jumped },
 }
 
 impl<'a> SliceCursor<'a> {
@@ -88,7 +88,7 @@ impl<'a> SliceCursor<'a> {
             bytes,
             at: 0,
             jumped: 0,
-            not_single: 0,
+            taken_or_jumped: 0,
             other_calls: 0,
         }
     }
@@ -112,7 +112,7 @@ impl<'a> SliceCursor<'a> {
         ensures { result ≡ ⟦<SliceCursor<'a> as Cursor<'a>>⟧.calls self.now }
     {
         self.other_calls
-            .saturating_add((self.at - self.not_single) as u64)
+            .saturating_add((self.at - self.taken_or_jumped) as u64)
     }
 }
 
@@ -123,7 +123,7 @@ impl<'a> Cursor<'a> for SliceCursor<'a> {
 
     ghost jumped = { λ c. c.jumped };
 
-    ghost calls = { λ c. min (c.other_calls + (c.at - c.not_single)) (2 ^ 64 - 1) };
+    ghost calls = { λ c. min (c.other_calls + (c.at - c.taken_or_jumped)) (2 ^ 64 - 1) };
 
     #[inline(always)]
     fn left(&self) -> usize {
@@ -150,7 +150,7 @@ impl<'a> Cursor<'a> for SliceCursor<'a> {
         let end = self.at + n;
         let front = &self.bytes[self.at..end];
         self.at = end;
-        self.not_single += n;
+        self.taken_or_jumped += n;
         Some(front)
     }
 
@@ -162,7 +162,7 @@ impl<'a> Cursor<'a> for SliceCursor<'a> {
         }
         self.at += n;
         self.jumped += n;
-        self.not_single += n;
+        self.taken_or_jumped += n;
         true
     }
 }

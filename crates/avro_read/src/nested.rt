@@ -17,7 +17,6 @@ use avro_file::AvroField;
 use std::alloc::Global;
 
 /// Whether fields, Avro fields and projection belong together.
-
 fn check_fields(fields: &[Field], avro_fields: &[AvroField], projection: &[bool]) -> Result<()>
     ensures { MatchResult result
         (λ _. BelongTogether fields.now avro_fields.now projection.now)
