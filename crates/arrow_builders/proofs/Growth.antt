@@ -5,7 +5,7 @@ use Rattle.std.proofs.Math.Nat.{add-mul}
 use Rattle.std.proofs.lemmas.List.{length-append}
 use Rattle.arrow_array.specs.FixedLists.{list_size}
 use Rattle.arrow_builders.specs.Nodes.{Node, Takes, Roomier}
-use Rattle.arrow_builders.specs.Shapes.{Shape, flat, dictionary, lists, fixed_lists, records, no_field, field, Added, null_bytes, nulls_in, AllTake, FitsIn}
+use Rattle.arrow_builders.specs.Shapes.{Shape, flat, dictionary, lists, fixed_lists, records, no_field, field, Added, null_bytes, nulls_in, AllAdded, AllTake, FitsIn}
 
 -- ---- sums of what is added
 
@@ -45,6 +45,37 @@ nulls-sum m n (field s more) =
 
 -- ---- at each node
 
+module _ {X : Type 0} (Adds : Added → X → X → Type 0) where
+  pub AllAdded-append : (ps bs : List Added) (xs ys us vs : List X) → AllAdded Adds ps xs ys → AllAdded Adds bs us vs → AllAdded Adds (ps ++ bs) (xs ++ us) (ys ++ vs)
+  AllAdded-append [] bs [] [] us vs h k = k
+  AllAdded-append [] bs [] (y ∷ ys) us vs h k = absurd h
+  AllAdded-append [] bs (x ∷ xs) [] us vs h k = absurd h
+  AllAdded-append [] bs (x ∷ xs) (y ∷ ys) us vs h k = absurd h
+  AllAdded-append (a ∷ ps) bs [] [] us vs h k = absurd h
+  AllAdded-append (a ∷ ps) bs [] (y ∷ ys) us vs h k = absurd h
+  AllAdded-append (a ∷ ps) bs (x ∷ xs) [] us vs h k = absurd h
+  AllAdded-append (a ∷ ps) bs (x ∷ xs) (y ∷ ys) us vs h k = (h.0, AllAdded-append ps bs xs ys us vs h.1 k)
+
+  module _ (both : (a b : Added) (x y z : X) → Adds a x y → Adds b y z → Adds (record { slots = a.slots + b.slots; bytes = a.bytes + b.bytes }) x z) where
+    pub AllAdded-then : (ps bs : List Added) (xs ys zs : List X) → AllAdded Adds ps xs ys → AllAdded Adds bs ys zs → AllAdded Adds (sums ps bs) xs zs
+    AllAdded-then [] bs [] [] zs h k = none bs zs k
+      where
+        none : (bs : List Added) (zs : List X) → AllAdded Adds bs [] zs → AllAdded Adds [] [] zs
+        none [] [] k = tt
+        none [] (z ∷ zs) k = absurd k
+        none (b ∷ bs) [] k = absurd k
+        none (b ∷ bs) (z ∷ zs) k = absurd k
+    AllAdded-then [] bs [] (y ∷ ys) zs h k = absurd h
+    AllAdded-then [] bs (x ∷ xs) [] zs h k = absurd h
+    AllAdded-then [] bs (x ∷ xs) (y ∷ ys) zs h k = absurd h
+    AllAdded-then (a ∷ ps) bs [] [] zs h k = absurd h
+    AllAdded-then (a ∷ ps) bs [] (y ∷ ys) zs h k = absurd h
+    AllAdded-then (a ∷ ps) bs (x ∷ xs) [] zs h k = absurd h
+    AllAdded-then (a ∷ ps) [] (x ∷ xs) (y ∷ ys) [] h k = absurd k
+    AllAdded-then (a ∷ ps) [] (x ∷ xs) (y ∷ ys) (z ∷ zs) h k = absurd k
+    AllAdded-then (a ∷ ps) (b ∷ bs) (x ∷ xs) (y ∷ ys) [] h k = absurd k
+    AllAdded-then (a ∷ ps) (b ∷ bs) (x ∷ xs) (y ∷ ys) (z ∷ zs) h k = (both a b x y z h.0 k.0, AllAdded-then ps bs xs ys zs h.1 k.1)
+
 pub Takes-same : (a b : ℕ) (x : Node) → Takes a b x x
 Takes-same a b x = record { slots_added = omega arith; slots_kept = omega arith; bytes_added = omega arith; bytes_kept = omega arith; slot_room = omega arith; byte_room = omega arith }
 
@@ -68,23 +99,7 @@ AllTake-same (a ∷ ps) [] l = absurd (omega (arith, l))
 AllTake-same (a ∷ ps) (x ∷ xs) l = (Takes-same a.slots a.bytes x, AllTake-same ps xs (omega (arith, l)))
 
 pub AllTake-then : (ps bs : List Added) (xs ys zs : List Node) → AllTake ps xs ys → AllTake bs ys zs → AllTake (sums ps bs) xs zs
-AllTake-then [] bs [] [] zs h k = none bs zs k
-  where
-    none : (bs : List Added) (zs : List Node) → AllTake bs [] zs → AllTake [] [] zs
-    none [] [] k = tt
-    none [] (z ∷ zs) k = absurd k
-    none (b ∷ bs) [] k = absurd k
-    none (b ∷ bs) (z ∷ zs) k = absurd k
-AllTake-then [] bs [] (y ∷ ys) zs h k = absurd h
-AllTake-then [] bs (x ∷ xs) [] zs h k = absurd h
-AllTake-then [] bs (x ∷ xs) (y ∷ ys) zs h k = absurd h
-AllTake-then (a ∷ ps) bs [] [] zs h k = absurd h
-AllTake-then (a ∷ ps) bs [] (y ∷ ys) zs h k = absurd h
-AllTake-then (a ∷ ps) bs (x ∷ xs) [] zs h k = absurd h
-AllTake-then (a ∷ ps) [] (x ∷ xs) (y ∷ ys) [] h k = absurd k
-AllTake-then (a ∷ ps) [] (x ∷ xs) (y ∷ ys) (z ∷ zs) h k = absurd k
-AllTake-then (a ∷ ps) (b ∷ bs) (x ∷ xs) (y ∷ ys) [] h k = absurd k
-AllTake-then (a ∷ ps) (b ∷ bs) (x ∷ xs) (y ∷ ys) (z ∷ zs) h k = (Takes-then a.slots a.bytes b.slots b.bytes x y z h.0 k.0, AllTake-then ps bs xs ys zs h.1 k.1)
+AllTake-then ps bs xs ys zs h k = AllAdded-then (λ a x y. Takes a.slots a.bytes x y) (λ a b x y z. Takes-then a.slots a.bytes b.slots b.bytes x y z) ps bs xs ys zs h k
 
 pub AllTake-more : (ps bs : List Added) (xs ys : List Node) → length ps ≡ length bs → AllTake ps xs ys → AllTake (sums ps bs) xs ys
 AllTake-more [] bs [] [] l h = tt
@@ -98,14 +113,7 @@ AllTake-more (a ∷ ps) [] (x ∷ xs) (y ∷ ys) l h = absurd (omega (arith, l))
 AllTake-more (a ∷ ps) (b ∷ bs) (x ∷ xs) (y ∷ ys) l h = (Takes-more a.slots a.bytes b.slots b.bytes x y h.0, AllTake-more ps bs xs ys (omega (arith, l)) h.1)
 
 pub AllTake-append : (ps bs : List Added) (xs ys us vs : List Node) → AllTake ps xs ys → AllTake bs us vs → AllTake (ps ++ bs) (xs ++ us) (ys ++ vs)
-AllTake-append [] bs [] [] us vs h k = k
-AllTake-append [] bs [] (y ∷ ys) us vs h k = absurd h
-AllTake-append [] bs (x ∷ xs) [] us vs h k = absurd h
-AllTake-append [] bs (x ∷ xs) (y ∷ ys) us vs h k = absurd h
-AllTake-append (a ∷ ps) bs [] [] us vs h k = absurd h
-AllTake-append (a ∷ ps) bs [] (y ∷ ys) us vs h k = absurd h
-AllTake-append (a ∷ ps) bs (x ∷ xs) [] us vs h k = absurd h
-AllTake-append (a ∷ ps) bs (x ∷ xs) (y ∷ ys) us vs h k = (h.0, AllTake-append ps bs xs ys us vs h.1 k)
+AllTake-append ps bs xs ys us vs h k = AllAdded-append (λ a x y. Takes a.slots a.bytes x y) ps bs xs ys us vs h k
 
 -- where there is room for all, there is room for the next after the first were taken
 FitsIn-after : (a b c d e f : ℕ) (x y : Node) → FitsIn (record { slots = a + c + e; bytes = b + d + f }) x → Takes a b x y → FitsIn (record { slots = c; bytes = d }) y

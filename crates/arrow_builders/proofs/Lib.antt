@@ -8,6 +8,7 @@ pub mod ListFits
 pub mod ListOffsets
 pub mod ManyNulls
 pub mod NestedSlots
+pub mod NullsBelow
 pub mod OtherFits
 pub mod Rows
 pub mod Sizes

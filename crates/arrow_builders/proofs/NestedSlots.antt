@@ -27,12 +27,15 @@ slots_where-push f g ts ss v e same = rw e (rw (length_push ts v) (slots_of-push
 
 -- ---- nulls past the last slot
 
+null_slots-append : (m n : ℕ) → null_slots m ++ null_slots n ≡ null_slots (m + n)
+null_slots-append zero n = let e : zero + n ≡ n = omega arith in rw e refl
+null_slots-append (suc m) n = let e : suc m + n ≡ suc (m + n) = omega arith in rw e (ap (λ (ys : List Slot). slot.Null ∷ ys) (null_slots-append m n))
+
+pub nulls-append : (xs : List Slot) (m n : ℕ) → (xs ++ null_slots m) ++ null_slots n ≡ xs ++ null_slots (m + n)
+nulls-append xs m n = append_assoc xs (null_slots m) (null_slots n) ∙ ap (λ (ys : List Slot). xs ++ ys) (null_slots-append m n)
+
 pub nulls-push : (xs : List Slot) (n : ℕ) → (xs ++ null_slots n) ++ slot.Null ∷ [] ≡ xs ++ null_slots (n + 1)
-nulls-push xs n = append_assoc xs (null_slots n) (slot.Null ∷ []) ∙ ap (λ (ys : List Slot). xs ++ ys) (more n)
-  where
-    more : (n : ℕ) → null_slots n ++ slot.Null ∷ [] ≡ null_slots (n + 1)
-    more zero = refl
-    more (suc n) = let e : suc n + 1 ≡ suc (n + 1) = omega arith in rw e (ap (λ (ys : List Slot). slot.Null ∷ ys) (more n))
+nulls-push xs n = nulls-append xs n 1
 
 past : (n k : ℕ) → slot_at (null_slots n) k ≡ slot.Null
 past zero k = refl

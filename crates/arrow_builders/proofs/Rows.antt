@@ -7,9 +7,9 @@ use Rattle.arrow_types.specs.declared.slot.Slot.{Slot}
 use Rattle.arrow_types.specs.declared.types.DataType.{DataType}
 use Rattle.arrow_array.specs.Structs.{record_at}
 use Rattle.arrow_builders.specs.Builders.{slots_where}
-use Rattle.arrow_builders.specs.Children.{all_nodes, fields_of, AllFit}
+use Rattle.arrow_builders.specs.Children.{all_nodes, all_slots, fields_of, AllFit}
 use Rattle.arrow_builders.specs.Fits.{ChildrenFit, FitBelow, RecordsFit}
-use Rattle.arrow_builders.specs.MutableArrays.{builder_type, builder_slots, slots_below, nodes, nodes_below, types_below}
+use Rattle.arrow_builders.specs.MutableArrays.{builder_type, builder_slots, slots_below, nodes, nodes_below, slots_at, slots_at_below, types_below}
 use Rattle.arrow_builders.specs.Nested.{marks_node}
 use Rattle.arrow_builders.specs.Nodes.{Node}
 use Rattle.arrow_builders.specs.Shapes.{records, field, shape, shapes_below}
@@ -32,6 +32,10 @@ nodes-row : (n : _) (row : Row_of-MutableArray n) → nodes_below row ≡ all_no
 nodes-row n end_of-MutableArray = refl
 nodes-row n (more_of-MutableArray b rest) = ap (λ (xs : List Node). nodes b ++ xs) (nodes-row _ rest)
 
+slots_at-row : (n : _) (row : Row_of-MutableArray n) → slots_at_below row ≡ all_slots (items-the_row-MutableArray n row)
+slots_at-row n end_of-MutableArray = refl
+slots_at-row n (more_of-MutableArray b rest) = ap (λ (xs : List (List Slot)). slots_at b ++ xs) (slots_at-row _ rest)
+
 shapes-row : (n : _) (row : Row_of-MutableArray n) → shapes_below row ≡ fields_of (map shape (items-the_row-MutableArray n row))
 shapes-row n end_of-MutableArray = refl
 shapes-row n (more_of-MutableArray b rest) = ap (field (shape b)) (shapes-row _ rest)
@@ -49,6 +53,11 @@ pub nodes-record : (b : DynMutableStructArray) → nodes (Struct b) ≡ marks_no
 nodes-record b =
     let row = row_of (Struct b) in
     ap (λ (xs : List Node). marks_node b.marks ∷ xs) (nodes-row row.0 row.1 ∙ ap all_nodes (items_hidden-the_row-MutableArray-0 b.values))
+
+pub slots_at-record : (b : DynMutableStructArray) → slots_at (Struct b) ≡ builder_slots (Struct b) ∷ all_slots b.values.items
+slots_at-record b =
+    let row = row_of (Struct b) in
+    ap (λ (xs : List (List Slot)). builder_slots (Struct b) ∷ xs) (slots_at-row row.0 row.1 ∙ ap all_slots (items_hidden-the_row-MutableArray-0 b.values))
 
 pub shape-record : (b : DynMutableStructArray) → shape (Struct b) ≡ records b.marks.data_type (fields_of (map shape b.values.items))
 shape-record b =
@@ -74,6 +83,9 @@ slots_are b xs e = slots-record b ∙ e
 
 pub slots_same : (b d : DynMutableStructArray) → d.marks.truths ≡ b.marks.truths → map builder_slots d.values.items ≡ map builder_slots b.values.items → builder_slots (Struct d) ≡ builder_slots (Struct b)
 slots_same b d t s = slots-record d ∙ rw (t, s) refl ∙ sym (slots-record b)
+
+pub slots_at_same : (b d : DynMutableStructArray) → builder_slots (Struct d) ≡ builder_slots (Struct b) → all_slots d.values.items ≡ all_slots b.values.items → slots_at (Struct d) ≡ slots_at (Struct b)
+slots_at_same b d s k = slots_at-record d ∙ ap (λ (xs : List Slot). xs ∷ all_slots d.values.items) s ∙ ap (λ (xs : List (List Slot)). builder_slots (Struct b) ∷ xs) k ∙ sym (slots_at-record b)
 
 pub nodes_both : (P : List Node → List Node → Type 0) (b d : DynMutableStructArray) → P (marks_node b.marks ∷ all_nodes b.values.items) (marks_node d.marks ∷ all_nodes d.values.items) → P (nodes (Struct b)) (nodes (Struct d))
 nodes_both P b d h = subst (λ (xs : List Node). P xs (nodes (Struct d))) (sym (nodes-record b)) (subst (P (marks_node b.marks ∷ all_nodes b.values.items)) (sym (nodes-record d)) h)

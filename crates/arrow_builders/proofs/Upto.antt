@@ -2,13 +2,14 @@
 use Rattle.std.proofs.Common.{◌≡◌, ap, sym, subst, ℕ, zero, suc, ◌<◌, ◌≤◌, List, [], ◌∷◌, map, length, set, get_or, refl, arith, All}
 use Rattle.std.specs.List.{AllZip}
 use Rattle.std.proofs.lemmas.List.Elements.{All-nil, All-append}
-use Rattle.arrow_builders.specs.Children.{all_nodes, fields_of, AllFit}
+use Rattle.arrow_builders.specs.Children.{all_nodes, all_slots, fields_of, AllFit}
 use Rattle.arrow_builders.specs.Fits.{ChildrenFit}
-use Rattle.arrow_builders.specs.MutableArrays.{nodes}
+use Rattle.arrow_builders.specs.MutableArrays.{nodes, slots_at}
 use Rattle.arrow_builders.specs.Nodes.{Node}
-use Rattle.arrow_builders.specs.Shapes.{nulls_in, AllTake, shape}
+use Rattle.arrow_builders.specs.Shapes.{nulls_in, AllTake, AllGetNulls, shape}
 use Rattle.arrow_builders.specs.declared.array.MutableArray.{MutableArray}
 use Rattle.arrow_builders.proofs.Growth.{AllZip-same, AllZip-append, AllTake-append, AllTake-same}
+use Rattle.arrow_builders.proofs.NullsBelow.{AllGetNulls-append}
 use Rattle.arrow_builders.proofs.Sizes.{nulls-fit}
 
 module _ (R : MutableArray → MutableArray → Type 0) where
@@ -91,6 +92,20 @@ module _ (R : MutableArray → MutableArray → Type 0) where
   Upto-takes n k i (c ∷ cs) [] h = absurd h
   Upto-takes n k zero (c ∷ cs) (d ∷ ds) h = AllTake-append (nulls_in n (shape c)) (nulls_in n (fields_of (map shape cs))) (nodes c) (nodes d) (all_nodes cs) (all_nodes ds) (subst (λ (x : MutableArray). AllTake (nulls_in n (shape c)) (nodes c) (nodes x)) h.0 (AllTake-same (nulls_in n (shape c)) (nodes c) (nulls-fit n c))) (Upto-takes n k zero cs ds h.1)
   Upto-takes n k (suc i) (c ∷ cs) (d ∷ ds) h = AllTake-append (nulls_in n (shape c)) (nulls_in n (fields_of (map shape cs))) (nodes c) (nodes d) (all_nodes cs) (all_nodes ds) (k c d h.0) (Upto-takes n k i cs ds h.1)
+
+  pub Upto-slots : ((c d : MutableArray) → R c d → slots_at d ≡ slots_at c) → (i : ℕ) (cs ds : List MutableArray) → Upto i cs ds → all_slots ds ≡ all_slots cs
+  Upto-slots k i [] [] h = refl
+  Upto-slots k i [] (d ∷ ds) h = absurd h
+  Upto-slots k i (c ∷ cs) [] h = absurd h
+  Upto-slots k zero (c ∷ cs) (d ∷ ds) h = let e = Upto-slots k zero cs ds h.1 in let s = ap slots_at h.0 in rw (← s, e) refl
+  Upto-slots k (suc i) (c ∷ cs) (d ∷ ds) h = let e = Upto-slots k i cs ds h.1 in let s = k c d h.0 in rw (s, e) refl
+
+  pub Upto-nulls_all : (n : ℕ) → ((c d : MutableArray) → R c d → AllGetNulls (nulls_in n (shape c)) (slots_at c) (slots_at d)) → (i : ℕ) (cs ds : List MutableArray) → length ds ≤ i → Upto i cs ds → AllGetNulls (nulls_in n (fields_of (map shape cs))) (all_slots cs) (all_slots ds)
+  Upto-nulls_all n k i [] [] le h = tt
+  Upto-nulls_all n k i [] (d ∷ ds) le h = absurd h
+  Upto-nulls_all n k i (c ∷ cs) [] le h = absurd h
+  Upto-nulls_all n k zero (c ∷ cs) (d ∷ ds) le h = absurd (omega arith)
+  Upto-nulls_all n k (suc i) (c ∷ cs) (d ∷ ds) le h = AllGetNulls-append (nulls_in n (shape c)) (nulls_in n (fields_of (map shape cs))) (slots_at c) (slots_at d) (all_slots cs) (all_slots ds) (k c d h.0) (Upto-nulls_all n k i cs ds (omega arith) h.1)
 
 -- what less holds of the first
 pub Upto-weaken : (R S : MutableArray → MutableArray → Type 0) → ((c d : MutableArray) → R c d → S c d) → (i : ℕ) (cs ds : List MutableArray) → Upto R i cs ds → Upto S i cs ds

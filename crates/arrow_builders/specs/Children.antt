@@ -1,7 +1,8 @@
 -- Several builders side by side, as the children of a builder of records.
 use Rattle.std.specs.Prelude.{ℕ, List, [], ◌∷◌, ◌++◌, map}
+use Rattle.arrow_types.specs.declared.slot.Slot.{Slot}
 use Rattle.arrow_builders.specs.Fits.{ChildrenFit}
-use Rattle.arrow_builders.specs.MutableArrays.{nodes}
+use Rattle.arrow_builders.specs.MutableArrays.{nodes, slots_at}
 use Rattle.arrow_builders.specs.Nodes.{Node}
 use Rattle.arrow_builders.specs.Shapes.{Added, Shape, no_field, field, shape, nulls_in}
 use Rattle.arrow_builders.specs.declared.array.MutableArray.{MutableArray}
@@ -10,6 +11,11 @@ use Rattle.arrow_builders.specs.declared.array.MutableArray.{MutableArray}
 abbrev pub all_nodes : List MutableArray → List Node
 all_nodes [] = []
 all_nodes (b ∷ bs) = nodes b ++ all_nodes bs
+
+-- the slots at each of their nodes, one builder's after another
+abbrev pub all_slots : List MutableArray → List (List Slot)
+all_slots [] = []
+all_slots (b ∷ bs) = slots_at b ++ all_slots bs
 
 -- the shapes of a record's children
 abbrev pub fields_of : List Shape → Shape

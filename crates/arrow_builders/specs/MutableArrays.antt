@@ -126,6 +126,19 @@ abbrev mutual
   nodes_below end_of-MutableArray = []
   nodes_below (more_of-MutableArray b rest) = nodes b ++ nodes_below rest
 
+-- the slots at each node in preorder, those of a child too that its parent's lists or records don't reach
+abbrev mutual
+  pub slots_at : MutableArray → List (List Slot)
+  slots_at (List' lists p child) = builder_slots (List' lists p child) ∷ slots_at child
+  slots_at (LargeList' lists p child) = builder_slots (LargeList' lists p child) ∷ slots_at child
+  slots_at (FixedSizeList' marks p child) = builder_slots (FixedSizeList' marks p child) ∷ slots_at child
+  slots_at (Struct' marks size row) = builder_slots (Struct' marks size row) ∷ slots_at_below row
+  slots_at b = builder_slots b ∷ []
+
+  pub slots_at_below : {m : _} → Row_of-MutableArray m → List (List Slot)
+  slots_at_below end_of-MutableArray = []
+  slots_at_below (more_of-MutableArray b rest) = slots_at b ++ slots_at_below rest
+
 -- the types of a record's children
 abbrev pub types_below : {m : _} → Row_of-MutableArray m → List DataType
 types_below end_of-MutableArray = []

@@ -1,11 +1,12 @@
 -- What a builder of any kind keeps at every call, and what nulls add to its nodes.
-use Rattle.std.specs.Prelude.{ℕ, ◌*◌, ◌≤◌, List, [], ◌∷◌, ◌++◌}
+use Rattle.std.specs.Prelude.{◌≡◌, ℕ, ◌*◌, ◌≤◌, List, [], ◌∷◌, ◌++◌}
 use Rattle.arrow_types.specs.declared.slot.Slot.{Slot}
 use Rattle.arrow_types.specs.declared.types.DataType.{DataType}
 use Rattle.arrow_types.specs.declared.physical.PhysicalType.{PhysicalType}
 use Rattle.arrow_types.specs.declared.physical.PhysicalType.TheVariants as physical
 use Rattle.arrow_array.specs.FixedLists.{list_size}
 use Rattle.arrow_array.specs.Parts.{byte_width}
+use Rattle.arrow_builders.specs.Nested.{null_slots}
 use Rattle.arrow_builders.specs.Nodes.{Node, Takes}
 use Rattle.arrow_builders.specs.MutableArrays.{builder_type, builder_kind}
 use Rattle.arrow_builders.specs.declared.array.MutableArray.{MutableArray}
@@ -65,11 +66,19 @@ nulls_in n (field first more) = nulls_in n first ++ nulls_in n more
 abbrev pub nulls_at : ℕ → MutableArray → List Added
 nulls_at n b = nulls_in n (shape b)
 
+-- at each node this holds of what is added, of what was there and of what is there now
+abbrev pub AllAdded : {X : Type 0} → (Added → X → X → Type 0) → List Added → List X → List X → Type 0
+AllAdded Adds [] [] [] = Unit {0}
+AllAdded Adds (a ∷ more) (x ∷ xs) (y ∷ ys) = Adds a x y × AllAdded Adds more xs ys
+AllAdded Adds _ _ _ = ⊥
+
 -- at each node, at most what is told is added, and no room is lost besides
 abbrev pub AllTake : List Added → List Node → List Node → Type 0
-AllTake [] [] [] = Unit {0}
-AllTake (a ∷ more) (x ∷ xs) (y ∷ ys) = Takes a.slots a.bytes x y × AllTake more xs ys
-AllTake _ _ _ = ⊥
+AllTake adds xs ys = AllAdded (λ a x y. Takes a.slots a.bytes x y) adds xs ys
+
+-- at each node, as many nulls as are told come behind its slots
+abbrev pub AllGetNulls : List Added → List (List Slot) → List (List Slot) → Type 0
+AllGetNulls adds xs ys = AllAdded (λ a x y. y ≡ x ++ null_slots a.slots) adds xs ys
 
 -- a node has room for what is added
 pub record FitsIn (a : Added) (x : Node) : Type 0 where

@@ -8,9 +8,9 @@ ghost use Rattle.arrow_array.specs.Arrays.{array_type, array_slots};
 ghost use Rattle.arrow_array.specs.Parts.{IsRefusalOf};
 ghost use Rattle.arrow_builders.specs.Fits.{ChildrenFit};
 ghost use Rattle.arrow_builders.specs.Found.{found_at};
-ghost use Rattle.arrow_builders.specs.MutableArrays.{builder_type, builder_slots, builder_kind, nodes, lengths_of};
+ghost use Rattle.arrow_builders.specs.MutableArrays.{builder_type, builder_slots, builder_kind, nodes, lengths_of, slots_at};
 ghost use Rattle.arrow_builders.specs.Nodes.{Roomier, Emptied, HasRoom, IsEmpty};
-ghost use Rattle.arrow_builders.specs.Shapes.{shape, nulls_at, AllTake, FitsIn, BytesFitIn, IsFlat};
+ghost use Rattle.arrow_builders.specs.Shapes.{shape, nulls_at, AllTake, AllGetNulls, FitsIn, BytesFitIn, IsFlat};
 
 use crate::binary::MutableBinaryArray;
 use crate::boolean::MutableBooleanArray;
@@ -196,6 +196,7 @@ impl MutableArray {
         ensures kind { builder_kind self.new ≡ builder_kind self.old }
         ensures data_type { builder_type self.new ≡ builder_type self.old }
         ensures ok { OnOk result (builder_slots self.new ≡ builder_slots self.old ++ NullSlot ∷ []) }
+        ensures below { OnOk result (AllGetNulls (nulls_at 1 self.old) (slots_at self.old) (slots_at self.new)) }
         ensures refused { OnErr result (IsFlat self.old → builder_slots self.new ≡ builder_slots self.old) }
         ensures refused_room { OnErr result (IsFlat self.old → AllZip Roomier (nodes self.old) (nodes self.new)) }
 
@@ -236,13 +237,14 @@ impl MutableArray {
 
     /// Makes room at every node for so many more slots and so many more content bytes.
     ///
-    /// `OutOfMemory` leaves the slots as they are.
+    /// The slots at every node stay as they are, after `OutOfMemory` too.
     #[cycle(reserves)]
     pub fn reserve_for(&mut self, bytes: usize) -> Result<()>
         ensures shape { shape self.new ≡ shape self.old }
         ensures kind { builder_kind self.new ≡ builder_kind self.old }
         ensures data_type { builder_type self.new ≡ builder_type self.old }
         ensures slots { builder_slots self.new ≡ builder_slots self.old }
+        ensures slots_at { slots_at self.new ≡ slots_at self.old }
         ensures room { AllZip Roomier (nodes self.old) (nodes self.new) }
         ensures ok { OnOk result (All (HasRoom bytes) (nodes self.new)) }
         ensures memory { IfErr result (λ e. e ≡ OutOfMemory) }

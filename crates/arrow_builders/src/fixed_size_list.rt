@@ -10,10 +10,10 @@ ghost use Rattle.arrow_array.specs.Parts.{IsRefusalOf};
 ghost use Rattle.arrow_builders.specs.Fits.{ChildrenFit};
 ghost use Rattle.arrow_builders.specs.Found.{found_at};
 ghost use Rattle.arrow_builders.specs.Lending.{LendsFixedSizeListValues};
-ghost use Rattle.arrow_builders.specs.MutableArrays.{builder_type, builder_slots, nodes};
+ghost use Rattle.arrow_builders.specs.MutableArrays.{builder_type, builder_slots, nodes, slots_at};
 ghost use Rattle.arrow_builders.specs.Nested.{marks_node, null_slots};
 ghost use Rattle.arrow_builders.specs.Nodes.{Takes, Roomier, Emptied, HasRoom, IsEmpty};
-ghost use Rattle.arrow_builders.specs.Shapes.{shape, nulls_at, AllTake, FitsIn};
+ghost use Rattle.arrow_builders.specs.Shapes.{shape, nulls_at, AllTake, AllGetNulls, FitsIn};
 ghost use Rattle.arrow_builders.specs.declared.array.MutableArray.{FixedSizeList};
 
 use crate::array::MutableArray;
@@ -132,6 +132,7 @@ impl MutableFixedSizeListArray {
         ensures shape { shape (FixedSizeList self.new) ≡ shape (FixedSizeList self.old) }
         ensures ok { OnOk result (builder_slots (FixedSizeList self.new)
             ≡ builder_slots (FixedSizeList self.old) ++ NullSlot ∷ []) }
+        ensures below { OnOk result (AllGetNulls (nulls_at 1 (FixedSizeList self.old)) (slots_at (FixedSizeList self.old)) (slots_at (FixedSizeList self.new))) }
         ensures memory { IfErr result (λ e. e ≡ OutOfMemory) }
         ensures takes { AllTake (nulls_at 1 (FixedSizeList self.old)) (nodes (FixedSizeList self.old)) (nodes (FixedSizeList self.new)) }
         ensures roomy { AllZip FitsIn (nulls_at 1 (FixedSizeList self.old)) (nodes (FixedSizeList self.old)) → IsOk result }
@@ -147,6 +148,7 @@ impl MutableFixedSizeListArray {
     pub(crate) fn reserve_for(&mut self, bytes: usize) -> Result<()>
         ensures shape { shape (FixedSizeList self.new) ≡ shape (FixedSizeList self.old) }
         ensures slots { builder_slots (FixedSizeList self.new) ≡ builder_slots (FixedSizeList self.old) }
+        ensures slots_at { slots_at (FixedSizeList self.new) ≡ slots_at (FixedSizeList self.old) }
         ensures room { AllZip Roomier (nodes (FixedSizeList self.old)) (nodes (FixedSizeList self.new)) }
         ensures ok { OnOk result (All (HasRoom bytes) (nodes (FixedSizeList self.new))) }
         ensures memory { IfErr result (λ e. e ≡ OutOfMemory) }
@@ -190,6 +192,7 @@ impl MutableFixedSizeListArray {
 fn push_nulls(builder: &mut MutableArray, count: usize) -> Result<()>
     ensures shape { shape builder.new ≡ shape builder.old }
     ensures ok { OnOk result (builder_slots builder.new ≡ builder_slots builder.old ++ null_slots count) }
+    ensures below { OnOk result (AllGetNulls (nulls_at count builder.old) (slots_at builder.old) (slots_at builder.new)) }
     ensures memory { IfErr result (λ e. e ≡ OutOfMemory) }
     ensures takes { AllTake (nulls_at count builder.old) (nodes builder.old) (nodes builder.new) }
     ensures roomy { AllZip FitsIn (nulls_at count builder.old) (nodes builder.old) → IsOk result }

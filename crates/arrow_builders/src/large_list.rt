@@ -10,10 +10,10 @@ ghost use Rattle.arrow_array.specs.Parts.{IsRefusalOf};
 ghost use Rattle.arrow_builders.specs.Fits.{ChildrenFit};
 ghost use Rattle.arrow_builders.specs.Found.{found_at};
 ghost use Rattle.arrow_builders.specs.Lending.{LendsLargeListValues};
-ghost use Rattle.arrow_builders.specs.MutableArrays.{builder_type, builder_slots, nodes};
+ghost use Rattle.arrow_builders.specs.MutableArrays.{builder_type, builder_slots, nodes, slots_at};
 ghost use Rattle.arrow_builders.specs.Nested.{items_of, lists_node};
 ghost use Rattle.arrow_builders.specs.Nodes.{Takes, Roomier, Emptied, HasRoom, IsEmpty};
-ghost use Rattle.arrow_builders.specs.Shapes.{shape, nulls_at, AllTake, FitsIn};
+ghost use Rattle.arrow_builders.specs.Shapes.{shape, nulls_at, AllTake, AllGetNulls, FitsIn};
 ghost use Rattle.arrow_builders.specs.declared.array.MutableArray.{LargeList};
 
 use crate::array::MutableArray;
@@ -122,6 +122,7 @@ impl DynMutableLargeListArray {
         ensures shape { shape (LargeList self.new) ≡ shape (LargeList self.old) }
         ensures ok { OnOk result (builder_slots (LargeList self.new)
             ≡ builder_slots (LargeList self.old) ++ NullSlot ∷ []) }
+        ensures below { OnOk result (AllGetNulls (nulls_at 1 (LargeList self.old)) (slots_at (LargeList self.old)) (slots_at (LargeList self.new))) }
         ensures memory { IfErr result (λ e. e ≡ OutOfMemory) }
         ensures takes { AllTake (nulls_at 1 (LargeList self.old)) (nodes (LargeList self.old)) (nodes (LargeList self.new)) }
         ensures roomy { AllZip FitsIn (nulls_at 1 (LargeList self.old)) (nodes (LargeList self.old)) → IsOk result }
@@ -135,6 +136,7 @@ impl DynMutableLargeListArray {
     pub(crate) fn reserve_for(&mut self, bytes: usize) -> Result<()>
         ensures shape { shape (LargeList self.new) ≡ shape (LargeList self.old) }
         ensures slots { builder_slots (LargeList self.new) ≡ builder_slots (LargeList self.old) }
+        ensures slots_at { slots_at (LargeList self.new) ≡ slots_at (LargeList self.old) }
         ensures room { AllZip Roomier (nodes (LargeList self.old)) (nodes (LargeList self.new)) }
         ensures ok { OnOk result (All (HasRoom bytes) (nodes (LargeList self.new))) }
         ensures memory { IfErr result (λ e. e ≡ OutOfMemory) }

@@ -10,10 +10,10 @@ ghost use Rattle.arrow_array.specs.Parts.{IsRefusalOf};
 ghost use Rattle.arrow_builders.specs.Fits.{ChildrenFit};
 ghost use Rattle.arrow_builders.specs.Found.{found_at};
 ghost use Rattle.arrow_builders.specs.Lending.{LendsListValues};
-ghost use Rattle.arrow_builders.specs.MutableArrays.{builder_type, builder_slots, nodes};
+ghost use Rattle.arrow_builders.specs.MutableArrays.{builder_type, builder_slots, nodes, slots_at};
 ghost use Rattle.arrow_builders.specs.Nested.{items_of, lists_node};
 ghost use Rattle.arrow_builders.specs.Nodes.{Takes, Roomier, Emptied, HasRoom, IsEmpty};
-ghost use Rattle.arrow_builders.specs.Shapes.{shape, nulls_at, AllTake, FitsIn};
+ghost use Rattle.arrow_builders.specs.Shapes.{shape, nulls_at, AllTake, AllGetNulls, FitsIn};
 ghost use Rattle.arrow_builders.specs.declared.array.MutableArray.{List};
 
 use crate::array::MutableArray;
@@ -122,6 +122,7 @@ impl DynMutableListArray {
         ensures shape { shape (List self.new) ≡ shape (List self.old) }
         ensures ok { OnOk result (builder_slots (List self.new)
             ≡ builder_slots (List self.old) ++ NullSlot ∷ []) }
+        ensures below { OnOk result (AllGetNulls (nulls_at 1 (List self.old)) (slots_at (List self.old)) (slots_at (List self.new))) }
         ensures memory { IfErr result (λ e. e ≡ OutOfMemory) }
         ensures takes { AllTake (nulls_at 1 (List self.old)) (nodes (List self.old)) (nodes (List self.new)) }
         ensures roomy { AllZip FitsIn (nulls_at 1 (List self.old)) (nodes (List self.old)) → IsOk result }
@@ -135,6 +136,7 @@ impl DynMutableListArray {
     pub(crate) fn reserve_for(&mut self, bytes: usize) -> Result<()>
         ensures shape { shape (List self.new) ≡ shape (List self.old) }
         ensures slots { builder_slots (List self.new) ≡ builder_slots (List self.old) }
+        ensures slots_at { slots_at (List self.new) ≡ slots_at (List self.old) }
         ensures room { AllZip Roomier (nodes (List self.old)) (nodes (List self.new)) }
         ensures ok { OnOk result (All (HasRoom bytes) (nodes (List self.new))) }
         ensures memory { IfErr result (λ e. e ≡ OutOfMemory) }

@@ -8,14 +8,14 @@ ghost use Rattle.arrow_types.specs.declared.slot.Slot.TheVariants.{Null as NullS
 ghost use Rattle.arrow_array.specs.Arrays.{array_type, array_slots};
 ghost use Rattle.arrow_array.specs.Parts.{IsRefusalOf};
 ghost use Rattle.arrow_array.specs.Structs.{record_at};
-ghost use Rattle.arrow_builders.specs.Children.{all_nodes, all_nulls, AllFit};
+ghost use Rattle.arrow_builders.specs.Children.{all_nodes, all_nulls, all_slots, AllFit};
 ghost use Rattle.arrow_builders.specs.Fits.{ChildrenFit};
 ghost use Rattle.arrow_builders.specs.Found.{found_at};
 ghost use Rattle.arrow_builders.specs.Lending.{LendsField};
-ghost use Rattle.arrow_builders.specs.MutableArrays.{builder_type, builder_slots, nodes};
+ghost use Rattle.arrow_builders.specs.MutableArrays.{builder_type, builder_slots, nodes, slots_at};
 ghost use Rattle.arrow_builders.specs.Nested.{marks_node};
 ghost use Rattle.arrow_builders.specs.Nodes.{Takes, Roomier, Emptied, HasRoom, IsEmpty};
-ghost use Rattle.arrow_builders.specs.Shapes.{shape, nulls_at, AllTake, FitsIn};
+ghost use Rattle.arrow_builders.specs.Shapes.{shape, nulls_at, AllTake, AllGetNulls, FitsIn};
 ghost use Rattle.arrow_builders.specs.declared.array.MutableArray.{Struct};
 
 use crate::array::MutableArray;
@@ -118,6 +118,7 @@ impl DynMutableStructArray {
         ensures shape { shape (Struct self.new) ≡ shape (Struct self.old) }
         ensures ok { OnOk result (builder_slots (Struct self.new)
             ≡ builder_slots (Struct self.old) ++ NullSlot ∷ []) }
+        ensures below { OnOk result (AllGetNulls (nulls_at 1 (Struct self.old)) (slots_at (Struct self.old)) (slots_at (Struct self.new))) }
         ensures memory { IfErr result (λ e. e ≡ OutOfMemory) }
         ensures takes { AllTake (nulls_at 1 (Struct self.old)) (nodes (Struct self.old)) (nodes (Struct self.new)) }
         ensures roomy { AllZip FitsIn (nulls_at 1 (Struct self.old)) (nodes (Struct self.old)) → IsOk result }
@@ -132,6 +133,7 @@ impl DynMutableStructArray {
     pub(crate) fn reserve_for(&mut self, bytes: usize) -> Result<()>
         ensures shape { shape (Struct self.new) ≡ shape (Struct self.old) }
         ensures slots { builder_slots (Struct self.new) ≡ builder_slots (Struct self.old) }
+        ensures slots_at { slots_at (Struct self.new) ≡ slots_at (Struct self.old) }
         ensures room { AllZip Roomier (nodes (Struct self.old)) (nodes (Struct self.new)) }
         ensures ok { OnOk result (All (HasRoom bytes) (nodes (Struct self.new))) }
         ensures memory { IfErr result (λ e. e ≡ OutOfMemory) }
@@ -191,6 +193,7 @@ fn push_null_all(children: &mut [MutableArray]) -> Result<()>
     ensures shapes { map shape children.new ≡ map shape children.old }
     ensures ok { OnOk result (map builder_slots children.new
         ≡ map (λ b. builder_slots b ++ NullSlot ∷ []) children.old) }
+    ensures below { OnOk result (AllGetNulls (all_nulls 1 children.old) (all_slots children.old) (all_slots children.new)) }
     ensures memory { IfErr result (λ e. e ≡ OutOfMemory) }
     ensures takes { AllTake (all_nulls 1 children.old) (all_nodes children.old) (all_nodes children.new) }
     ensures roomy { AllZip FitsIn (all_nulls 1 children.old) (all_nodes children.old) → IsOk result }
@@ -206,6 +209,7 @@ fn push_null_all(children: &mut [MutableArray]) -> Result<()>
 fn reserve_all(children: &mut [MutableArray], bytes: usize) -> Result<()>
     ensures shapes { map shape children.new ≡ map shape children.old }
     ensures slots { map builder_slots children.new ≡ map builder_slots children.old }
+    ensures slots_at { all_slots children.new ≡ all_slots children.old }
     ensures room { AllZip Roomier (all_nodes children.old) (all_nodes children.new) }
     ensures ok { OnOk result (All (HasRoom bytes) (all_nodes children.new)) }
     ensures memory { IfErr result (λ e. e ≡ OutOfMemory) }

@@ -1,25 +1,35 @@
-use Rattle.std.proofs.Common.{◌≡◌, ◌≢◌, ◌∙◌, ◌∷◌, ◌++◌, [], map, arith, sym, ap, rules, refl, subst, false, true, List, get_or-set_other}
+use Rattle.std.proofs.Common.{◌≡◌, ◌≢◌, ◌∙◌, ◌∷◌, ◌++◌, ◌*◌, [], map, arith, sym, ap, rules, refl, subst, false, true, List, get_or-set_other, OnOk}
 use Rattle.std.specs.List.{AllZip}
 use Rattle.std.specs.Vec.{with_items}
 use Rattle.std.proofs.lemmas.List.{length-set, append-nil}
 use Rattle.arrow_types.specs.declared.slot.Slot.TheVariants as slot
 use Rattle.arrow_array.specs.FixedLists.{list_size}
-use Rattle.arrow_builders.specs.Children.{all_nodes, fields_of}
-use Rattle.arrow_builders.specs.MutableArrays.{builder_slots, nodes}
+use Rattle.arrow_builders.specs.Children.{all_nodes, all_slots, fields_of}
+use Rattle.arrow_builders.specs.MutableArrays.{builder_slots, nodes, slots_at}
 use Rattle.arrow_builders.specs.Nested.{marks_node, null_slots}
 use Rattle.arrow_builders.specs.Nodes.{Takes}
-use Rattle.arrow_builders.specs.Shapes.{AllTake, FitsIn, nulls_in, shape}
-use Rattle.arrow_builders.specs.declared.array.MutableArray.{MutableArray}
+use Rattle.arrow_builders.specs.Shapes.{AllTake, AllGetNulls, FitsIn, nulls_in, nulls_at, shape}
+use Rattle.arrow_builders.specs.declared.structs.DynMutableStructArray.{DynMutableStructArray}
+use Rattle.arrow_builders.specs.declared.array.MutableArray.{MutableArray, Struct}
 use Rattle.arrow_builders.proofs.Growth.{AllTake-same, Takes-same}
 use Rattle.arrow_builders.proofs.ManyNulls.{one_more, up_to, next_fits, child_fits, record_takes, record_fits}
 use Rattle.arrow_builders.proofs.NestedSlots.{fixed_null, record_null, nulls-push}
+use Rattle.arrow_builders.proofs.NullsBelow.{none_come, one_more_null, record_nulls, told_of}
 use Rattle.arrow_builders.proofs.Rows.{shape_same, shape-record, slots-record, shapes_back, back_both}
 use Rattle.arrow_builders.proofs.Sizes.{nulls-fit}
 use Rattle.arrow_builders.proofs.Takes.{marks_take}
-use Rattle.arrow_builders.proofs.Upto.{Upto-start, Upto-weaken, Upto-next, Upto-set, Upto-step, Upto-map, Upto-map_all, Upto-takes}
+use Rattle.arrow_builders.proofs.Upto.{Upto-start, Upto-weaken, Upto-next, Upto-set, Upto-step, Upto-map, Upto-map_all, Upto-takes, Upto-nulls_all}
 use Rattle.arrow_builders.proofs.Weights.{child_lighter, weight}
 use Rattle.arrow_builders.proofs.+nulls.Invariants.{Asked, Nulled}
 use Rattle.arrow_builders.proofs.+nulls.Goals as goal
+
+pub array::MutableArray::push_null-returns-in-Struct-clause-below : goal.array::MutableArray::push_null-returns-in-Struct-clause-below
+array::MutableArray::push_null-returns-in-Struct-clause-below t c =
+    let r = c.push_null-in-Struct.result in
+    let new = Struct c.push_null-in-Struct.new.self in
+    let k : OnOk r (AllGetNulls (nulls_at 1 (Struct c.in-Struct.builder)) (slots_at (Struct c.in-Struct.builder)) (slots_at new)) =
+    subst (λ (b : DynMutableStructArray). OnOk r (AllGetNulls (nulls_at 1 (Struct b)) (slots_at (Struct b)) (slots_at new))) c.in-Struct.builder-is c.push_null-in-Struct.ensures.below in
+    told_of r c.args.self.now _ (Struct c.in-Struct.builder) new c.in-Struct.is (search rules) k
 
 pub fixed_size_list::MutableFixedSizeListArray::push_null-returns-clause-ok :
     goal.fixed_size_list::MutableFixedSizeListArray::push_null-returns-clause-ok
@@ -28,11 +38,23 @@ fixed_size_list::MutableFixedSizeListArray::push_null-returns-clause-ok t c =
     let d = c.in_ok-push_nulls.ensures.ok ∙ ap (λ (x : MutableArray). builder_slots x ++ null_slots c.list_size_of-size.result) c.deref_mut.ensures.value in
     fixed_null (list_size b.marks.data_type) (list_size c.push.new.self.data_type) _ (builder_slots b.values.value) _ b.marks.truths _ (ap list_size c.push.ensures.data_type) d c.in_ok-push.ensures.ok
 
+pub fixed_size_list::MutableFixedSizeListArray::push_null-returns-clause-below :
+    goal.fixed_size_list::MutableFixedSizeListArray::push_null-returns-clause-below
+fixed_size_list::MutableFixedSizeListArray::push_null-returns-clause-below t c =
+    let b = c.args.self.now in
+    let same = c.deref_mut.ensures.value in
+    let child : AllGetNulls (nulls_at c.list_size_of-size.result b.values.value) (slots_at b.values.value) (slots_at c.push_nulls.new.builder) =
+    subst (λ (x : MutableArray). AllGetNulls (nulls_at c.list_size_of-size.result x) (slots_at x) (slots_at c.push_nulls.new.builder)) same c.in_ok-push_nulls.ensures.below in
+    let size : c.list_size_of-size.result ≡ list_size b.marks.data_type = c.list_size_of-size.ensures ∙ ap list_size c.data_type.ensures in
+    let e : c.list_size_of-size.result ≡ 1 * list_size b.marks.data_type = omega (arith, size) in
+    (fixed_size_list::MutableFixedSizeListArray::push_null-returns-clause-ok t c, subst (λ n. AllGetNulls (nulls_at n b.values.value) (slots_at b.values.value) (slots_at c.push_nulls.new.builder)) e child)
+
 pub fixed_size_list::push_nulls-loop-init : goal.fixed_size_list::push_nulls-loop-init
 fixed_size_list::push_nulls-loop-init t c = record {
   within = omega arith;
   same_shape = refl;
   slots = sym (append-nil (builder_slots c.args.builder.now));
+  below = none_come c.args.builder.now;
   takes = AllTake-same (nulls_in 0 (shape c.args.builder.now)) (nodes c.args.builder.now) (nulls-fit 0 c.args.builder.now);
 }
 
@@ -44,6 +66,7 @@ fixed_size_list::push_nulls-loop-preserved t c =
       within = omega arith;
       same_shape = e.shape ∙ inv.same_shape;
       slots = e.ok ∙ ap (λ xs. xs ++ slot.Null ∷ []) inv.slots ∙ nulls-push (builder_slots c.args.builder.now) c.loop.counter;
+      below = one_more_null c.args.builder.now c.loop.builder c.push_null.new.self c.loop.counter inv.same_shape inv.below e.below;
       takes = one_more c.args.builder.now c.loop.builder c.loop.counter inv.same_shape inv.takes c.push_null.new.self e.takes;
     }
 
@@ -98,6 +121,11 @@ structs::DynMutableStructArray::push_null-returns-clause-ok t c =
     let e = back_both (λ xs ys. map builder_slots ys ≡ map (λ x. builder_slots x ++ slot.Null ∷ []) xs) b.values c.deref_mut.result.now c.push_null_all.new.children c.push_null_all.ensures.shapes c.deref_mut.ensures.value c.in_ok-push_null_all.ensures.ok in
     slots-record (record { marks = c.push.new.self; values = with_items b.values c.push_null_all.new.children }) ∙ record_null b.values.items _ b.marks.truths c.push.new.self.truths e c.in_ok-push.ensures.ok ∙ ap (λ xs. xs ++ slot.Null ∷ []) (sym (slots-record b))
 
+pub structs::DynMutableStructArray::push_null-returns-clause-below : goal.structs::DynMutableStructArray::push_null-returns-clause-below
+structs::DynMutableStructArray::push_null-returns-clause-below t c =
+    let b = c.args.self.now in
+    record_nulls b (record { marks = c.push.new.self; values = with_items b.values c.push_null_all.new.children }) (structs::DynMutableStructArray::push_null-returns-clause-ok t c) (back_both (λ xs ys. AllGetNulls (nulls_in 1 (fields_of (map shape xs))) (all_slots xs) (all_slots ys)) b.values c.deref_mut.result.now c.push_null_all.new.children c.push_null_all.ensures.shapes c.deref_mut.ensures.value c.in_ok-push_null_all.ensures.below)
+
 pub structs::DynMutableStructArray::push_null-returns-clause-takes : goal.structs::DynMutableStructArray::push_null-returns-clause-takes
 structs::DynMutableStructArray::push_null-returns-clause-takes t c =
     let b = c.args.self.now in
@@ -112,7 +140,7 @@ structs::push_null_all-loop-i-preserved t c =
     let e = c.in_ok-push_null.ensures in
     record {
       kept = (length-set _ _ _ ∙ inv.kept.0, λ k d h. let ne : k ≢ c.loop-i.i = omega arith in rw get_or-set_other (inv.kept.1 k d (omega arith)));
-      each = Upto-step Nulled c.loop-i.i _ _ c.loop-i.children c.index-children-i.result c.push_null.new.self (omega arith) (omega arith) (record { asked = record { same_shape = e.shape; takes = e.takes }; slots = e.ok }) inv.each;
+      each = Upto-step Nulled c.loop-i.i _ _ c.loop-i.children c.index-children-i.result c.push_null.new.self (omega arith) (omega arith) (record { asked = record { same_shape = e.shape; takes = e.takes }; slots = e.ok; below = e.below }) inv.each;
     }
 
 pub structs::push_null_all-returns-in_err-push_null-clause-shapes : goal.structs::push_null_all-returns-in_err-push_null-clause-shapes
@@ -137,6 +165,9 @@ structs::push_null_all-returns-clause-shapes t c = Upto-map Nulled shape (λ x y
 
 pub structs::push_null_all-returns-clause-ok : goal.structs::push_null_all-returns-clause-ok
 structs::push_null_all-returns-clause-ok t c = Upto-map_all Nulled builder_slots (λ b. builder_slots b ++ slot.Null ∷ []) (λ x y h. h.slots) _ _ _ (omega arith) c.loop-i.invariant.each
+
+pub structs::push_null_all-returns-clause-below : goal.structs::push_null_all-returns-clause-below
+structs::push_null_all-returns-clause-below t c = Upto-nulls_all Nulled 1 (λ x y h. h.below) _ _ _ (omega arith) c.loop-i.invariant.each
 
 pub structs::push_null_all-returns-clause-takes : goal.structs::push_null_all-returns-clause-takes
 structs::push_null_all-returns-clause-takes t c = Upto-takes Nulled 1 (λ x y h. h.asked.takes) _ _ _ c.loop-i.invariant.each

@@ -1,9 +1,9 @@
 use Rattle.std.proofs.Common.{◌≡◌, ◌≤◌, ◌+◌, ◌*◌, ◌++◌, ◌∷◌, [], map}
 use Rattle.arrow_types.specs.declared.slot.Slot.TheVariants as slot
 use Rattle.arrow_builders.specs.Children.{fields_of}
-use Rattle.arrow_builders.specs.MutableArrays.{builder_slots, nodes}
+use Rattle.arrow_builders.specs.MutableArrays.{builder_slots, nodes, slots_at}
 use Rattle.arrow_builders.specs.Nested.{null_slots}
-use Rattle.arrow_builders.specs.Shapes.{AllTake, nulls_in, shape}
+use Rattle.arrow_builders.specs.Shapes.{AllTake, AllGetNulls, nulls_in, shape}
 use Rattle.arrow_builders.specs.declared.array.MutableArray.{MutableArray, FixedSizeList, Struct}
 use Rattle.arrow_builders.proofs.Upto.{Upto}
 use Rattle.arrow_builders.proofs.Weights.{weight}
@@ -18,6 +18,7 @@ pub record Asked (c d : MutableArray) : Type 0 where
 pub record Nulled (c d : MutableArray) : Type 0 where
   pub asked : Asked c d
   pub slots : builder_slots d ≡ builder_slots c ++ slot.Null ∷ []
+  pub below : AllGetNulls (nulls_in 1 (shape c)) (slots_at c) (slots_at d)
 
 abbrev pub invariant-structs::push_null_all-loop-i : goal.invariant-structs::push_null_all-loop-i
 invariant-structs::push_null_all-loop-i l = record {
@@ -31,6 +32,7 @@ invariant-fixed_size_list::push_nulls-loop l = record {
   within : l.counter ≤ l.fn.count;
   same_shape : shape l.builder ≡ shape l.fn.builder;
   slots : builder_slots l.builder ≡ builder_slots l.fn.builder ++ null_slots l.counter;
+  below : AllGetNulls (nulls_in l.counter (shape l.fn.builder)) (slots_at l.fn.builder) (slots_at l.builder);
   takes : AllTake (nulls_in l.counter (shape l.fn.builder)) (nodes l.fn.builder) (nodes l.builder);
 }
 

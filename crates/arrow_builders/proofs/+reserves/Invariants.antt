@@ -1,6 +1,6 @@
 use Rattle.std.proofs.Common.{◌≡◌, ℕ, All}
 use Rattle.std.specs.List.{AllZip}
-use Rattle.arrow_builders.specs.MutableArrays.{builder_slots, nodes}
+use Rattle.arrow_builders.specs.MutableArrays.{builder_slots, nodes, slots_at}
 use Rattle.arrow_builders.specs.Nodes.{Roomier, HasRoom}
 use Rattle.arrow_builders.specs.Shapes.{shape}
 use Rattle.arrow_builders.specs.declared.array.MutableArray.{MutableArray}
@@ -11,6 +11,7 @@ use Rattle.arrow_builders.proofs.+reserves.Given as goal
 pub record Asked (c d : MutableArray) : Type 0 where
   pub same_shape : shape d ≡ shape c
   pub slots : builder_slots d ≡ builder_slots c
+  pub at_nodes : slots_at d ≡ slots_at c
   pub room : AllZip Roomier (nodes c) (nodes d)
 
 -- and that got it

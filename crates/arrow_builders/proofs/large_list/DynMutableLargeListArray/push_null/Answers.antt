@@ -5,6 +5,7 @@ use Rattle.arrow_builders.specs.Nodes.{Takes}
 use Rattle.arrow_builders.specs.Shapes.{nulls_in, shape}
 use Rattle.arrow_builders.proofs.Growth.{AllTake-same, Takes-same}
 use Rattle.arrow_builders.proofs.ListOffsets.{lists-push}
+use Rattle.arrow_builders.proofs.NullsBelow.{none_come}
 use Rattle.arrow_builders.proofs.Sizes.{nulls-fit}
 use Rattle.arrow_builders.proofs.Takes.{lists_take}
 use Rattle.arrow_builders.proofs.large_list.DynMutableLargeListArray.push_null.Goals as goal
@@ -13,6 +14,9 @@ pub returns-clause-ok : goal.returns-clause-ok
 returns-clause-ok c =
     let xs = builder_slots c.args.self.now.values.value in
     ap (λ (ls : List (Option ℕ)). lists_from 0 ls xs) c.in_ok-push_null.ensures.ok ∙ lists-push 0 c.args.self.now.lists.lens None xs
+
+pub returns-clause-below : goal.returns-clause-below
+returns-clause-below c = (returns-clause-ok c, none_come c.args.self.now.values.value)
 
 pub returns-clause-takes : goal.returns-clause-takes
 returns-clause-takes c =
