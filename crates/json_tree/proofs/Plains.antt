@@ -1,12 +1,9 @@
--- The table of plain bytes, and the run that it finds.
-use Rattle.std.proofs.Common.{◌≡◌, ℕ, zero, suc, ◌<◌, ◌≤◌, ◌+◌, Bool, true, false, not, cond, List, [], ◌∷◌, length, take, drop, get_or, refl, sym, subst, arith}
+-- The run of plain bytes that comes first.
+use Rattle.std.proofs.Common.{◌≡◌, ℕ, zero, suc, ◌<◌, ◌≤◌, ◌+◌, Bool, true, false, cond, List, [], ◌∷◌, length, take, drop, refl, sym, subst, arith}
 use Rattle.std.proofs.lemmas.Bool.Decides.{nat_tests}
 use Rattle.std.proofs.lemmas.Str.{IsCharBoundary-before_ascii, IsCharBoundary-end}
 use Rattle.std.specs.List.{prefix_len}
 use Rattle.std.specs.Str.{IsCharBoundary}
-use Rattle.std.proofs.Common.{T, ◌&&◌, ◌⊎◌, inl, inr}
-use Rattle.std.proofs.lemmas.Bool.{cases_order}
-use Rattle.json_tree.specs.declared.reader.TheConstants.{UNESCAPED}
 use Rattle.json_tree.specs.Grammar.{Each}
 use Rattle.arrow_base.specs.JsonString.{is_unescaped}
 use Rattle.json_tree.specs.Reading.{First}
@@ -42,37 +39,3 @@ run-boundary b n l h = at b n l h (drop n b) refl
     at (x ∷ t) (suc n) l h s e =
         let k = at t n (omega (arith, l)) h s e in
         (l, λ a c. k.1 (omega (arith, a)) c)
-
--- ---- the table
-
-upto : (ℕ → Bool) → ℕ → Bool
-upto p zero = true
-upto p (suc n) = p n && upto p n
-
-both : (a b : Bool) → T (a && b) → T a × T b
-both true b h = (tt, h)
-both false b h = absurd h
-
-upto-sound : (p : ℕ → Bool) (n : ℕ) → T (upto p n) → (i : ℕ) → i < n → T (p i)
-unfolding upto
-upto-sound p zero h i lt = absurd (omega (arith, lt))
-upto-sound p (suc n) h i lt = go (upto-sound p n (both (p n) (upto p n) h).1 i) (cases_order i n)
-  where
-    go : (i < n → T (p i)) → (i ≡ n) ⊎ ((i < n) ⊎ (n < i)) → T (p i)
-    go below (inl e) = subst (λ x. T (p x)) (sym e) (both (p n) (upto p n) h).0
-    go below (inr (inl l)) = below l
-    go below (inr (inr g)) = absurd (omega (arith, lt, g))
-
-abbrev same : Bool → Bool → Bool
-same true b = b
-same false b = not b
-
-same-is : (a b : Bool) → T (same a b) → a ≡ b
-same-is true true h = refl
-same-is true false h = absurd h
-same-is false true h = absurd h
-same-is false false h = refl
-
-pub plain-at : (x : ℕ) → x < 256 → get_or UNESCAPED x false ≡ is_unescaped x
-unfolding is_unescaped upto
-plain-at x h = same-is (get_or UNESCAPED x false) (is_unescaped x) (upto-sound (λ y. same (get_or UNESCAPED y false) (is_unescaped y)) 256 tt x h)

@@ -1,4 +1,4 @@
--- The brackets that are open at the end of a prefix of a JSON text.
+-- The brackets that are open at the end of a prefix of a JSON text (RFC 8259, sections 2 and 7; section 9 lets a reader set a limit).
 use Rattle.std.specs.Prelude.{◌≡◌, ℕ, zero, suc, List, [], ◌∷◌, ◌++◌, cond, ◌==◌, ◌||◌}
 use Rattle.std.specs.Str.{IsUtf8}
 use Rattle.json_tree.specs.Tree.{Json}

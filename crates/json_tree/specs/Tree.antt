@@ -1,4 +1,4 @@
--- The values that JSON texts stand for.
+-- The values that JSON texts stand for (RFC 8259, section 3).
 use Rattle.std.specs.Prelude.{ℕ, List, [], ◌∷◌, Bool, false, cond, ◌==◌, ◌||◌}
 pub use Rattle.json_tree.specs.Keys.{put}
 use Rattle.json_tree.specs.declared.value.Value.{Value, Null, Bool as TheBool, Number as TheNumber, String, Array, Object}

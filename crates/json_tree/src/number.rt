@@ -1,22 +1,15 @@
 //! Numbers (RFC 8259, section 6).
-ghost use Rattle.std.specs.Prelude.{◌≡◌, ◌≢◌, ◌≤◌, ◌<◌, ◌++◌, ◌-◌, ℕ, List, [], ◌∷◌, length, take, drop, Ok, Err, OnOk, MatchBool, MatchResult, IfSome};
+ghost use Rattle.std.specs.Prelude.{◌≡◌, ◌≤◌, ℕ, List, length, take, drop, MatchResult};
 ghost use Rattle.std.specs.Str.{IsUtf8};
-ghost use Rattle.json_tree.specs.Grammar.{is_digit, is_exponent_mark};
-ghost use Rattle.json_tree.specs.Reading.{after, found, wrong, digits_at, int_at, minus_at, frac_at, sign_at, exp_at, number_at};
+ghost use Rattle.json_tree.specs.Grammar.{is_exponent_mark};
+ghost use Rattle.json_tree.specs.Reading.{found, digits_at, int_at, minus_at, frac_at, sign_at, exp_at, number_at};
 ghost use Rattle.json_tree.specs.Gives.{Gives, Moves};
 
-use crate::reader::Reader;
+use crate::reader::{Reader, is_decimal};
 use crate::strings::owned;
 use crate::value::{JsonFault, Number, Value};
 use arrow_lists::Text;
 use std::alloc::Global;
-
-#[tactic(auto, unfolding(crate::specs::Grammar::is_digit))]
-fn is_decimal(byte: u8) -> bool
-    ensures { result ≡ is_digit byte }
-{
-    b'0' <= byte && byte <= b'9'
-}
 
 // One digit or more. The fault is `Text`, as in each of these parts.
 #[tactic(auto, unfolding(crate::specs::Reading::digits_at))]
@@ -103,7 +96,8 @@ fn exponent_part<'a>(reader: &mut Reader<'a>) -> Result<(), JsonFault>
     }
 }
 
-// The text of a mantissa.
+// The text of a mantissa. It does not call `owned`: were that the one caller of `try_from_str`, the
+// compiler would put `try_from_str` into it, and no longer put `owned` into its callers.
 #[inline(always)]
 fn mantissa_text(alloc: Global, bytes: &[u8]) -> Result<Text, JsonFault>
     requires { IsUtf8 bytes.now }
@@ -151,7 +145,7 @@ fn behind_first(bytes: &[u8], n: usize) -> &[u8]
     }
 }
 
-/// A number, of which no byte is left ahead that could go on with it but digits behind a 0.
+/// A number, read as far as it goes. Behind a leading 0, digits are left ahead.
 #[inline(never)]
 pub(crate) fn number<'a>(
     alloc: Global,

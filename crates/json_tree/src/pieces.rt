@@ -1,5 +1,5 @@
 //! Texts that are read piece by piece.
-ghost use Rattle.std.specs.Prelude.{◌≡◌, ◌++◌, ◌≤◌, ◌+◌, ◌<◌, ◌∷◌, length, [], OnOk, IfErr, MatchResult, string_bytes};
+ghost use Rattle.std.specs.Prelude.{◌≡◌, ◌++◌, ◌+◌, ◌<◌, ◌∷◌, [], OnOk, IfErr, MatchResult, string_bytes};
 ghost use Rattle.std.specs.Char.{encode_utf8};
 
 use crate::strings::owned;

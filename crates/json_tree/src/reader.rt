@@ -1,6 +1,5 @@
 //! A reader over the bytes of a text.
-ghost use Rattle.std.specs.Prelude.{◌≡◌, ◌≢◌, ◌≤◌, ◌<◌, ℕ, List, [], ◌∷◌, length, MatchOption, MatchBool};
-ghost use Rattle.std.specs.Prelude.{◌++◌, drop, take, false};
+ghost use Rattle.std.specs.Prelude.{◌≡◌, ◌≢◌, ◌≤◌, ◌<◌, ℕ, List, [], ◌∷◌, ◌++◌, length, drop, true, false, MatchOption, MatchBool};
 ghost use Rattle.std.specs.Str.{IsUtf8};
 ghost use Rattle.std.specs.List.{prefix_len};
 ghost use Rattle.json_tree.specs.Grammar.{is_space, is_digit, Each};
@@ -35,6 +34,14 @@ fn is_space(byte: u8) -> bool
     ensures { result ≡ is_space byte }
 {
     byte == b' ' || byte == b'\t' || byte == b'\n' || byte == b'\r'
+}
+
+/// A digit (RFC 8259, section 6).
+#[tactic(auto, unfolding(crate::specs::Grammar::is_digit))]
+pub(crate) fn is_decimal(byte: u8) -> bool
+    ensures { result ≡ is_digit byte }
+{
+    b'0' <= byte && byte <= b'9'
 }
 
 impl<'a> Reader<'a> {
@@ -102,28 +109,35 @@ impl<'a> Reader<'a> {
         }
     }
 
-    /// Passes this byte where it is next, and tells whether it was.
+    /// Passes this byte where it is next, and tells whether it was. What follows an ASCII byte is UTF-8.
+    #[tactic(auto, using(crate::proofs::InTexts::in_tail))]
     pub(crate) fn takes(&mut self, byte: u8) -> bool
         ensures taken { MatchBool result (self.old ≡ byte ∷ self.new)
             ((self.new ≡ self.old) × First (λ x t. x ≢ byte) self.old) }
+        ensures text { result ≡ true → byte < 128 → IsUtf8 self.new }
         ensures forward { length self.new ≤ length self.old }
     {
-        if self.peek() == Some(byte) {
-            self.next();
-            return true;
+        match self.bytes.split_first() {
+            Some((first, rest)) => {
+                if *first == byte {
+                    self.bytes = rest;
+                    return true;
+                }
+                false
+            }
+            None => false,
         }
-        false
     }
 
     /// Passes the digits ahead.
-    #[tactic(auto, unfolding(crate::specs::Reading::after, crate::specs::Grammar::is_digit), using(crate::proofs::InTexts::in_tail))]
+    #[tactic(auto, unfolding(crate::specs::Reading::after), using(crate::proofs::InTexts::in_tail))]
     pub(crate) fn skip_digits(&mut self)
         ensures skipped { self.new ≡ after is_digit self.old }
         ensures forward { length self.new ≤ length self.old }
     {
         let mut rest = self.bytes;
         while let Some((first, others)) = rest.split_first() {
-            if !(b'0' <= *first && *first <= b'9') {
+            if !is_decimal(*first) {
                 break;
             }
             rest = others;
@@ -137,23 +151,6 @@ impl<'a> Reader<'a> {
         ensures { self.new ≡ drop n self.old }
     {
         self.bytes = &self.bytes[n..];
-    }
-
-    /// Passes a quotation mark where it is next, and tells whether it was. What follows it is UTF-8.
-    pub(crate) fn opens_string(&mut self) -> bool
-        ensures opened { MatchBool result ((self.old ≡ 34 ∷ self.new) × IsUtf8 self.new)
-            ((self.new ≡ self.old) × First (λ x t. x ≢ 34) self.old) }
-    {
-        match self.bytes.split_first() {
-            Some((first, rest)) => {
-                if *first == b'"' {
-                    self.bytes = rest;
-                    return true;
-                }
-                false
-            }
-            None => false,
-        }
     }
 
     /// Passes a string without escapes where it is next, and lends what stands between its quotation
@@ -191,32 +188,12 @@ impl<'a> Reader<'a> {
     }
 }
 
-// The bytes that stand for themselves in a string: neither below 0x20, nor a quotation mark, nor a
-// reverse solidus.
-static UNESCAPED: [bool; 256] = [
-    false, false, false, false, false, false, false, false, false, false, false, false, false,
-    false, false, false, false, false, false, false, false, false, false, false, false, false,
-    false, false, false, false, false, false, true, true, false, true, true, true, true, true,
-    true, true, true, true, true, true, true, true, true, true, true, true, true, true, true, true,
-    true, true, true, true, true, true, true, true, true, true, true, true, true, true, true, true,
-    true, true, true, true, true, true, true, true, true, true, true, true, true, true, true, true,
-    true, true, true, true, false, true, true, true, true, true, true, true, true, true, true,
-    true, true, true, true, true, true, true, true, true, true, true, true, true, true, true, true,
-    true, true, true, true, true, true, true, true, true, true, true, true, true, true, true, true,
-    true, true, true, true, true, true, true, true, true, true, true, true, true, true, true, true,
-    true, true, true, true, true, true, true, true, true, true, true, true, true, true, true, true,
-    true, true, true, true, true, true, true, true, true, true, true, true, true, true, true, true,
-    true, true, true, true, true, true, true, true, true, true, true, true, true, true, true, true,
-    true, true, true, true, true, true, true, true, true, true, true, true, true, true, true, true,
-    true, true, true, true, true, true, true, true, true, true, true, true, true, true, true, true,
-    true, true, true, true, true, true, true, true, true, true, true, true, true, true, true, true,
-    true, true, true, true, true, true, true, true, true,
-];
-
+// Whether the byte stands for itself in a string (RFC 8259, section 7).
+#[tactic(auto, unfolding(arrow_base::specs::JsonString::is_unescaped))]
 fn is_unescaped(byte: u8) -> bool
     ensures { result ≡ is_unescaped byte }
 {
-    UNESCAPED[byte as usize]
+    byte >= b' ' && byte != b'"' && byte != b'\\'
 }
 
 /// How many bytes are tested at once.

@@ -1,11 +1,11 @@
 //! Strings (RFC 8259, section 7).
-ghost use Rattle.std.specs.Prelude.{◌≡◌, ◌≢◌, ◌⊎◌, ◌+◌, ◌-◌, ◌*◌, ◌≤◌, ◌<◌, ◌++◌, ℕ, List, [], ◌∷◌, length, true, Ok, Err, OnOk, IfErr, MatchBool, MatchResult, MatchOption, IfSome, None, string_bytes};
+ghost use Rattle.std.specs.Prelude.{◌≡◌, ◌⊎◌, ◌≤◌, ◌<◌, length, MatchBool, MatchResult, IfSome};
 ghost use Rattle.std.specs.Char.{digit_value, encode_utf8};
 ghost use Rattle.std.specs.Str.{IsUtf8};
 ghost use Rattle.arrow_base.specs.JsonString.{short_escape, hexadecimal};
 ghost use Rattle.std.specs.Char.Utf16.{is_high_surrogate, is_low_surrogate};
-ghost use Rattle.json_tree.specs.Reading.{First, bind, found, wrong, unit_at, low_at, unicode_at, escape_at, chars_at, string_at};
-ghost use Rattle.json_tree.specs.Gives.{Gives, Fails};
+ghost use Rattle.json_tree.specs.Reading.{found, wrong, unit_at, low_at, unicode_at, escape_at, string_at};
+ghost use Rattle.json_tree.specs.Gives.{Gives};
 
 use crate::pieces::Pieces;
 use crate::reader::Reader;
@@ -14,14 +14,14 @@ use arrow_lists::Text;
 use std::alloc::Global;
 
 // The digit's value, and 16 or more where the byte is no hexadecimal digit.
-fn hexadecimal_digit(c: u8) -> u32
-    ensures value { result ≡ digit_value c }
-    ensures ascii { result < 16 → c < 128 }
+fn digit_value(byte: u8) -> u32
+    ensures value { result ≡ digit_value byte }
+    ensures ascii { result < 16 → byte < 128 }
 {
-    match c {
-        b'0'..=b'9' => (c - b'0') as u32,
-        b'A'..=b'Z' => (c - b'A') as u32 + 10,
-        b'a'..=b'z' => (c - b'a') as u32 + 10,
+    match byte {
+        b'0'..=b'9' => (byte - b'0') as u32,
+        b'A'..=b'Z' => (byte - b'A') as u32 + 10,
+        b'a'..=b'z' => (byte - b'a') as u32 + 10,
         _ => 36,
     }
 }
@@ -32,10 +32,10 @@ fn hexadecimal(a: u8, b: u8, c: u8, d: u8) -> Option<u32>
     ensures bounds { IfSome result (λ u. (u < 65536) × (d < 128)) }
 {
     let (a, b, c, d) = (
-        hexadecimal_digit(a),
-        hexadecimal_digit(b),
-        hexadecimal_digit(c),
-        hexadecimal_digit(d),
+        digit_value(a),
+        digit_value(b),
+        digit_value(c),
+        digit_value(d),
     );
     if (a < 16) & (b < 16) & (c < 16) & (d < 16) {
         Some(a * 4096 + b * 256 + c * 16 + d)
@@ -57,26 +57,26 @@ fn code_unit<'a>(reader: &mut Reader<'a>) -> Result<u32, JsonFault>
         return Err(JsonFault::Text);
     }
     match hexadecimal(rest[0], rest[1], rest[2], rest[3]) {
-        Some(u) => {
+        Some(unit) => {
             reader.advance(4);
-            Ok(u)
+            Ok(unit)
         }
         None => Err(JsonFault::Text),
     }
 }
 
-fn is_high_surrogate(u: u32) -> bool
-    ensures value { result ≡ is_high_surrogate u }
-    ensures range { MatchBool result ((0xd800 ≤ u) × (u < 0xdc00)) ((u < 0xd800) ⊎ (0xdc00 ≤ u)) }
+fn is_high_surrogate(unit: u32) -> bool
+    ensures value { result ≡ is_high_surrogate unit }
+    ensures range { MatchBool result ((0xd800 ≤ unit) × (unit < 0xdc00)) ((unit < 0xd800) ⊎ (0xdc00 ≤ unit)) }
 {
-    (0xd800 <= u) & (u < 0xdc00)
+    (0xd800 <= unit) & (unit < 0xdc00)
 }
 
-fn is_low_surrogate(u: u32) -> bool
-    ensures value { result ≡ is_low_surrogate u }
-    ensures range { MatchBool result ((0xdc00 ≤ u) × (u < 0xe000)) ((u < 0xdc00) ⊎ (0xe000 ≤ u)) }
+fn is_low_surrogate(unit: u32) -> bool
+    ensures value { result ≡ is_low_surrogate unit }
+    ensures range { MatchBool result ((0xdc00 ≤ unit) × (unit < 0xe000)) ((unit < 0xdc00) ⊎ (0xe000 ≤ unit)) }
 {
-    (0xdc00 <= u) & (u < 0xe000)
+    (0xdc00 <= unit) & (unit < 0xe000)
 }
 
 // The character of a pair of surrogates, whose first stands behind and whose second is ahead.
@@ -179,7 +179,7 @@ pub(crate) fn escaped_string<'a>(alloc: Global, reader: &mut Reader<'a>) -> Resu
     ensures reads { Gives (λ v. v) result reader.new (string_at reader.old) }
     ensures forward { length reader.new ≤ length reader.old }
 {
-    if !reader.opens_string() {
+    if !reader.takes(b'"') {
         return Err(JsonFault::Text);
     }
     let mut out = Pieces::new(alloc);

@@ -35,9 +35,7 @@ fn fault_of_front<'a>(alloc: Global, front: &'a [u8]) -> JsonFault
     ensures text { result ≡ JsonFault.Text → text_at 128 front.now ≡ deep → ⊥ }
 {
     match whole_text(alloc, front) {
-        Err(JsonFault::Depth) => JsonFault::Depth,
-        Err(JsonFault::Memory) => JsonFault::Memory,
-        Err(JsonFault::Text) => JsonFault::Text,
+        Err(fault) => fault,
         Ok(_) => JsonFault::Text,
     }
 }
@@ -50,8 +48,8 @@ fn fault_of_front<'a>(alloc: Global, front: &'a [u8]) -> JsonFault
 /// value. A text may have 128 brackets open at once.
 ///
 /// `Depth` comes exactly where some prefix of the bytes is a prefix of a JSON text and holds 129
-/// brackets that are open at its end. Else `Text` comes exactly where the bytes are no JSON text.
-/// `Memory` comes where there is none.
+/// brackets that are open at its end, whatever follows it. Else `Text` comes exactly where the bytes
+/// are no JSON text. `Memory` may come in place of any answer.
 pub fn parse(alloc: Global, bytes: &[u8]) -> Result<Value, JsonFault>
     ensures value { IfOk result (λ v. IsJson v bytes.now) }
     ensures shallow { IfOk result (λ v. HoldsTooMany bytes.now → ⊥) }

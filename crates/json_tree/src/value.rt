@@ -1,3 +1,4 @@
+//! The tree of values that a JSON text stands for.
 ghost use Rattle.std.specs.Prelude.{◌≡◌, true, Some, None, MatchOption};
 ghost use Rattle.json_tree.specs.Keys.{value_of, keys_of, distinct};
 ghost use Rattle.json_tree.specs.Tree.{null};
@@ -20,11 +21,17 @@ pub enum Number {
 #[cycle(types)]
 #[derive(Drop)]
 pub enum Value {
+    /// `null`.
     Null,
+    /// `true` or `false`.
     Bool(bool),
+    /// A number, as it is spelled.
     Number(Number),
+    /// The text that a string stands for, with a character in place of each escape.
     String(Text),
+    /// The items of an array, in the order of the text.
     Array(Items<Value>),
+    /// The members of an object, each key once, in the order in which the keys first stand.
     Object(Object),
 }
 

@@ -1,9 +1,9 @@
 //! Values, arrays and objects (RFC 8259, sections 3 to 5).
-ghost use Rattle.std.specs.Prelude.{◌≡◌, ◌≢◌, ◌≤◌, ◌<◌, ◌++◌, ℕ, List, [], ◌∷◌, length, Ok, Err, OnOk, IfErr, MatchBool, MatchResult};
-ghost use Rattle.json_tree.specs.Tree.{put, put_all, null, boolean, string};
+ghost use Rattle.std.specs.Prelude.{◌≡◌, ◌≢◌, ◌≤◌, ◌<◌, ◌++◌, [], ◌∷◌, length, OnOk, IfErr, MatchBool, MatchResult};
+ghost use Rattle.json_tree.specs.Tree.{null, boolean, string};
 ghost use Rattle.json_tree.specs.Grammar.{text_null};
-ghost use Rattle.json_tree.specs.Reading.{skip, First, strip, bind, found, wrong, deep, scalar_at, member_at, array_at, object_at, value_at, string_at};
-ghost use Rattle.json_tree.specs.Gives.{Gives, Fails};
+ghost use Rattle.json_tree.specs.Reading.{skip, First, strip, bind, found, wrong, scalar_at, array_at, object_at, value_at, string_at};
+ghost use Rattle.json_tree.specs.Gives.{Gives};
 
 use crate::members::Members;
 use crate::number::number;
@@ -58,11 +58,7 @@ fn closes<'a>(reader: &mut Reader<'a>, close: u8) -> bool
         ((reader.new ≡ skip reader.old) × First (λ x t. x ≢ close) (skip reader.old)) }
 {
     reader.skip_spaces();
-    if reader.peek() == Some(close) {
-        reader.next();
-        return true;
-    }
-    false
+    reader.takes(close)
 }
 
 // Whether a comma is next, behind white space, or the closing bracket. It is passed.
@@ -264,15 +260,10 @@ fn name_separator<'a>(reader: &mut Reader<'a>) -> Result<(), JsonFault>
         (λ e. (e ≡ JsonFault.Text) × First (λ x t. x ≢ 58) (skip reader.old)) }
 {
     reader.skip_spaces();
-    match reader.next() {
-        Some(byte) => {
-            if byte == b':' {
-                Ok(())
-            } else {
-                Err(JsonFault::Text)
-            }
-        }
-        None => Err(JsonFault::Text),
+    if reader.takes(b':') {
+        Ok(())
+    } else {
+        Err(JsonFault::Text)
     }
 }
 

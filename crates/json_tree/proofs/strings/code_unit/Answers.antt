@@ -10,7 +10,7 @@ pub returns-in-Some-clause-reads : goal.returns-in-Some-clause-reads
 returns-in-Some-clause-reads c =
     let r = c.rest-rest in
     let e = c.in-Some.ensures in
-    (unit-told c.args.reader.now r.result.now _ r.ensures c.if-rest-lt4.false e.value ∙ ap (found c.in-Some.u) (sym c.advance.ensures), e.bounds.0, unit-text c.args.reader.now r.result.now c.advance.new.self r.ensures c.if-rest-lt4.false c.requires e.bounds.1 c.advance.ensures)
+    (unit-told c.args.reader.now r.result.now _ r.ensures c.if-rest-lt4.false e.value ∙ ap (found c.in-Some.unit) (sym c.advance.ensures), e.bounds.0, unit-text c.args.reader.now r.result.now c.advance.new.self r.ensures c.if-rest-lt4.false c.requires e.bounds.1 c.advance.ensures)
 
 pub returns-in-None-clause-reads : goal.returns-in-None-clause-reads
 returns-in-None-clause-reads c = (refl, unit-told c.args.reader.now c.rest-rest.result.now _ c.rest-rest.ensures c.if-rest-lt4.false c.in-None.ensures.value)

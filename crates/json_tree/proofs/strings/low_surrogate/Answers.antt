@@ -1,9 +1,8 @@
-use Rattle.std.proofs.Common.{◌≡◌, ◌∙◌, ap, sym, refl, rules, arith}
+use Rattle.std.proofs.Common.{◌≡◌, ◌∙◌, ap, sym, refl, rules}
 use Rattle.std.proofs.lemmas.Result.{err_from_is_err_and}
 use Rattle.std.specs.Char.{encode_utf8}
 use Rattle.std.specs.Char.Utf16.{surrogate_pair_char}
 use Rattle.json_tree.specs.Reading.{found}
-use Rattle.json_tree.proofs.InTexts.{utf8_after}
 use Rattle.json_tree.proofs.Escapes.{low-slash, low-letter, low-unit, low-not, low-ok}
 use Rattle.json_tree.proofs.strings.low_surrogate.Goals as goal
 
@@ -12,11 +11,6 @@ returns-then-not-takes-clause-reads c = (refl, low-slash c.args.high c.args.read
 
 pub returns-then-not-takes-2-clause-reads : goal.returns-then-not-takes-2-clause-reads
 returns-then-not-takes-2-clause-reads c = (refl, low-letter c.args.high c.args.reader.now c.takes.new.self c.if-not-takes.ensures.taken c.if-not-takes-2.ensures.taken.1)
-
-pub code_unit-requires : goal.code_unit-requires
-code_unit-requires c =
-    let u = utf8_after c.args.reader.now c.takes.new.self 92 c.requires.text c.if-not-takes.ensures.taken (omega arith) in
-    utf8_after c.takes.new.self c.takes-2.new.self 117 u c.if-not-takes-2.ensures.taken (omega arith)
 
 pub returns-in_err-low-clause-reads : goal.returns-in_err-low-clause-reads
 returns-in_err-low-clause-reads c =
