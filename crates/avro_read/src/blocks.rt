@@ -25,7 +25,8 @@ use std::alloc::Global;
 /// The most bytes of a block.
 const MOST_BYTES: usize = 2_147_483_647;
 
-/// The columns of a block's kept fields: one for each, in order, of exactly the field's data type.
+/// The columns of a block's kept fields: one for each, in order, of exactly the field's data type
+/// (Avro 1.11, "Object Container Files" and "Binary Encoding").
 ///
 /// Ok: fields, Avro fields and projection belong together, and the block's whole bytes are its
 /// stated number of rows, of which the columns hold the kept slots. In this order:
@@ -34,7 +35,7 @@ const MOST_BYTES: usize = 2_147_483_647;
 /// schema isn't carried, `InvalidArgumentError(FieldType)` where a field hasn't the type and the
 /// nullability of its schema, `Overflow` where the block has more than 2147483647 bytes,
 /// `ExternalFormat(Rows)` where it states more rows than it has bytes, and
-/// `ExternalFormat(BlockBytes)` where its bytes aren't its rows.
+/// `ExternalFormat(BlockBytes)` where its bytes aren't its rows. `OutOfMemory` at any time.
 pub fn deserialize(
     alloc: Global,
     block: &Block,
@@ -60,7 +61,7 @@ pub fn deserialize(
 ///
 /// The builders are empty at every node, and of the kinds that `make_builders` gives for these
 /// lists. Ok: no byte is left, and the builders hold the columns. The refusals are those of
-/// `deserialize` from `Overflow` on, over the bytes ahead.
+/// `deserialize` from `Overflow` on, over the bytes ahead, and `OutOfMemory`.
 ///
 /// With n bytes ahead, on every answer: kinds and data types of the builders stay; no node has more
 /// than n slots, all nodes together have no more than n content bytes, and none has lost room; the

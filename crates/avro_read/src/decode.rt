@@ -288,13 +288,7 @@ pub fn read_length<'a, C: Cursor<'a>>(cursor: &mut C) -> Option<usize>
     ensures costs { OnSome result (CostsNumber C.rest C.shown C.calls cursor.old cursor.new) }
     ensures reads { MatchOption result (length_at (C.rest cursor.old) ≡ None) (λ n. length_at (C.rest cursor.old) ≡ Some (n, C.rest cursor.new)) }
 {
-    match read_number(cursor) {
-        Some(number) => match usize::try_from(number) {
-            Ok(length) => Some(length),
-            Err(_) => None,
-        },
-        None => None,
-    }
+    usize::try_from(read_number(cursor)?).ok()
 }
 
 /// The answer of a push that only want of memory can refuse, as the decoder tells it.

@@ -10,7 +10,7 @@ pub fn valid_blocks_are_read()
 
 /// Builders that were reserved once for n bytes, and then filled by `deserialize_into`, whatever it
 /// answered, and cleared, are empty again and have room for n bytes. So they read block after block
-/// of at most n bytes, and memory is asked for no more.
+/// of at most n bytes, and never want memory.
 pub fn reserved_room_stays()
     ensures { ReservedRoomStays }
 {}

@@ -9,6 +9,8 @@ mod laws;
 mod nested;
 mod rows;
 mod schema;
+#[cfg(test)]
+mod schema_tests;
 mod skip;
 #[cfg(test)]
 mod tests;

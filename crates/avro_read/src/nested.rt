@@ -43,6 +43,7 @@ fn check_fields(fields: &[Field], avro_fields: &[AvroField], projection: &[bool]
 /// projection differ, `NotYetImplemented(NoField)` where there is no field,
 /// `NotYetImplemented(NotCarried)` where a schema isn't carried,
 /// `InvalidArgumentError(FieldType)` where a field hasn't the type and nullability of its schema.
+/// `OutOfMemory` at any time.
 pub fn make_builders(
     alloc: Global,
     fields: &[Field],

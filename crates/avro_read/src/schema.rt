@@ -26,14 +26,16 @@ const ITEM: &str = "item";
 /// The metadata key of an Avro doc.
 const DOC: &str = "avro::doc";
 
-/// The fields of the columns that hold a record's fields, in the record's order.
+/// The fields of the columns that hold a record's fields, in the record's order (Avro 1.11,
+/// "Schema Declaration").
 ///
 /// Each field has the name of its Avro field. It is nullable exactly where its schema is a union
 /// of null and another type. A field whose schema is itself a record or an enum with a doc keeps
-/// that doc in its metadata.
+/// that doc in its metadata; a field of a nested record keeps the doc of its Avro field.
 ///
 /// `NotYetImplemented(MapOrUnion)` exactly where, at any depth, a map stands, or a union that
-/// isn't two members of which one is null and the other neither null nor a union.
+/// isn't two members of which one is null and the other neither null nor a union. `OutOfMemory`
+/// at any time.
 pub fn infer_schema(alloc: Global, root: &Record) -> Result<Schema>
     ensures fields { IfOk result (λ schema. inferred_columns (out-Record root.now).fields ≡ Some schema.fields) }
     ensures metadata { IfOk result (λ schema. schema.metadata ≡ []) }
@@ -58,7 +60,7 @@ fn own_doc(field: &AvroField) -> Option<&Text>
 {
     match &field.schema {
         AvroSchema::Record(record) => record.doc.as_ref(),
-        AvroSchema::Enum(symbols) => symbols.doc.as_ref(),
+        AvroSchema::Enum(enumeration) => enumeration.doc.as_ref(),
         _ => None,
     }
 }
@@ -98,7 +100,7 @@ fn infer_column(alloc: Global, schema: &AvroSchema) -> Result<(DataType, bool)>
         AvroSchema::Array(item) => {
             let (data_type, is_nullable) = infer_column(alloc, item.get())?;
             let name = Text::try_from_str(alloc, ITEM)?;
-            let field = named_field(alloc, &name, data_type, is_nullable, None)?;
+            let field = Field::new(alloc, name, data_type, is_nullable);
             Ok((DataType::List(Box::new(alloc, field)?), false))
         }
         AvroSchema::Map(_) => Err(Error::NotYetImplemented(Reason::MapOrUnion)),

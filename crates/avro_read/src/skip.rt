@@ -1,4 +1,5 @@
-//! Values that are passed over. Their contents are jumped over and never looked at.
+//! Values that are passed over. No more of them is looked at than tells how long they are; the rest is
+//! jumped over.
 
 ghost use Rattle.std.specs.Prelude.{◌≡◌, ◌⊎◌, ◌+◌, ◌≤◌, length, OnOk};
 ghost use Rattle.avro_grammar.specs.Spells.{IsNull};

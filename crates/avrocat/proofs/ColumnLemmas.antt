@@ -1,45 +1,86 @@
--- The columns of fields, one after another.
-use Rattle.std.proofs.Common.{◌≡◌, ℕ, ◌+◌, ◌<◌, ◌≤◌, false, Option, Some, None, MatchOption, List, [], ◌∷◌, ◌++◌, length, take, get_or, sym, ap, ◌∙◌, refl, subst}
-use Rattle.std.specs.List.{AllZip}
-use Rattle.std.proofs.lemmas.List.{take_more, take_all}
-use Rattle.arrow_types.specs.declared.types.DataType.{DataType}
+-- The columns that are made from a record have the types of its fields, and each carried field has one.
+use Rattle.std.proofs.Common.{◌≡◌, ◌∙◌, inl, inr, ℕ, suc, Option, Some, None, List, [], ◌∷◌, refl, sym, subst, arith}
+use Rattle.std.proofs.lemmas.Option.{none-some, same_Some}
+use Rattle.arrow_types.specs.declared.types.DataType.{DataType, Struct}
 use Rattle.arrow_types.specs.declared.types.Field.{Field}
 use Rattle.avro_file.specs.declared.schema.AvroField.{AvroField}
-use Rattle.avro_file.specs.declared.schema.Schema.{Schema, Union}
-use Rattle.avro_file.specs.declared.schema.Schema.TheBlock.{shape-the_row-Schema-1, hidden-the_row-Schema-1}
-use Rattle.avro_reading.specs.Types.{HasType, Typed}
-use Rattle.avro_reading.specs.TypeLaws.{HasMemberTypeOf}
-use Rattle.avro_read.specs.Today.{CarriedToday, CarriedMembersOf, AllCarriedToday, FitToday}
-use Rattle.avro_read.proofs.Today.{carried_union}
+use Rattle.avro_file.specs.declared.schema.Record.{Record as TheRecord, out-Record}
+use Rattle.avro_file.specs.declared.schema.Schema.{Schema, Null, Boolean, Int, Long, String, Record, Union', Row_of-Schema, end_of-Schema, more_of-Schema}
+use Rattle.avro_reading.specs.Front.{◌>>=◌}
+use Rattle.avro_reading.specs.Inferred.{column, inferred, inferred_member, columns_of, HasMapOrUnion}
+use Rattle.avro_reading.proofs.InferredLemmas.{inferred_is_typed, not_inferred}
+use Rattle.avro_read.specs.Today.{IsFlatToday, CarriedPair, CarriedMembers, CarriedToday, AllCarriedToday, FitToday}
+use Rattle.avro_read.proofs.Inferring.{record_some}
 
-union_type : (members : List Schema) (t : DataType) → HasType false (Union members) t ≡ HasMemberTypeOf false members t
-unfolding shape-the_row-Schema-1 hidden-the_row-Schema-1 denote.Hole.Carrier.hidden
-union_type [] t = refl
-union_type (s ∷ []) t = refl
-union_type (s ∷ u ∷ []) t = refl
-union_type (s ∷ u ∷ v ∷ more) t = refl
+-- ---- types
 
--- a union's column, by its members
-pub at_union : (s : Schema) (members slice : List Schema) (r : Option DataType) → s ≡ Union members → slice ≡ members
-    → MatchOption r (CarriedMembersOf slice → ⊥) (λ t. HasMemberTypeOf false slice t) → MatchOption r (CarriedToday s → ⊥) (λ t. HasType false s t)
-at_union s members slice None e m h = λ c. h (subst (λ T. T) (ap (λ (x : Schema). CarriedToday x) e ∙ carried_union members ∙ ap (λ (x : List Schema). CarriedMembersOf x) (sym m)) c)
-at_union s members slice (Some t) e m h = subst (λ T. T) (sym (ap (λ (x : Schema). HasType false x t) e ∙ union_type members t ∙ ap (λ (x : List Schema). HasMemberTypeOf false x t) (sym m))) h
+pub columns_fit : (doc : AvroField → Option (List ℕ)) (xs : List AvroField) (fs : List Field) → columns_of doc xs ≡ Some fs → FitToday fs xs
+columns_fit doc [] fs h = subst (λ gs. FitToday gs []) (same_Some [] fs h) tt
+columns_fit doc (a ∷ xs) fs h = from (inferred a.schema) refl h (columns_fit doc xs)
+  where
+    inner : (t : DataType) (o : Option (List Field)) → inferred a.schema ≡ Some t → columns_of doc xs ≡ o → (o >>= λ gs. Some (column a.name (doc a) a.schema t ∷ gs)) ≡ Some fs → ((gs : List Field) → columns_of doc xs ≡ Some gs → FitToday gs xs) → FitToday fs (a ∷ xs)
+    inner t None e q k rest = absurd (none-some fs k)
+    inner t (Some gs) e q k rest = subst (λ z. FitToday z (a ∷ xs)) (same_Some _ fs k) (inferred_is_typed a.name (doc a) a.schema t e, rest gs q)
 
-zip_push : {A B : Type 0} (R : A → B → Type 0) (xs : List A) (ys : List B) (x : A) (y : B) → AllZip R xs ys → R x y → AllZip R (xs ++ x ∷ []) (ys ++ y ∷ [])
-zip_push R [] [] x y h r = (r, tt)
-zip_push R [] (z ∷ zs) x y h r = absurd h
-zip_push R (z ∷ zs) [] x y h r = absurd h
-zip_push R (z ∷ zs) (w ∷ ws) x y h r = (h.0, zip_push R zs ws x y h.1 r)
+    from : (o : Option DataType) → inferred a.schema ≡ o → (o >>= λ t. columns_of doc xs >>= λ gs. Some (column a.name (doc a) a.schema t ∷ gs)) ≡ Some fs → ((gs : List Field) → columns_of doc xs ≡ Some gs → FitToday gs xs) → FitToday fs (a ∷ xs)
+    from None e k rest = absurd (none-some fs k)
+    from (Some t) e k rest = inner t (columns_of doc xs) e refl k rest
 
--- one column more
-pub fit_next : (fields : List Field) (avro_fields : List AvroField) (i : ℕ) (a : AvroField) (f : Field) → i < length avro_fields → a ≡ get_or avro_fields i a
-    → FitToday fields (take i avro_fields) → Typed a.schema f → FitToday (fields ++ f ∷ []) (take (i + 1) avro_fields)
-fit_next fields avro_fields i a f lt is h typed =
-    let longer : take (i + 1) avro_fields ≡ take i avro_fields ++ (a ∷ []) = take_more avro_fields i a lt ∙ ap (λ (z : AvroField). take i avro_fields ++ (z ∷ [])) (sym is) in
-    subst (λ z. FitToday (fields ++ f ∷ []) z) (sym longer) (zip_push (λ (g : Field) (b : AvroField). Typed b.schema g) fields (take i avro_fields) f a h typed)
+-- ---- carried schemas
 
-pub fit_all : (fields : List Field) (avro_fields : List AvroField) (i : ℕ) → length avro_fields ≤ i → FitToday fields (take i avro_fields) → FitToday fields avro_fields
-fit_all fields avro_fields i le h = subst (λ z. FitToday fields z) (take_all i avro_fields le) h
+flat_has_type : (s : Schema) → IsFlatToday s → inferred s ≡ None → ⊥
+flat_has_type Boolean c h = none-some _ (sym h)
+flat_has_type (Int logical) c h = none-some _ (sym h)
+flat_has_type (Long logical) c h = none-some _ (sym h)
+flat_has_type (String logical) c h = none-some _ (sym h)
+flat_has_type _ c h = c
 
-pub not_all : (avro_fields : List AvroField) (i : ℕ) (a : AvroField) → i < length avro_fields → a ≡ get_or avro_fields i a → (CarriedToday a.schema → ⊥) → AllCarriedToday avro_fields → ⊥
-not_all avro_fields i a lt is none all = none (subst (λ (z : AvroField). CarriedToday z.schema) (sym is) (all i a lt))
+null_first : (u : Schema) → IsFlatToday u → inferred_member (more_of-Schema Null (more_of-Schema u end_of-Schema)) ≡ None → ⊥
+null_first Boolean c h = none-some _ (sym h)
+null_first (Int logical) c h = none-some _ (sym h)
+null_first (Long logical) c h = none-some _ (sym h)
+null_first (String logical) c h = none-some _ (sym h)
+null_first _ c h = c
+
+null_second : (s : Schema) → IsFlatToday s → inferred_member (more_of-Schema s (more_of-Schema Null end_of-Schema)) ≡ None → ⊥
+null_second Boolean c h = none-some _ (sym h)
+null_second (Int logical) c h = none-some _ (sym h)
+null_second (Long logical) c h = none-some _ (sym h)
+null_second (String logical) c h = none-some _ (sym h)
+null_second _ c h = c
+
+pair_has_type : (s u : Schema) → CarriedPair s u → inferred_member (more_of-Schema s (more_of-Schema u end_of-Schema)) ≡ None → ⊥
+pair_has_type Null u (inl (n, c)) h = null_first u c h
+pair_has_type _ u (inl (n, c)) h = n
+pair_has_type s Null (inr (c, n)) h = null_second s c h
+pair_has_type s _ (inr (c, n)) h = n
+
+members_have_type : {m : _} (row : Row_of-Schema m) → CarriedMembers row → inferred_member row ≡ None → ⊥
+members_have_type end_of-Schema c h = c
+members_have_type (more_of-Schema s end_of-Schema) c h = c
+members_have_type (more_of-Schema s (more_of-Schema u end_of-Schema)) c h = pair_has_type s u c h
+members_have_type (more_of-Schema s (more_of-Schema u (more_of-Schema v rest))) c h = c
+
+carried_has_type : (s : Schema) → CarriedToday s → inferred s ≡ None → ⊥
+carried_has_type (Union' shape members) c h = members_have_type members c h
+carried_has_type s c h = flat_has_type s c h
+
+carried_have_types : (doc : AvroField → Option (List ℕ)) (xs : List AvroField) → AllCarriedToday xs → columns_of doc xs ≡ None → ⊥
+carried_have_types doc [] all h = none-some [] (sym h)
+carried_have_types doc (a ∷ xs) all h = from (inferred a.schema) refl h (carried_have_types doc xs (λ k d lt. all (suc k) d (omega (arith, lt))))
+  where
+    inner : (t : DataType) (o : Option (List Field)) → columns_of doc xs ≡ o → (o >>= λ gs. Some (column a.name (doc a) a.schema t ∷ gs)) ≡ None → (columns_of doc xs ≡ None → ⊥) → ⊥
+    inner t None q k rest = rest q
+    inner t (Some gs) q k rest = none-some _ (sym k)
+
+    from : (o : Option DataType) → inferred a.schema ≡ o → (o >>= λ t. columns_of doc xs >>= λ gs. Some (column a.name (doc a) a.schema t ∷ gs)) ≡ None → (columns_of doc xs ≡ None → ⊥) → ⊥
+    from None e k rest = carried_has_type a.schema (all 0 a (omega arith)) e
+    from (Some t) e k rest = inner t (columns_of doc xs) refl k rest
+
+-- where no column can be made, a field is not carried
+pub none_is_carried : (r : TheRecord) → HasMapOrUnion (Record r) → AllCarriedToday (out-Record r).fields → ⊥
+none_is_carried r m all = from (columns_of (λ a. a.doc) (out-Record r).fields) refl
+  where
+    from : (o : Option (List Field)) → columns_of (λ a. a.doc) (out-Record r).fields ≡ o → ⊥
+    from None e = carried_have_types (λ a. a.doc) (out-Record r).fields all e
+    from (Some gs) e = none-some (Struct gs) (sym ((not_inferred (Record r)).1 m) ∙ record_some r gs e)

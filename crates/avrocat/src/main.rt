@@ -1,4 +1,4 @@
-//! `avrocat`: Avro and JSON records into columns and back, on standard input and output.
+//! `avrocat`: the columns of one Avro block, from standard input, as lines on standard output.
 #![tactic(auto)]
 
 ghost use Rattle.std.specs.Prelude.{◌≡◌, [], length, map, drop, string_bytes, IfOk, IfErr, IsErr};
@@ -10,6 +10,8 @@ mod columns;
 mod field;
 mod input;
 mod lines;
+#[cfg(test)]
+mod lines_tests;
 mod note;
 mod run;
 #[cfg(test)]

@@ -8,20 +8,24 @@ ghost use Rattle.avrocat.specs.Note.{usage_note, error_note, note_line};
 use arrow_base::{Error, Result, Sink, write_all};
 use itoa::Buffer;
 
-/// Writes the note of words that are no command.
+/// Writes the note of words that are no command. `WriteFault` comes where a write failed; the sink
+/// then took a prefix of the note.
 pub fn note_usage<N: Sink>(note: &mut N) -> Result<()>
     ensures ok { OnOk result (Appends (N.held note.old) (N.held note.new) usage_note) }
     ensures prefix { OnErr result (AppendsPrefix (N.held note.old) (N.held note.new) usage_note) }
+    ensures only { IfErr result (λ e. e ≡ WriteFault) }
     ensures cause { OnErr result (RoseOrFull (N.faults note.old) (N.faults note.new)) }
     ensures never_falls { N.faults note.old ≤ N.faults note.new }
 {
     write_all(note, b"avrocat: usage\n")
 }
 
-/// Writes the note of an error: its name, then its reason or line where it has one.
+/// Writes the note of an error: its name, then its reason or line where it has one. `WriteFault`
+/// comes where a write failed; the sink then took a prefix of the note.
 pub fn note_error<N: Sink>(note: &mut N, error: Error) -> Result<()>
     ensures ok { OnOk result (Appends (N.held note.old) (N.held note.new) (error_note error)) }
     ensures prefix { OnErr result (AppendsPrefix (N.held note.old) (N.held note.new) (error_note error)) }
+    ensures only { IfErr result (λ e. e ≡ WriteFault) }
     ensures cause { OnErr result (RoseOrFull (N.faults note.old) (N.faults note.new)) }
     ensures never_falls { N.faults note.old ≤ N.faults note.new }
 {
@@ -47,6 +51,7 @@ pub fn note_error<N: Sink>(note: &mut N, error: Error) -> Result<()>
 fn write_line<N: Sink>(note: &mut N, name: &[u8], mark: &[u8], detail: &[u8]) -> Result<()>
     ensures ok { OnOk result (Appends (N.held note.old) (N.held note.new) (note_line name.now mark.now detail.now)) }
     ensures prefix { OnErr result (AppendsPrefix (N.held note.old) (N.held note.new) (note_line name.now mark.now detail.now)) }
+    ensures only { IfErr result (λ e. e ≡ WriteFault) }
     ensures cause { OnErr result (RoseOrFull (N.faults note.old) (N.faults note.new)) }
     ensures never_falls { N.faults note.old ≤ N.faults note.new }
 {
@@ -59,6 +64,7 @@ fn write_line<N: Sink>(note: &mut N, name: &[u8], mark: &[u8], detail: &[u8]) ->
 fn write_both<N: Sink>(note: &mut N, first: &[u8], second: &[u8]) -> Result<()>
     ensures ok { OnOk result (Appends (N.held note.old) (N.held note.new) (first.now ++ second.now)) }
     ensures prefix { OnErr result (AppendsPrefix (N.held note.old) (N.held note.new) (first.now ++ second.now)) }
+    ensures only { IfErr result (λ e. e ≡ WriteFault) }
     ensures cause { OnErr result (RoseOrFull (N.faults note.old) (N.faults note.new)) }
     ensures never_falls { N.faults note.old ≤ N.faults note.new }
 {

@@ -18,14 +18,17 @@ use crate::input::read_all;
 use crate::lines::Lines;
 use crate::note::{note_error, note_usage};
 use crate::words::{BlockWords, Command, WordsFault, read_words};
-use arrow_base::{Bytes, Error, Result, Sink, Source, Text, write_all};
+use arrow_base::{Bytes, Error, Items, Result, Sink, Source, Text, write_all};
 use arrow_types::Field;
-use avro_file::{AvroField, Block};
+use avro_file::{AvroField, Block, Record};
 use avro_read::deserialize;
 use std::alloc::Global;
 
 /// The status where the words are no command.
 const USAGE: u8 = 1;
+
+/// The name of the record that a row is. Nothing asks for it.
+const ROW: &str = "row";
 
 /// Does all that the program does, and answers its exit status.
 ///
@@ -117,8 +120,13 @@ fn block_lines(alloc: Global, words: BlockWords, bytes: Vec<u8>) -> Result<Lines
         avro_fields,
         projection,
     } = words;
-    let avro_fields = avro_fields.as_slice();
-    let fields = columns_of(alloc, avro_fields)?;
+    let record = Record {
+        name: Text::try_from_str(alloc, ROW)?,
+        namespace: None,
+        doc: None,
+        fields: Items::from_vec(avro_fields),
+    };
+    let fields = columns_of(alloc, &record)?;
     let block = Block {
         number_of_rows: rows,
         bytes: Bytes::from_vec(bytes),
@@ -127,7 +135,7 @@ fn block_lines(alloc: Global, words: BlockWords, bytes: Vec<u8>) -> Result<Lines
         alloc,
         &block,
         fields.as_slice(),
-        avro_fields,
+        record.fields.as_slice(),
         projection.as_slice(),
     )
 }

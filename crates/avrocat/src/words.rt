@@ -18,8 +18,10 @@ const MOST_DIGITS: usize = 20;
 /// Why words are no command that can be carried out.
 #[derive(Debug, Drop, Error)]
 pub enum WordsFault {
+    /// They are no command.
     #[error("the words are no command")]
     Usage,
+    /// There is no memory for what they say.
     #[error("there is no memory for the words")]
     Memory,
 }

@@ -37,7 +37,7 @@ pub infer_column-returns-in_ok-new-in-Array-clause-data_type :
     goal.infer_column-returns-in_ok-new-in-Array-clause-data_type
 infer_column-returns-in_ok-new-in-Array-clause-data_type t c =
     let e = c.in_ok-data_type-in-Array.ensures in
-    let f = rw c.in_ok-name-in-Array.ensures.copy at c.in_ok-field-in-Array.ensures.ok in
+    let f = rw c.in_ok-name-in-Array.ensures.copy at c.new-field.ensures in
     rw c.in-Array.is (array_some c.in-Array.item _ _ _ (rw c.get.ensures at e.data_type) (rw c.get.ensures at e.nullable) (c.in_ok-new-in-Array.ensures.holds ∙ f))
 
 pub infer_fields-returns-in_err-data_type-clause-err :

@@ -1,10 +1,14 @@
--- One column more fits one field more.
-use Rattle.avro_reading.specs.Types.{Typed}
-use Rattle.avrocat.proofs.ColumnLemmas.{fit_next}
+-- The columns that are made are those of the fields; where none are made, a field is not carried.
+use Rattle.std.proofs.Common.{inr, refl}
+use Rattle.avro_reading.specs.Inferred.{own_doc}
+use Rattle.avrocat.proofs.ColumnLemmas.{columns_fit, none_is_carried}
 use Rattle.avrocat.proofs.columns.columns_of.Goals as goal
 
-pub loop-avro_field-preserved : goal.loop-avro_field-preserved
-loop-avro_field-preserved c =
-    let typed : Typed c.avro_field-item.result.schema c.new.result = rw c.new.ensures (c.is_union-is_nullable.ensures, c.in-Some.ensures) in
-    rw c.in_ok-push.ensures.items
-    (fit_next c.loop-avro_field.fields.items c.args.avro_fields.now c.loop-avro_field.avro_field-index c.avro_field-item.result c.new.result c.loop-avro_field-test.true c.avro_field-item.is c.loop-avro_field.invariant typed)
+pub returns-in-Ok-clause-fit : goal.returns-in-Ok-clause-fit
+returns-in-Ok-clause-fit c = columns_fit own_doc _ _ c.in-Ok.ensures.fields
+
+pub returns-in-Err-NotYetImplemented-MapOrUnion-clause-err :
+    goal.returns-in-Err-NotYetImplemented-MapOrUnion-clause-err
+returns-in-Err-NotYetImplemented-MapOrUnion-clause-err c =
+    let w = c.in-Err-NotYetImplemented-MapOrUnion in
+    inr (refl, none_is_carried c.args.root.now (rw (w.field-0-is, w.field-0-0-is) at w.ensures.err))

@@ -4,7 +4,6 @@ use Rattle.std.proofs.Math.Seq.{take-length}
 use Rattle.std.proofs.lemmas.Result.{on_ok_weaker}
 use Rattle.arrow_types.specs.declared.slot.Slot.TheVariants as slot
 use Rattle.arrow_array.specs.Arrays.{array_slots}
-use Rattle.arrow_array.specs.Slots.{slot_at}
 use Rattle.avrocat.specs.Shown.{joined, slot_text}
 use Rattle.avrocat.proofs.Joined.{joined_more}
 use Rattle.avrocat.proofs.SlotTexts.{list_done, record_done, field_at, fields_at, fields_length}
