@@ -1,4 +1,4 @@
--- The JSON string that is written for a text.
+-- The JSON string that is written for a text (RFC 8259, section 7).
 use Rattle.std.specs.Prelude.{ℕ, ◌/◌, ◌%◌, ◌==◌, nat_lt, if◌then◌else◌, List, [], ◌∷◌, ◌++◌, flat_map}
 use Rattle.std.specs.Char.{digit_char}
 use Rattle.arrow_base.specs.declared.utf8.CharEscape.{CharEscape}

@@ -18,7 +18,8 @@ impl Calls {
         Calls { failing, made: 0 }
     }
 
-    // Counts one more call, and says whether it is to fail. A number beyond 64 bits is listed nowhere.
+    // Counts one more call, and says whether it is to fail. A number beyond 64 bits is listed
+    // nowhere.
     pub(crate) fn is_next_to_fail(&mut self) -> bool
         ensures listed { result ≡ is_among self.old.failing (self.old.made + 1) }
         ensures counted { self.new.made ≡ one_more self.old.made }

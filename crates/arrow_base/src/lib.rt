@@ -1,5 +1,5 @@
-//! Where bytes come from and where they go, and the JSON string of a text. Also, by their names here, the errors, list
-//! types and types of columns of the crates below.
+//! Where bytes come from and where they go, and the JSON string of a text. Also, by their names
+//! here, the errors, list types and types of columns of the crates below.
 #![tactic(auto)]
 
 mod calls;

@@ -9,8 +9,8 @@ use crate::sink::Sink;
 use arrow_lists::{Error, Items, Result};
 use std::alloc::Global;
 
-/// A sink in memory with room for so many bytes, which takes them in pieces and fails at the writes that it was told to
-/// fail at, and where no room is left.
+/// A sink in memory with room for so many bytes, which takes them in pieces and fails at the writes
+/// that it was told to fail at, and where no room is left.
 #[derive(Drop)]
 pub struct MemorySink {
     bytes: Vec<u8>,
@@ -26,8 +26,9 @@ pub struct MemorySink {
 impl MemorySink {
     ghost use Rattle.arrow_base.specs.MemorySink.{held_of, room_of, piece_of, failing_of, writes_of, faults_of};
 
-    /// A sink with room for `room` bytes, which are reserved at once. A write takes at most `piece` bytes, and the writes
-    /// whose numbers, counted from 1, are in `failing` fail. `OutOfMemory` where the room can't be reserved.
+    /// A sink with room for `room` bytes, which are reserved at once. A write takes at most `piece`
+    /// bytes, which is at least 1, and the writes whose numbers, counted from 1, are in `failing`
+    /// fail. `OutOfMemory` where the room can't be reserved.
     pub fn with_room(
         alloc: Global,
         room: usize,

@@ -8,7 +8,8 @@ use crate::pieces::Pieces;
 use crate::source::Source;
 use arrow_lists::{Bytes, Items};
 
-/// Bytes in memory as a source, which gives them in pieces and fails at the reads that it was told to fail at.
+/// Bytes in memory as a source, which gives them in pieces and fails at the reads that it was told
+/// to fail at.
 #[derive(Drop)]
 pub struct MemorySource {
     pieces: Pieces,
@@ -19,8 +20,8 @@ pub struct MemorySource {
 impl MemorySource {
     ghost use Rattle.arrow_base.specs.MemorySource.{left_of, piece_of, failing_of, reads_of, faults_of};
 
-    /// A source of these bytes. A read gives at most `piece` of them, and the reads whose numbers, counted from 1, are in
-    /// `failing` fail.
+    /// A source of these bytes. A read gives at most `piece` of them, which is at least 1, and the
+    /// reads whose numbers, counted from 1, are in `failing` fail.
     pub fn new(bytes: Bytes, piece: usize, failing: Items<u64>) -> MemorySource
         requires { 1 ≤ piece }
         ensures left { left_of result ≡ bytes }

@@ -17,8 +17,9 @@ pub trait Sink {
     // Which reference it is, where it is one.
     ghost whose: { Self → ℕ } = { λ _. 0 };
 
-    /// Takes the first of the bytes, at least one, and answers how many. `Failed` is answered only where the count of
-    /// faults rose, or stands at its last value; no byte was taken then.
+    /// Takes the first of the bytes, of which there is one at least, and answers how many, which is
+    /// at least 1. `Failed` is answered only where the count of faults rose, or stands at its last
+    /// value; no byte was taken then.
     fn write(&mut self, bytes: &[u8]) -> std::result::Result<usize, Failed>
         requires { 0 < length bytes.now }
         ensures count { IfOk result (IsInRange 1 (length bytes.now)) }
@@ -45,8 +46,8 @@ impl<S: Sink> Sink for &mut S {
     ghost bounded = { λ s. S.bounded s.now };
 }
 
-/// Writes all of the bytes, by as many writes as the sink needs. `WriteFault` comes where a write failed; the sink then took
-/// a prefix of the bytes. Takes no memory.
+/// Writes all of the bytes, by as many writes as the sink needs. `WriteFault` comes where a write
+/// failed; the sink then took a prefix of the bytes. Takes no memory.
 pub fn write_all<K: Sink>(sink: &mut K, bytes: &[u8]) -> Result<()>
     ensures ok { OnOk result (Appends (K.held sink.old) (K.held sink.new) bytes.now) }
     ensures only { IfErr result (λ e. e ≡ Error.WriteFault) }

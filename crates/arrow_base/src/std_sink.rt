@@ -7,7 +7,8 @@ use crate::faults::{Failed, Faults};
 use crate::sink::Sink;
 use std::io::Write;
 
-/// A real writer as a sink, which is flushed after each write. It tells no bytes. A writer that takes nothing has failed.
+/// A real writer as a sink, which is flushed after each write. It tells no bytes. A writer that
+/// takes nothing has failed.
 #[derive(Drop)]
 pub struct StdSink<W> {
     writer: W,

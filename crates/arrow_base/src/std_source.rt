@@ -4,8 +4,8 @@ use crate::faults::{Failed, Faults};
 use crate::source::Source;
 use std::io::Read;
 
-/// A real reader as a source. It tells the bytes that its reader tells: none, where that is a file or a pipe. Each error of
-/// the reader counts as a fault.
+/// A real reader as a source. It tells the bytes that its reader tells: none, where that is a file
+/// or a pipe. Each error of the reader counts as a fault.
 #[derive(Drop)]
 pub struct StdSource<R> {
     reader: R,

@@ -15,7 +15,8 @@ pub struct SteadySource {
 impl SteadySource {
     ghost use Rattle.arrow_base.specs.SteadySource.{left_of, piece_of};
 
-    /// A source of these bytes, which gives at most `piece` of them in one read.
+    /// A source of these bytes, which gives at most `piece` of them in one read. `piece` is at
+    /// least 1.
     pub fn new(bytes: Bytes, piece: usize) -> SteadySource
         requires { 1 ≤ piece }
         ensures left { left_of result ≡ bytes }

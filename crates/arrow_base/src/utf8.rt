@@ -89,7 +89,8 @@ fn write_escape<K: Sink>(sink: &mut K, escape: CharEscape) -> Result<()>
     }
 }
 
-// Whether a byte of the block needs an escape. It has no early exit, so that all bytes are compared at once.
+// Whether a byte of the block needs an escape. It has no early exit, so that all bytes are compared
+// at once.
 fn has_escape(block: &[u8; BLOCK]) -> bool
     ensures { OnFalse result (flat_map escaped block.now ≡ block.now) }
 {
@@ -148,9 +149,10 @@ fn write_escaped<K: Sink>(sink: &mut K, text: &[u8]) -> Result<()>
     write_all(sink, rest)
 }
 
-/// Appends the JSON string of `value`: in quotation marks, with a [`CharEscape`] in place of each quotation mark, reverse
-/// solidus and byte below 0x20. It is a string of RFC 8259, section 7, and `value` is its one meaning. `WriteFault` comes
-/// where a write failed; the sink then took a prefix of the string. Takes no memory.
+/// Appends the JSON string of `value`: in quotation marks, with a [`CharEscape`] in place of each
+/// quotation mark, reverse solidus and byte below 0x20. It is a string of RFC 8259, section 7, and
+/// `value` is its one meaning. `WriteFault` comes where a write failed; the sink then took a prefix
+/// of the string. Takes no memory.
 pub fn write_str<K: Sink>(sink: &mut K, value: &str) -> Result<()>
     ensures ok { OnOk result (Appends (K.held sink.old) (K.held sink.new) (json_string value.now)) }
     ensures reads_back { JsonString (json_string value.now) value.now }

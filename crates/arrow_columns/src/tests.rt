@@ -35,19 +35,19 @@ fn large_lists(alloc: Global) -> ArrowResult<LargeListArray> {
     LargeListArray::try_new(alloc, data_type, offsets, values, None)
 }
 
-/// The record of 1.
+/// The records of 1 and of 2.
 fn records(alloc: Global) -> ArrowResult<StructArray> {
     let mut values = Vec::new(alloc);
-    values.push(numbers(alloc, &[1])?)?;
+    values.push(numbers(alloc, &[1, 2])?)?;
     let mut fields = Vec::new(alloc);
     fields.push(item(alloc)?)?;
     let data_type = DataType::Struct(Items::from_vec(fields));
     StructArray::try_new(alloc, data_type, values, None)
 }
 
-/// The list [1, 2], of two items as each list is.
+/// The lists [1, 2] and [3, 4].
 fn fixed_lists(alloc: Global) -> ArrowResult<FixedSizeListArray> {
-    let values = numbers(alloc, &[1, 2])?;
+    let values = numbers(alloc, &[1, 2, 3, 4])?;
     let data_type = DataType::FixedSizeList(Box::new(alloc, item(alloc)?)?, 2);
     FixedSizeListArray::try_new(alloc, data_type, values, None)
 }
@@ -101,13 +101,12 @@ fn a_slice_of_lists_cuts_their_offsets(rt: HostRuntime) -> Result<(), Fail> {
 fn large_lists_lie_between_offsets(rt: HostRuntime) -> Result<(), Fail> {
     let array = large_lists(rt.alloc())?;
     assert_eq!(rt; array.len(), 2);
-    let slice = array.slice(rt.alloc(), 0, 1)?;
+    let slice = array.slice(rt.alloc(), 1, 1)?;
     assert_eq!(rt; slice.len(), 1);
-    assert_eq!(rt; slice.offsets(), [0, 2].as_slice());
+    assert_eq!(rt; slice.offsets(), [2, 2].as_slice());
     assert_eq!(rt; slice.values().len(), 2);
-    assert_eq!(rt; slice.value(0).end, 2);
-    let slice = Array::LargeList(slice);
-    assert!(rt; equal(&slice, &slice));
+    assert_eq!(rt; slice.value(0).start, 2);
+    assert!(rt; !equal(&Array::LargeList(array), &Array::LargeList(slice)));
     Ok(())
 }
 
@@ -115,23 +114,24 @@ fn large_lists_lie_between_offsets(rt: HostRuntime) -> Result<(), Fail> {
 fn records_have_a_slot_of_each_child(rt: HostRuntime) -> Result<(), Fail> {
     let array = records(rt.alloc())?;
     assert_eq!(rt; array.values().len(), 1);
-    assert_eq!(rt; array.len(), 1);
-    let slice = array.slice(rt.alloc(), 0, 1)?;
+    assert_eq!(rt; array.len(), 2);
+    let slice = array.slice(rt.alloc(), 1, 1)?;
     assert_eq!(rt; slice.len(), 1);
     assert!(rt; slice.is_valid(0));
-    assert!(rt; equal(&Array::Struct(array), &Array::Struct(slice)));
+    let second = numbers(rt.alloc(), &[2])?;
+    assert!(rt; slice.values().iter().all(|child| equal(child, &second)));
     Ok(())
 }
 
 #[test]
 fn lists_of_one_length_lie_side_by_side(rt: HostRuntime) -> Result<(), Fail> {
     let array = fixed_lists(rt.alloc())?;
-    assert_eq!(rt; array.len(), 1);
-    let slice = array.slice(rt.alloc(), 0, 1)?;
+    assert_eq!(rt; array.len(), 2);
+    let slice = array.slice(rt.alloc(), 1, 1)?;
     assert_eq!(rt; slice.len(), 1);
     let part = slice.value(0);
-    assert!(rt; part.start == 0 && part.end == 2);
-    assert!(rt; equal(&Array::FixedSizeList(array), &Array::FixedSizeList(slice)));
+    assert_eq!(rt; part.end - part.start, 2);
+    assert!(rt; equal(part.array, &numbers(rt.alloc(), &[3, 4])?));
     Ok(())
 }
 
@@ -283,38 +283,58 @@ const MONTH: MonthsDaysNs = MonthsDaysNs {
     ns: 0,
 };
 
-fn one_value<T: NativeType>(
+const DAY: MonthsDaysNs = MonthsDaysNs {
+    months: 0,
+    days: 1,
+    ns: 0,
+};
+
+fn two_values<T: NativeType>(
     alloc: Global,
     data_type: DataType,
-    value: T,
+    first: T,
+    second: T,
 ) -> ArrowResult<PrimitiveArray<T>> {
     let mut values = Vec::new(alloc);
-    values.push(value)?;
+    values.push(first)?;
+    values.push(second)?;
     PrimitiveArray::try_new(alloc, data_type, values, None)
 }
 
-/// Whether a slice shows the value that the array was made of.
-fn shows<T: NativeType>(alloc: Global, data_type: DataType, value: T) -> ArrowResult<bool> {
-    let array = one_value(alloc, data_type, value)?;
-    if array.len() != 1 {
+/// Whether a slice from the second value on shows that value.
+fn shows<T: NativeType>(
+    alloc: Global,
+    data_type: DataType,
+    first: T,
+    second: T,
+) -> ArrowResult<bool> {
+    let array = two_values(alloc, data_type, first, second)?;
+    if array.len() != 2 {
         return Ok(false);
     }
-    let slice = array.slice(alloc, 0, 1)?;
-    Ok(slice.len() == 1 && slice.value(0) == value)
+    let slice = array.slice(alloc, 1, 1)?;
+    Ok(slice.len() == 1 && slice.value(0) == second)
 }
 
 #[test]
 fn slices_of_numbers_of_any_width_show_them(rt: HostRuntime) -> Result<(), Fail> {
     let alloc = rt.alloc();
-    assert!(rt; shows(alloc, DataType::Int8, -1_i8)?);
-    assert!(rt; shows(alloc, DataType::Int16, -1_i16)?);
-    assert!(rt; shows(alloc, DataType::Int32, -1_i32)?);
-    assert!(rt; shows(alloc, DataType::Int64, -1_i64)?);
-    assert!(rt; shows(alloc, DataType::UInt8, 255_u8)?);
-    assert!(rt; shows(alloc, DataType::UInt16, 65535_u16)?);
-    assert!(rt; shows(alloc, DataType::UInt32, 4294967295_u32)?);
-    assert!(rt; shows(alloc, DataType::UInt64, 18446744073709551615_u64)?);
-    assert!(rt; shows(alloc, DataType::Decimal(32, 32), -1_i128)?);
-    assert!(rt; shows(alloc, DataType::Interval(IntervalUnit::MonthDayNano), MONTH)?);
+    assert!(rt; shows(alloc, DataType::Int8, 1_i8, -1)?);
+    assert!(rt; shows(alloc, DataType::Int16, 1_i16, -1)?);
+    assert!(rt; shows(alloc, DataType::Int32, 1_i32, -1)?);
+    assert!(rt; shows(alloc, DataType::Int64, 1_i64, -1)?);
+    assert!(rt; shows(alloc, DataType::UInt8, 1_u8, 255)?);
+    assert!(rt; shows(alloc, DataType::UInt16, 1_u16, 65535)?);
+    assert!(rt; shows(alloc, DataType::UInt32, 1_u32, 4294967295)?);
+    assert!(rt; shows(alloc, DataType::UInt64, 1_u64, 18446744073709551615)?);
+    assert!(rt; shows(alloc, DataType::Decimal(32, 32), 1_i128, -1)?);
+    assert!(rt;
+        shows(
+            alloc,
+            DataType::Interval(IntervalUnit::MonthDayNano),
+            MONTH,
+            DAY
+        )?
+    );
     Ok(())
 }

@@ -4,6 +4,8 @@ use arrow_lists::Bytes;
 /// (Avro 1.11, "Object Container Files").
 #[derive(Drop)]
 pub struct Block {
+    /// How many rows the block states.
     pub number_of_rows: usize,
+    /// The rows' bytes, one row after another.
     pub bytes: Bytes,
 }

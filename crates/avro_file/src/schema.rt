@@ -31,20 +31,21 @@ pub enum LongLogical {
 /// What a byte string of type `bytes` stands for (Avro 1.11, "Decimal").
 #[derive(Clone, Copy, PartialEq, Eq, Debug)]
 pub enum BytesLogical {
-    /// A whole number by its digits in all and its digits after the point.
+    /// A decimal of this precision (its digits in all) and this scale (its digits after the point).
     Decimal(usize, usize),
 }
 
 /// What a text of type `string` stands for (Avro 1.11, "UUID").
 #[derive(Clone, Copy, PartialEq, Eq, Debug)]
 pub enum StringLogical {
+    /// A universally unique identifier (RFC 4122).
     Uuid,
 }
 
 /// What the bytes of type `fixed` stand for (Avro 1.11, "Decimal" and "Duration").
 #[derive(Clone, Copy, PartialEq, Eq, Debug)]
 pub enum FixedLogical {
-    /// A whole number by its digits in all and its digits after the point.
+    /// A decimal of this precision (its digits in all) and this scale (its digits after the point).
     Decimal(usize, usize),
     /// Months, days and milliseconds, four bytes each.
     Duration,
@@ -54,15 +55,25 @@ pub enum FixedLogical {
 #[cycle(schema)]
 #[derive(Drop, PartialEq, Eq)]
 pub enum Schema {
+    /// No value.
     Null,
+    /// True or false.
     Boolean,
+    /// Whole numbers of 32 bits, and what they stand for.
     Int(Option<IntLogical>),
+    /// Whole numbers of 64 bits, and what they stand for.
     Long(Option<LongLogical>),
+    /// IEEE 754 numbers of 32 bits.
     Float,
+    /// IEEE 754 numbers of 64 bits.
     Double,
+    /// Byte strings of any length, and what they stand for.
     Bytes(Option<BytesLogical>),
+    /// Texts in UTF-8, and what they stand for.
     String(Option<StringLogical>),
+    /// A value for each field.
     Record(Record),
+    /// One of given symbols.
     Enum(Enum),
     /// The schema of the items.
     Array(Box<Schema>),
@@ -70,6 +81,7 @@ pub enum Schema {
     Map(Box<Schema>),
     /// The members, in the order that their numbers count.
     Union(Items<Schema>),
+    /// Byte strings of one length.
     Fixed(Fixed),
 }
 
@@ -77,9 +89,13 @@ pub enum Schema {
 #[cycle(schema)]
 #[derive(Drop, PartialEq, Eq)]
 pub struct Record {
+    /// The name, as the schema spells it.
     pub name: Text,
+    /// The namespace, where the schema gives one.
     pub namespace: Option<Text>,
+    /// What the schema says of the record.
     pub doc: Option<Text>,
+    /// The fields, in the order of their values.
     pub fields: Items<AvroField>,
 }
 
@@ -87,27 +103,39 @@ pub struct Record {
 #[cycle(schema)]
 #[derive(Drop, PartialEq, Eq)]
 pub struct AvroField {
+    /// The name, as the schema spells it.
     pub name: Text,
+    /// What the schema says of the field.
     pub doc: Option<Text>,
+    /// The schema of the field's values.
     pub schema: Schema,
 }
 
 /// A type whose values are symbols (Avro 1.11, "Enums").
 #[derive(Drop, PartialEq, Eq)]
 pub struct Enum {
+    /// The name, as the schema spells it.
     pub name: Text,
+    /// The namespace, where the schema gives one.
     pub namespace: Option<Text>,
+    /// What the schema says of the type.
     pub doc: Option<Text>,
+    /// The symbols, in the order that their numbers count.
     pub symbols: Items<Text>,
 }
 
-/// A type whose values are all of `size` bytes (Avro 1.11, "Fixed").
+/// A type whose values are byte strings of one length (Avro 1.11, "Fixed").
 #[derive(Drop, PartialEq, Eq)]
 pub struct Fixed {
+    /// The name, as the schema spells it.
     pub name: Text,
+    /// The namespace, where the schema gives one.
     pub namespace: Option<Text>,
+    /// What the schema says of the type.
     pub doc: Option<Text>,
+    /// How many bytes each value has.
     pub size: usize,
+    /// What the values stand for.
     pub logical: Option<FixedLogical>,
 }
 

@@ -1,5 +1,6 @@
 -- The schemas whose values this library carries: all but a null by itself, maps, other unions than of null
--- and one type that is no union, fixed types of no bytes, and records of no fields.
+-- and one type that is no union, fixed types of no bytes, durations of another size than 12 bytes, and
+-- records of no fields.
 use Rattle.std.specs.Prelude.{◌≡◌, ℕ, ◌≤◌, List, [], ◌∷◌, Option, Some, ◌⊎◌, All}
 use Rattle.avro_file.specs.declared.schema.AvroField.{AvroField}
 use Rattle.avro_file.specs.declared.schema.Schema.{Schema, Null, Boolean, Int, Long, Float, Double, Bytes, String, Record, Enum, Array', Map', Union', Fixed, Row_of-Schema, end_of-Schema, more_of-Schema}

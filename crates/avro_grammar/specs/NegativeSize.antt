@@ -1,4 +1,5 @@
--- A block whose bytes break off in a skipped field, at an array block that states a size below 0.
+-- A block whose bytes break off in a skipped field, at an array block that states a size below 0
+-- (Avro 1.11, "Arrays" and "Records").
 use Rattle.std.specs.Prelude.{◌≡◌, ℕ, ◌<◌, ◌≤◌, List, ◌∷◌, ◌++◌, length, Bool, true, false, ◌⊎◌}
 use Rattle.arrow_types.specs.declared.slot.Slot.{Slot}
 use Rattle.avro_file.specs.declared.schema.AvroField.{AvroField}

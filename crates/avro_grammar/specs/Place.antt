@@ -1,4 +1,4 @@
--- Where bytes break off at an array block that states a size below 0.
+-- Where bytes break off at an array block that states a size below 0 (Avro 1.11, "Arrays").
 use Rattle.std.specs.Prelude.{ℕ, zero, suc, List, [], ◌∷◌, length, Bool, true, false}
 use Rattle.std.proofs.Common.{inl, inr}
 use Rattle.avro_file.specs.declared.schema.Schema.{Schema, Record, Array', Union', Row_of-Schema, end_of-Schema, more_of-Schema}

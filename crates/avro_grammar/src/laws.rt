@@ -37,8 +37,9 @@ pub fn broken_is_never_whole()
     ensures { BrokenIsNeverWhole }
 {}
 
-/// Bytes are at most one table of rows, with one count of bytes that are kept, seen and hidden. What is rows under a projection is rows under each
-/// projection that keeps no more, and that table has just the columns that this one keeps.
+/// Bytes are at most one table of rows, with one count of bytes that are kept, seen and hidden. What
+/// is rows under a projection is rows under each projection that keeps no more, and that table has
+/// just the columns that this one keeps.
 pub fn one_table()
     ensures one { OneTable }
     ensures pieces { OneListOfPieces }

@@ -1,5 +1,5 @@
--- The columns of a record's fields as they are made from its schema alone: types in small forms, with
--- names and metadata.
+-- The columns of a record's fields as they are made from its schema alone (the pairs are those of
+-- `Types.antt`): types in small forms, with names and metadata.
 use Rattle.std.specs.Prelude.{ℕ, ◌⊎◌, List, [], ◌∷◌, Bool, not, ◌&&◌, IsTrue, Option, Some, None, if◌then◌else◌}
 use Rattle.arrow_types.specs.declared.types.Field.{Field}
 use Rattle.arrow_types.specs.declared.types.DataType.{DataType}

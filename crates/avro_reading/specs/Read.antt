@@ -1,5 +1,5 @@
--- Reading a value from left to right: its slot, and what is behind it. None: no front of the bytes
--- spells one.
+-- Reading a value from left to right (Avro 1.11, "Binary Encoding"): its slot, and what is behind it.
+-- None: no front of the bytes spells one.
 use Rattle.std.specs.Prelude.{ℕ, zero, suc, ◌-◌, ◌^◌, ℤ, pos, negsuc, nat_abs, int_le, Bool, true, false, ◌&&◌, List, [], ◌∷◌, ◌++◌, length, Option, Some, None, nat_lt, nat_le, ◌==◌, if◌then◌else◌}
 use Rattle.std.specs.Str.{is_utf8}
 use Rattle.arrow_types.specs.declared.slot.Slot.{Slot}

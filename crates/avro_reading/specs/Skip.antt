@@ -1,4 +1,5 @@
--- Stepping over a value from left to right: what was passed, and what is behind it, or the first fault.
+-- Stepping over a value from left to right (Avro 1.11, "Binary Encoding"): what was passed, and what is
+-- behind it, or the first fault.
 use Rattle.std.specs.Prelude.{ℕ, zero, suc, ◌-◌, ◌^◌, ℤ, pos, negsuc, nat_abs, List, length, drop, Option, Some, None, Result, Ok, Err, nat_lt, if◌then◌else◌}
 use Rattle.avro_file.specs.declared.schema.Schema.{Schema, Null, Boolean, Int, Long, Float, Double, Bytes, String, Record, Enum, Array', Map', Union', Fixed, Row_of-Schema, end_of-Schema, more_of-Schema}
 use Rattle.avro_file.specs.declared.schema.Record.{Record as TheRecord, Record', Row_of-AvroField, end_of-AvroField, more_of-AvroField}

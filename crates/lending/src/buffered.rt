@@ -10,9 +10,10 @@ use crate::fallible::FallibleStreamingIterator;
 use crate::streaming::StreamingIterator;
 use arrow_lists::{Error, Result};
 
-/// Lends what a closure writes of each item of an iterator. The buffer that the closure writes into is used again for each
-/// item.
-// The closure's bound stands on the impls: a derived `Drop` under it could not be used where a bound asks for `Drop`.
+/// Lends what a closure writes of each item of an iterator. The buffer that the closure writes into
+/// is used again for each item.
+// The closure's bound stands on the impls: a derived `Drop` under it could not be used where a
+// bound asks for `Drop`.
 #[derive(Drop)]
 pub struct BufStreamingIterator<I, F, T>
 where
@@ -32,9 +33,9 @@ where
 {
     ghost use Rattle.lending.specs.Buffered.{iterator_of, closure_of, has_ended, shown_of};
 
-    /// Lends what `f` writes of each item of `iterator` into `buffer`, which is emptied before each call. The iterator has to
-    /// end, and the closure has to be callable on each item and each buffer, again after each call. Nothing is shown before
-    /// the first `advance`. Takes no memory.
+    /// Lends what `f` writes of each item of `iterator` into `buffer`, which is emptied before each
+    /// call. The iterator has to end, and the closure has to be callable on each item and each
+    /// buffer, again after each call. Nothing is shown before the first `advance`. Takes no memory.
     pub fn new(iterator: I, f: F, buffer: Vec<u8>) -> Self
         requires ends { Ends I.can_next I.remaining iterator }
         requires callable { F.IsAlwaysCallable f }
@@ -74,8 +75,9 @@ where
 
     ghost hints = { λ s hint. HintsAt (I.remaining (iterator_of s)) hint };
 
-    /// Takes the iterator's next item, empties the buffer and calls the closure. An error is the closure's own, and the next
-    /// `advance` goes on with the next item. After the end it stays at the end, and asks the iterator no more.
+    /// Takes the iterator's next item, empties the buffer and calls the closure. An error is the
+    /// closure's own, and the next `advance` goes on with the next item. After the end it stays at
+    /// the end, and asks the iterator no more.
     fn advance(&mut self) -> Result<()> {
         self.is_valid = false;
         if self.has_ended {

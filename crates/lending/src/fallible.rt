@@ -3,8 +3,9 @@ ghost use Rattle.std.specs.Borrow.{sem};
 ghost use Rattle.std.specs.Io.BufRead.{Rests};
 ghost use Rattle.lending.specs.Lending.{Advanced, AdvancedNext, IsShown};
 
-/// An iterator that lends one item after another, each until the next is asked for, and fails with an error of its own.
-/// It ends: there is a number, `to_come`, that each item shown and each error lowers.
+/// An iterator that lends one item after another, each until the next is asked for, and fails with
+/// an error of its own. It ends: there is a number, `to_come`, that each item shown and each error
+/// lowers.
 pub trait FallibleStreamingIterator: Drop {
     /// What `advance` answers where it comes to no item and is not at the end.
     type Error;
@@ -21,19 +22,21 @@ pub trait FallibleStreamingIterator: Drop {
     // At most so many items and errors come.
     ghost to_come: { Self → ℕ };
 
-    // Relates the iterator to the items still to be shown, up to the end or the first error, where it tells them.
+    // Relates the iterator to the items still to be shown, up to the end or the first error, where
+    // it tells them.
     ghost items: { Self → List (List ℕ) → Type 0 };
 
     // What `size_hint` may answer.
     ghost hints: { Self → ℕ × Option ℕ → Type 0 };
 
-    /// Goes on to the next item. After `Ok`, `get` shows it, or nothing where there is no further item; after an error `get`
-    /// shows nothing.
+    /// Goes on to the next item. After `Ok`, `get` shows it, or nothing where there is no further
+    /// item; after an error `get` shows nothing.
     fn advance(&mut self) -> std::result::Result<(), Self::Error>
         requires { can_advance self.old }
         ensures { Advanced can_advance step shown to_come items self.old result self.new };
 
-    /// The item that the last `advance` came to, as its bytes; nothing before the first. It takes no memory.
+    /// The item that the last `advance` came to, as its bytes; nothing before the first. It takes
+    /// no memory.
     fn get(&self) -> Option<&[u8]>
         ensures { IsShown result (shown self.now) };
 
