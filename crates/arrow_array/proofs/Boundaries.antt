@@ -1,11 +1,11 @@
--- The bytes between offsets are texts exactly where all of them are one text, and each offset stands between two characters.
+-- The bytes between offsets are strings exactly where all of them are one text, and each offset stands between two characters.
 use Rattle.std.proofs.Common.{◌≡◌, ◌∙◌, ap, sym, arith, refl, ℕ, zero, suc, ◌+◌, ◌-◌, ◌<◌, ◌≤◌, ◌++◌, ℤ, pos, negsuc, List, length, take, drop}
 use mathlib.Core.Path.{subst}
 use Rattle.std.specs.Str.{IsUtf8, IsCharBoundary}
 use Rattle.std.proofs.Math.Seq.{take-add}
 use Rattle.std.proofs.lemmas.List.{drop-drop, drop-take, take-take, length-take-le, length-drop}
 use Rattle.std.proofs.lemmas.Str.{IsUtf8-nil, IsUtf8-append, IsUtf8-between, IsCharBoundary-from_take}
-use Rattle.arrow_array.specs.Offsets.{offset_at, part, IsWithin, IsNotAbove, IsOffsets, AreTexts, IsBoundary, IsFrom}
+use Rattle.arrow_array.specs.Offsets.{offset_at, part, IsWithin, IsNotAbove, IsOffsets, AreUtf8, IsBoundary, IsFrom}
 
 abbrev place : ℤ → ℕ
 place (pos a) = a
@@ -72,7 +72,7 @@ module _ (os : List ℤ) (bytes : List ℕ) (o : IsOffsets os (length bytes)) wh
       rw e (take-add (there k - there j) (there (k + 1) - there k) (drop (there j) bytes) ∙ rw (drop-drop (there k - there j) (there j) bytes, d) refl)
 
   -- texts one after another are one text
-  texts_run : AreTexts os bytes → (k : ℕ) → k < length os → IsUtf8 (run 0 k)
+  texts_run : AreUtf8 os bytes → (k : ℕ) → k < length os → IsUtf8 (run 0 k)
   texts_run t zero l = let e : there 0 - there 0 ≡ 0 = omega arith in rw e IsUtf8-nil
   texts_run t (suc k) l =
       let h = texts_run t k (omega (arith, l)) in
@@ -107,8 +107,8 @@ module _ (os : List ℤ) (bytes : List ℕ) (o : IsOffsets os (length bytes)) (a
   length_text = length-take-le (b - a) (drop a bytes) (omega (arith, length-drop a bytes, last_is, at_within os (length bytes) o end (omega (arith, o.filled))))
 
   -- the text up to an offset
-  front : (k : ℕ) → k < length os → take (there os bytes o k - a) text ≡ run os bytes o 0 k
-  front k l =
+  prefix : (k : ℕ) → k < length os → take (there os bytes o k - a) text ≡ run os bytes o 0 k
+  prefix k l =
       take-take (there os bytes o k - a) (b - a) (drop a bytes) (omega (arith, below k l)) ∙ rw first_is refl
 
   -- the bytes between two offsets, as a part of the text
@@ -125,17 +125,17 @@ module _ (os : List ℤ) (bytes : List ℕ) (o : IsOffsets os (length bytes)) (a
       let t : drop (p - a) text ≡ take (b - p) (drop p bytes) = rw (← e) (drop-take (p - a) (b - p) (drop a bytes) ∙ rw (drop-drop (p - a) a bytes, d) refl) in
       rw (f, t) (take-take (q - p) (b - p) (drop p bytes) (omega (arith, hi)) ∙ sym (part_is os bytes o k l))
 
-  pub all_utf8 : AreTexts os bytes → IsUtf8 text
+  pub all_utf8 : AreUtf8 os bytes → IsUtf8 text
   all_utf8 t =
       let h = texts_run os bytes o t end (omega (arith, o.filled)) in
       subst IsUtf8 (rw (first_is, last_is) refl) h
 
-  pub boundaries : AreTexts os bytes → (k : ℕ) → k < length os → IsBoundary text a (offset_at os k)
+  pub boundaries : AreUtf8 os bytes → (k : ℕ) → k < length os → IsBoundary text a (offset_at os k)
   boundaries t k l =
-      let h : IsUtf8 (take (there os bytes o k - a) text) = rw (front k l) (texts_run os bytes o t k l) in
+      let h : IsUtf8 (take (there os bytes o k - a) text) = rw (prefix k l) (texts_run os bytes o t k l) in
       rw (at_is os (length bytes) o k l) (IsCharBoundary-from_take text (there os bytes o k - a) (all_utf8 t) (omega (arith, length_text, below k l)) h)
 
-  pub between_boundaries : IsUtf8 text → ((k : ℕ) → k < length os → IsBoundary text a (offset_at os k)) → AreTexts os bytes
+  pub between_boundaries : IsUtf8 text → ((k : ℕ) → k < length os → IsBoundary text a (offset_at os k)) → AreUtf8 os bytes
   between_boundaries u c = λ k l.
       let here : (i : ℕ) → i < length os → IsCharBoundary text (there os bytes o i - a) = λ i s. subst (IsBoundary text a) (at_is os (length bytes) o i s) (c i s) in
       let r = at_rising os (length bytes) o k (k + 1) (omega arith) l in

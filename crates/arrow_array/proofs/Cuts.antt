@@ -9,9 +9,10 @@ use Rattle.arrow_types.specs.declared.types.DataType.{DataType}
 use Rattle.arrow_types.specs.declared.slot.Slot.TheVariants as slot
 use Rattle.arrow_bitmap.specs.Bits.{Packed}
 use Rattle.arrow_bitmap.proofs.Cuts.{cut_made, made_alike}
-use Rattle.arrow_array.specs.Offsets.{offset_at, part, IsOffsets, AreTexts}
-use Rattle.arrow_array.specs.Parts.{IsValidityOf, IsCutOf, TextFits, BinaryFits, FixedSizeBinaryFits, Window, byte_width}
-use Rattle.arrow_array.specs.Slots.{shown, slots_of, truth_at, native_at, text_at, octets_at, fixed_at}
+use Rattle.arrow_array.specs.Offsets.{offset_at, part, IsOffsets, AreUtf8}
+use Rattle.arrow_array.specs.Parts.{IsValidityOf, IsCutOf, Utf8Fits, BinaryFits, FixedSizeBinaryFits, byte_width}
+use Rattle.arrow_array.specs.Slots.{shown, slots_of, boolean_at, native_at, utf8_at, binary_at, fixed_at}
+use Rattle.arrow_array.proofs.Windows.{Window}
 
 -- a cut of a cut
 pub cut_again : {X : Type 0} (a n o k : ℕ) (xs : List X) → o + k ≤ n → take k (drop (a + o) xs) ≡ take k (drop o (take n (drop a xs)))
@@ -37,17 +38,17 @@ pub cut_fits : (v u : Option Packed) (o k n : ℕ) → IsValidityOf v n → o + 
 cut_fits None None o k n h l c = tt
 cut_fits None (Some u) o k n h l c = absurd c
 cut_fits (Some v) None o k n h l c = absurd c
-cut_fits (Some v) (Some u) o k n h l c = rw c (length_cut o k v.truths (omega (arith, h, l)))
+cut_fits (Some v) (Some u) o k n h l c = rw c (length_cut o k v.booleans (omega (arith, h, l)))
 
 shown_cut : (f g : ℕ → Slot) (v u : Option Packed) (o k i j a b : ℕ) → IsCutOf v o k u → j < k → o + j ≡ i → g a ≡ f b → shown u j (g a) ≡ shown v i (f b)
 shown_cut f g None None o k i j a b c h e d = d
 shown_cut f g None (Some u) o k i j a b c h e d = absurd c
 shown_cut f g (Some v) None o k i j a b c h e d = absurd c
 shown_cut f g (Some v) (Some u) o k i j a b c h e d =
-    let r : slice_index_or u.truths j false ≡ slice_index_or v.truths i false = rw c (at_cut o k v.truths j false h ∙ ap (λ z. slice_index_or v.truths z false) e) in
+    let r : slice_index_or u.booleans j false ≡ slice_index_or v.booleans i false = rw c (at_cut o k v.booleans j false h ∙ ap (λ z. slice_index_or v.booleans z false) e) in
     rw (r, d) refl
 
--- A cut of slots: f makes the slots from place s on, and g those of the cut from place t on.
+-- A cut of slots: f makes the slots from index s on, and g those of the cut from index t on.
 pub cut_slots : {f : ℕ → Slot} {v : Option Packed} {s n len : ℕ} {xs : List Slot} → Window f v s n len → slots_of f v s n ≡ xs
     → (g : ℕ → Slot) (u : Option Packed) (t o k : ℕ) → o + k ≤ n → IsCutOf v o k u → ((j : ℕ) → j < k → g (t + j) ≡ f (s + (o + j))) → slots_of g u t k ≡ take k (drop o xs)
 cut_slots {f} {v} {s} {n} w is g u t o k l c same = rw (← is)
@@ -57,7 +58,7 @@ cut_slots {f} {v} {s} {n} w is g u t o k l c same = rw (← is)
     shown_cut f g v u o k (o + j) (0 + j) (t + (0 + j)) (s + (o + j)) c (omega (arith, m)) (omega arith) e)
     ∙ cut_made (λ i. shown v i (f (s + i))) 0 o o n k (omega arith) l)
 
--- the same, where all places are counted from 0
+-- the same, where all indices are counted from 0
 pub cut_made_slots : {f : ℕ → Slot} {v : Option Packed} {n len : ℕ} {xs : List Slot} → Window f v 0 n len → slots_of f v 0 n ≡ xs
     → (g : ℕ → Slot) (u : Option Packed) (o k m : ℕ) → m ≡ k → o + k ≤ n → IsCutOf v o k u → ((j : ℕ) → j < k → g j ≡ f (o + j)) → slots_of g u 0 m ≡ take k (drop o xs)
 cut_made_slots {f} w is g u o k m q l c same = rw q (cut_slots w is g u 0 o k l c (λ j h.
@@ -65,8 +66,8 @@ cut_made_slots {f} w is g u o k m q l c same = rw q (cut_slots w is g u 0 o k l 
     let e : 0 + (o + j) ≡ o + j = omega arith in
     rw (d, e) (same j h)))
 
-pub truth_cut : (o k : ℕ) (xs : List Bool) (j : ℕ) → j < k → truth_at (take k (drop o xs)) j ≡ truth_at xs (o + j)
-truth_cut o k xs j l = ap slot.Truth (at_cut o k xs j false l)
+pub boolean_cut : (o k : ℕ) (xs : List Bool) (j : ℕ) → j < k → boolean_at (take k (drop o xs)) j ≡ boolean_at xs (o + j)
+boolean_cut o k xs j l = ap slot.Boolean (at_cut o k xs j false l)
 
 pub native_cut : {X : Type 0} (native : X → Slot) (o k : ℕ) (xs : List X) (j : ℕ) → j < k → native_at native (take k (drop o xs)) j ≡ native_at native xs (o + j)
 native_cut native o k xs j l = rw (map_cut native o k xs) (at_cut o k (map native xs) j slot.Null l)
@@ -95,27 +96,27 @@ offsets_cut o k n offsets l h = record {
       rw (a, b) (h.rising (o + j) (omega (arith, m, c, l)));
 }
 
-pub texts_cut : (o k : ℕ) (offsets : List ℤ) (bytes : List ℕ) → o + k < length offsets → AreTexts offsets bytes → AreTexts (take (k + 1) (drop o offsets)) bytes
+pub texts_cut : (o k : ℕ) (offsets : List ℤ) (bytes : List ℕ) → o + k < length offsets → AreUtf8 offsets bytes → AreUtf8 (take (k + 1) (drop o offsets)) bytes
 texts_cut o k offsets bytes l h = λ j m.
     let c = length_cut o (k + 1) offsets (omega (arith, l)) in
     subst IsUtf8 (sym (part_cut o k offsets bytes j (omega (arith, m, c)))) (h (o + j) (omega (arith, m, c, l)))
 
-pub text_cut : (o k : ℕ) (offsets : List ℤ) (bytes : List ℕ) (j : ℕ) → j < k → text_at (take (k + 1) (drop o offsets)) bytes j ≡ text_at offsets bytes (o + j)
-text_cut o k offsets bytes j l = ap slot.Words (part_cut o k offsets bytes j l)
+pub utf8_cut : (o k : ℕ) (offsets : List ℤ) (bytes : List ℕ) (j : ℕ) → j < k → utf8_at (take (k + 1) (drop o offsets)) bytes j ≡ utf8_at offsets bytes (o + j)
+utf8_cut o k offsets bytes j l = ap slot.String (part_cut o k offsets bytes j l)
 
-pub octets_cut : (o k : ℕ) (offsets : List ℤ) (bytes : List ℕ) (j : ℕ) → j < k → octets_at (take (k + 1) (drop o offsets)) bytes j ≡ octets_at offsets bytes (o + j)
-octets_cut o k offsets bytes j l = ap slot.Octets (part_cut o k offsets bytes j l)
+pub binary_cut : (o k : ℕ) (offsets : List ℤ) (bytes : List ℕ) (j : ℕ) → j < k → binary_at (take (k + 1) (drop o offsets)) bytes j ≡ binary_at offsets bytes (o + j)
+binary_cut o k offsets bytes j l = ap slot.Binary (part_cut o k offsets bytes j l)
 
 -- k parts from part o on
 pub count_cut : (o k : ℕ) (offsets : List ℤ) → o + k < length offsets → length (take (k + 1) (drop o offsets)) - 1 ≡ k
 count_cut o k offsets l = omega (arith, length_cut o (k + 1) offsets (omega (arith, l)))
 
-pub text_fits_cut : {wanted given : DataType} {offsets : List ℤ} {bytes : List ℕ} {v : Option Packed} (o k : ℕ) (u : Option Packed) → TextFits wanted given offsets bytes v → o + k < length offsets → IsCutOf v o k u
-    → TextFits wanted given (take (k + 1) (drop o offsets)) bytes u
-text_fits_cut {wanted} {given} {offsets} {bytes} {v} o k u h l c = record {
+pub utf8_fits_cut : {wanted given : DataType} {offsets : List ℤ} {bytes : List ℕ} {v : Option Packed} (o k : ℕ) (u : Option Packed) → Utf8Fits wanted given offsets bytes v → o + k < length offsets → IsCutOf v o k u
+    → Utf8Fits wanted given (take (k + 1) (drop o offsets)) bytes u
+utf8_fits_cut {wanted} {given} {offsets} {bytes} {v} o k u h l c = record {
   kind = h.kind;
   offsets_fit = offsets_cut o k (length bytes) offsets l h.offsets_fit;
-  texts_fit = texts_cut o k offsets bytes l h.texts_fit;
+  utf8_fit = texts_cut o k offsets bytes l h.utf8_fit;
   validity_fits = rw (count_cut o k offsets l) (cut_fits v u o k (length offsets - 1) h.validity_fits (omega (arith, l)) c);
 }
 
@@ -143,7 +144,7 @@ pub count_fixed_cut : (o k w : ℕ) (bytes : List ℕ) → 0 < w → o + k ≤ l
 count_fixed_cut o k w bytes p l = rw (length_cut (o * w) (k * w) bytes (bytes_within o k w (length bytes) l)) (mul-div_cancel k p)
 
 pub fixed_cut : (w o k : ℕ) (bytes : List ℕ) (j : ℕ) → j < k → fixed_at w (take (k * w) (drop (o * w) bytes)) j ≡ fixed_at w bytes (o + j)
-fixed_cut w o k bytes j l = ap slot.Octets
+fixed_cut w o k bytes j l = ap slot.Binary
     (sym (cut_again (o * w) (k * w) (j * w) w bytes (row_fits j w k w l (omega arith))) ∙ ap (λ z. take w (drop z bytes)) (sym (add-mul o j w)))
 
 pub fixed_fits_cut : {data_type : DataType} {v : Option Packed} (o k : ℕ) (bytes : List ℕ) (u : Option Packed) → FixedSizeBinaryFits data_type (length bytes) v → o + k ≤ length bytes / byte_width data_type → IsCutOf v o k u

@@ -2,14 +2,14 @@
 use Rattle.std.proofs.Common.{◌≡◌, sym, ◌∙◌, ap, refl, arith, ℕ, ◌+◌, ◌<◌, ◌≤◌, Bool, true, false, not, pos, negsuc, List, map, length, take, drop, subst}
 use Rattle.std.proofs.lemmas.List.{get_or-map, length-map}
 use Rattle.std.specs.Bool.{Decides}
-use Rattle.arrow_types.specs.declared.slot.Slot.{Slot, Null, Truth, Whole, Words, Octets, Listed', Fields'}
+use Rattle.arrow_types.specs.declared.slot.Slot.{Slot, Null, Boolean as BooleanSlot, Integer as IntegerSlot, String as StringSlot, Binary as BinarySlot, List' as ListSlot', Struct' as StructSlot'}
 use Rattle.arrow_types.specs.declared.slot.Slot.TheVariants as slot
 use Rattle.arrow_types.specs.declared.types.DataType.{DataType, out-DataType}
 use Rattle.arrow_types.specs.declared.types.DataType.TheOpen as open_type
 use Rattle.arrow_types.specs.declared.types.DataType.TheVariants as types
 use Rattle.arrow_types.specs.declared.types.DataType.TheViews.{outs-Dictionary}
 use Rattle.arrow_types.specs.declared.types.IntegerType.{IntegerType}
-use Rattle.arrow_array.specs.Dictionaries.{DictionaryColumn, IsDictionaryOf, IsKeyInto, IsNoPlace, looked_up}
+use Rattle.arrow_array.specs.Dictionaries.{DictionaryColumn, IsDictionaryOf, IsKeyInto, IsNoIndex, looked_up}
 use Rattle.arrow_array.specs.Slots.{slot_at, is_held}
 use Rattle.arrow_array.proofs.Cuts.{at_cut, length_cut, map_cut}
 
@@ -26,33 +26,33 @@ dictionary_keys_are e = ap (λ (c : DictionaryColumn). c.keys) e
 pub dictionary_items_are : {a b : DictionaryColumn} → a ≡ b → a.items ≡ b.items
 dictionary_items_are e = ap (λ (c : DictionaryColumn). c.items) e
 
--- a key that is no place is null
-no_key : (n : ℕ) (x : Slot) → IsNoPlace x → IsKeyInto n x → x ≡ slot.Null
+-- a key that is no index is null
+no_key : (n : ℕ) (x : Slot) → IsNoIndex x → IsKeyInto n x → x ≡ slot.Null
 no_key n Null p k = refl
-no_key n (Truth b) p k = absurd k
-no_key n (Whole (pos m)) p k = absurd p
-no_key n (Whole (negsuc m)) p k = absurd k
-no_key n (Words text) p k = absurd k
-no_key n (Octets bytes) p k = absurd k
-no_key n (Listed' a b) p k = absurd k
-no_key n (Fields' a b) p k = absurd k
+no_key n (BooleanSlot b) p k = absurd k
+no_key n (IntegerSlot (pos m)) p k = absurd p
+no_key n (IntegerSlot (negsuc m)) p k = absurd k
+no_key n (StringSlot text) p k = absurd k
+no_key n (BinarySlot bytes) p k = absurd k
+no_key n (ListSlot' a b) p k = absurd k
+no_key n (StructSlot' a b) p k = absurd k
 
--- a key that is no place fits where it is null
-pub null_key : (n : ℕ) (x : Slot) → IsNoPlace x → Decides (not (is_held x)) (IsKeyInto n x)
+-- a key that is no index fits where it is null
+pub null_key : (n : ℕ) (x : Slot) → IsNoIndex x → Decides (not (is_held x)) (IsKeyInto n x)
 null_key n Null p = (λ t. tt, λ k. refl)
-null_key n (Truth b) p = (λ t. let e : false ≡ true = t in absurd cc, λ k. absurd k)
-null_key n (Whole (pos m)) p = absurd p
-null_key n (Whole (negsuc m)) p = (λ t. let e : false ≡ true = t in absurd cc, λ k. absurd k)
-null_key n (Words text) p = (λ t. let e : false ≡ true = t in absurd cc, λ k. absurd k)
-null_key n (Octets bytes) p = (λ t. let e : false ≡ true = t in absurd cc, λ k. absurd k)
-null_key n (Listed' a b) p = (λ t. let e : false ≡ true = t in absurd cc, λ k. absurd k)
-null_key n (Fields' a b) p = (λ t. let e : false ≡ true = t in absurd cc, λ k. absurd k)
+null_key n (BooleanSlot b) p = (λ t. let e : false ≡ true = t in absurd cc, λ k. absurd k)
+null_key n (IntegerSlot (pos m)) p = absurd p
+null_key n (IntegerSlot (negsuc m)) p = (λ t. let e : false ≡ true = t in absurd cc, λ k. absurd k)
+null_key n (StringSlot text) p = (λ t. let e : false ≡ true = t in absurd cc, λ k. absurd k)
+null_key n (BinarySlot bytes) p = (λ t. let e : false ≡ true = t in absurd cc, λ k. absurd k)
+null_key n (ListSlot' a b) p = (λ t. let e : false ≡ true = t in absurd cc, λ k. absurd k)
+null_key n (StructSlot' a b) p = (λ t. let e : false ≡ true = t in absurd cc, λ k. absurd k)
 
--- a key that is a place fits where it is below the number of values
-pub place_key : (n k : ℕ) (x : Slot) → x ≡ slot.Whole (pos k) → IsKeyInto n x → k < n
+-- a key that is an index fits where it is below the number of values
+pub place_key : (n k : ℕ) (x : Slot) → x ≡ slot.Integer (pos k) → IsKeyInto n x → k < n
 place_key n k x e h = subst (λ y. IsKeyInto n y) e h
 
-pub key_place : (n k : ℕ) (x : Slot) → x ≡ slot.Whole (pos k) → k < n → IsKeyInto n x
+pub key_place : (n k : ℕ) (x : Slot) → x ≡ slot.Integer (pos k) → k < n → IsKeyInto n x
 key_place n k x e h = subst (λ y. IsKeyInto n y) (sym e) h
 
 module _ (items keys xs : List Slot) (is : map (looked_up items) keys ≡ xs) where
@@ -62,10 +62,10 @@ module _ (items keys xs : List Slot) (is : map (looked_up items) keys ≡ xs) wh
   pub slot_of_key : (i : ℕ) → i < length xs → slot_at xs i ≡ looked_up items (slot_at keys i)
   slot_of_key i l = rw (← is) (get_or-map (looked_up items) keys i slot.Null slot.Null (omega (arith, l, count_keys)))
 
-  pub slot_of_place : (i k : ℕ) → i < length xs → slot_at keys i ≡ slot.Whole (pos k) → slot_at xs i ≡ slot_at items k
+  pub slot_of_place : (i k : ℕ) → i < length xs → slot_at keys i ≡ slot.Integer (pos k) → slot_at xs i ≡ slot_at items k
   slot_of_place i k l e = slot_of_key i l ∙ ap (looked_up items) e
 
-  pub slot_of_none : (i : ℕ) → i < length xs → IsNoPlace (slot_at keys i) → IsKeyInto (length items) (slot_at keys i) → slot_at xs i ≡ slot.Null
+  pub slot_of_none : (i : ℕ) → i < length xs → IsNoIndex (slot_at keys i) → IsKeyInto (length items) (slot_at keys i) → slot_at xs i ≡ slot.Null
   slot_of_none i l p h = slot_of_key i l ∙ ap (looked_up items) (no_key (length items) (slot_at keys i) p h)
 
 pub keys_cut : (n o k : ℕ) (keys : List Slot) → o + k ≤ length keys → ((i : ℕ) → i < length keys → IsKeyInto n (slot_at keys i)) → (i : ℕ) → i < length (take k (drop o keys)) → IsKeyInto n (slot_at (take k (drop o keys)) i)

@@ -1,4 +1,4 @@
--- The slots of lists of one length, and of a cut of them.
+-- The slots of fixed-size lists, and of a cut of them.
 use Rattle.std.proofs.Common.{◌≡◌, sym, ◌∙◌, ap, refl, arith, ℕ, ◌+◌, ◌-◌, ◌*◌, ◌/◌, ◌%◌, ◌<◌, ◌≤◌, Bool, List, length, take, drop, IsTrue, Option, zero-add, subst}
 use Rattle.std.proofs.lemmas.Nat.{mod-mul-add, row_fits}
 use Rattle.std.proofs.Math.Nat.{mul-div_cancel, add-mul}
@@ -12,10 +12,10 @@ use Rattle.arrow_types.specs.declared.types.DataType.TheViews.{outs-FixedSizeLis
 use Rattle.arrow_types.specs.declared.types.Field.{Field}
 use Rattle.arrow_bitmap.specs.Bits.{Packed}
 use Rattle.arrow_array.specs.FixedLists.{fixed_list_at, list_size, IsFixedListOf, FixedListParts}
-use Rattle.arrow_array.specs.Parts.{IsCutOf, Window}
+use Rattle.arrow_array.specs.Parts.{IsCutOf}
 use Rattle.arrow_array.specs.Slots.{slot_at, is_held, valid_at, TellsHeld, slots_of}
 use Rattle.arrow_array.proofs.Cuts.{bytes_within, cut_again, cut_fits, cut_made_slots, length_cut}
-use Rattle.arrow_array.proofs.Windows.{count_slots, read_held, read_valid, validity_says}
+use Rattle.arrow_array.proofs.Windows.{Window, count_slots, read_held, read_valid, validity_says}
 
 module _ {t item : DataType} (items : List Slot) {v : Option Packed} {size count : ℕ} {xs : List Slot} (h : FixedListParts t item (length items) v size count) (is : slots_of (fixed_list_at (list_size t) items) v 0 (length items / list_size t) ≡ xs) where
   fixed_window : Window (fixed_list_at (list_size t) items) v 0 (length items / list_size t) (length items / list_size t)
@@ -24,7 +24,7 @@ module _ {t item : DataType} (items : List Slot) {v : Option Packed} {size count
   pub count_fixed : count ≡ length xs
   count_fixed = h.count_is ∙ count_slots fixed_window is
 
-  -- a held slot is the list of the items at its place
+  -- a held slot is the list of the items at its index
   pub read_fixed : (i : ℕ) → i < length xs → IsTrue (is_held (slot_at xs i)) → slot_at xs i ≡ fixed_list_at (list_size t) items i
   read_fixed i l d = read_held fixed_window is i (omega (arith, l, count_slots fixed_window is)) d ∙ ap (fixed_list_at (list_size t) items) (zero-add i)
 
@@ -62,7 +62,7 @@ module _ (t item : DataType) (items : List Slot) (v : Option Packed) (size count
   }
 
   fixed_list_cut : (j : ℕ) → j < k → fixed_list_at size cut j ≡ fixed_list_at size items (o + j)
-  fixed_list_cut j m = rw cut_is (ap slot.Listed
+  fixed_list_cut j m = rw cut_is (ap slot.List
       (sym (cut_again (o * size) (k * size) (j * size) size items (row_fits j size k size m (omega arith))) ∙ ap (λ z. take size (drop z items)) (sym (add-mul o j size))))
 
   pub cut_fixed : (s : DataType) (xs : List Slot) → s ≡ t → slots_of (fixed_list_at (list_size t) items) v 0 (length items / list_size t) ≡ xs → slots_of (fixed_list_at (list_size s) cut) u 0 (length cut / list_size s) ≡ take k (drop o xs)
@@ -82,6 +82,6 @@ fixed_kind t item f g n b e p d = (
   λ h. d.1 (ap (λ (z : Field). z.data_type) (p ∙ fixed_of_same f h.0 n (list_size t) (sym e ∙ h.1)) ∙ h.2),
 )
 
--- the items from place i times the length on
-pub fixed_part : (size i : ℕ) (items : List Slot) → fixed_list_at size items i ≡ slot.Listed (take (i * size + size - i * size) (drop (i * size) items))
+-- the items from index i times the length on
+pub fixed_part : (size i : ℕ) (items : List Slot) → fixed_list_at size items i ≡ slot.List (take (i * size + size - i * size) (drop (i * size) items))
 fixed_part size i items = let e : i * size + size - i * size ≡ size = omega arith in rw e refl

@@ -1,5 +1,6 @@
 pub mod Boundaries
 pub mod Cuts
+pub mod DataTypes
 pub mod Dictionaries
 pub mod Fits
 pub mod FixedLists
@@ -7,4 +8,5 @@ pub mod Lengths
 pub mod ListSlots
 pub mod Records
 pub mod Rising
+pub mod Typed
 pub mod Windows

@@ -9,11 +9,11 @@ use Rattle.arrow_types.specs.declared.types.DataType.TheViews.{outs-List, outs-L
 use Rattle.arrow_types.specs.declared.types.Field.{Field}
 use Rattle.arrow_bitmap.specs.Bits.{Packed}
 use Rattle.arrow_array.specs.Offsets.{IsOffsets}
-use Rattle.arrow_array.specs.Parts.{IsValidityOf, IsCutOf, Window}
+use Rattle.arrow_array.specs.Parts.{IsValidityOf, IsCutOf}
 use Rattle.arrow_array.specs.Slots.{slot_at, is_held, valid_at, TellsHeld, slots_of}
 use Rattle.arrow_array.specs.Lists.{ListColumn, ListFits, IsListOf, list_at, list_type}
 use Rattle.arrow_array.proofs.Cuts.{cut_fits, cut_made_slots, length_cut, offsets_cut, part_cut}
-use Rattle.arrow_array.proofs.Windows.{count_slots, read_held, read_valid, validity_says}
+use Rattle.arrow_array.proofs.Windows.{Window, count_slots, read_held, read_valid, validity_says}
 
 -- the slots of what a view gives
 pub list_slots_are : {a b : ListColumn} → a ≡ b → a.slots ≡ b.slots
@@ -69,7 +69,7 @@ module _ (is_large : Bool) (t item : DataType) (offsets : List ℤ) (items : Lis
   cut_lists xs is =
       let c : length (take (k + 1) (drop o offsets)) ≡ k + 1 = length_cut o (k + 1) offsets (omega (arith, l)) in
       let win : Window (list_at offsets items) v 0 (length offsets - 1) (length offsets) = record { within = omega arith; validity_fits = h.validity_fits } in
-      cut_made_slots win is (list_at (take (k + 1) (drop o offsets)) items) w o k (length (take (k + 1) (drop o offsets)) - 1) (omega (arith, c)) (omega (arith, l)) d (λ j m. ap slot.Listed (part_cut o k offsets items j m))
+      cut_made_slots win is (list_at (take (k + 1) (drop o offsets)) items) w o k (length (take (k + 1) (drop o offsets)) - 1) (omega (arith, c)) (omega (arith, l)) d (λ j m. ap slot.List (part_cut o k offsets items j m))
 
 -- parts of an array of lists, as one test finds them
 pub lists_fit : {is_large : Bool} {t item : DataType} {offsets : List ℤ} {n : ℕ} (items : List Slot) {v : Option Packed} → IsListOf is_large t item → n ≡ length items → IsOffsets offsets n → IsValidityOf v (length offsets - 1) → ListFits is_large t item offsets items v

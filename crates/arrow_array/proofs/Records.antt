@@ -1,4 +1,4 @@
--- The slots of records, their children, and cuts of them.
+-- The slots of structs, their children, and cuts of them.
 use Rattle.std.proofs.Common.{◌≡◌, sym, ◌∙◌, ap, refl, arith, ℕ, zero, suc, ◌+◌, ◌<◌, ◌≤◌, Bool, List, [], ◌∷◌, ◌++◌, map, length, take, drop, slice_index_or, IsTrue, Option, zero-add, subst}
 use Rattle.std.specs.Bool.{Decides}
 use Rattle.arrow_types.specs.declared.slot.Slot.{Slot}
@@ -11,11 +11,11 @@ use Rattle.arrow_types.specs.declared.types.Field.{Field}
 use Rattle.arrow_bitmap.specs.Bits.{Packed}
 use Rattle.arrow_array.specs.declared.array.Array.{Array}
 use Rattle.arrow_array.specs.Arrays.{array_type, array_slots}
-use Rattle.arrow_array.specs.Parts.{IsCutOf, Window}
+use Rattle.arrow_array.specs.Parts.{IsCutOf}
 use Rattle.arrow_array.specs.Slots.{slot_at, is_held, valid_at, TellsHeld, slots_of}
-use Rattle.arrow_array.specs.Structs.{record_at, AreChildren, IsStructOf, first_len, StructParts, HaveRoom, AreCuts}
+use Rattle.arrow_array.specs.Structs.{record_at, AreChildren, IsStructOf, first_len, StructParts, HaveSlots, AreCuts}
 use Rattle.arrow_array.proofs.Cuts.{at_cut, cut_fits, cut_made_slots, length_cut}
-use Rattle.arrow_array.proofs.Windows.{count_slots, read_held, read_valid, validity_says}
+use Rattle.arrow_array.proofs.Windows.{Window, count_slots, read_held, read_valid, validity_says}
 
 module _ {data_type : DataType} {children : List Array} {n : ℕ} {v : Option Packed} {xs : List Slot} (h : StructParts data_type children n v) (is : slots_of (record_at (map array_slots children)) v 0 n ≡ xs) where
   record_window : Window (record_at (map array_slots children)) v 0 n n
@@ -24,7 +24,7 @@ module _ {data_type : DataType} {children : List Array} {n : ℕ} {v : Option Pa
   pub count_records : n ≡ length xs
   count_records = count_slots record_window is
 
-  -- a held slot is the record of the children's slots at its place
+  -- a held slot is the struct of the children's slots at its index
   pub read_record : (i : ℕ) → i < length xs → IsTrue (is_held (slot_at xs i)) → slot_at xs i ≡ record_at (map array_slots children) i
   read_record i l d = read_held record_window is i (omega (arith, l, count_records)) d ∙ ap (record_at (map array_slots children)) (zero-add i)
 
@@ -61,20 +61,20 @@ one_more_child n (g ∷ fields) (b ∷ children) (suc k) f a l m e d t c h = (h.
 struct_of_same : (f g : List Field) → types.Struct f ≡ types.Struct g → f ≡ g
 struct_of_same f g e = let d : open_type.Struct f ≡ open_type.Struct g = sym (outs-Struct f) ∙ ap out-DataType e ∙ outs-Struct g in cc
 
--- whether a type of records of these fields is one of the children
+-- whether a type of structs of these fields is one of the children
 pub struct_kind : (t : DataType) (children : List Array) (n : ℕ) (f g : List Field) (b : Bool) → t ≡ types.Struct f → g ≡ f → Decides b (AreChildren n g children) → Decides b (IsStructOf t children n)
 struct_kind t children n f g b e p d = (λ r. (f, e, subst (λ z. AreChildren n z children) p (d.0 r)), λ h. d.1 (subst (λ z. AreChildren n z children) (sym (p ∙ struct_of_same f h.0 (sym e ∙ h.1))) h.2))
 
-room_of_children : (m n : ℕ) (fields : List Field) (children : List Array) → AreChildren n fields children → m ≤ n → HaveRoom m children
-room_of_children m n [] [] h l i d p = absurd (omega (arith, p))
-room_of_children m n [] (a ∷ children) h l i d p = absurd h
-room_of_children m n (f ∷ fields) [] h l i d p = absurd h
-room_of_children m n (f ∷ fields) (a ∷ children) h l zero d p = omega (arith, h.0.1, l)
-room_of_children m n (f ∷ fields) (a ∷ children) h l (suc i) d p = room_of_children m n fields children h.1 l i d (omega (arith, p))
+capacity_of_children : (m n : ℕ) (fields : List Field) (children : List Array) → AreChildren n fields children → m ≤ n → HaveSlots m children
+capacity_of_children m n [] [] h l i d p = absurd (omega (arith, p))
+capacity_of_children m n [] (a ∷ children) h l i d p = absurd h
+capacity_of_children m n (f ∷ fields) [] h l i d p = absurd h
+capacity_of_children m n (f ∷ fields) (a ∷ children) h l zero d p = omega (arith, h.0.1, l)
+capacity_of_children m n (f ∷ fields) (a ∷ children) h l (suc i) d p = capacity_of_children m n fields children h.1 l i d (omega (arith, p))
 
--- the children of n records have room for as many
-pub room : (t : DataType) (m n : ℕ) (children : List Array) → IsStructOf t children n → m ≤ n → HaveRoom m children
-room t m n children h l = room_of_children m n h.0 children h.2 l
+-- the children of n structs have m slots, if m is at most n
+pub capacity : (t : DataType) (m n : ℕ) (children : List Array) → IsStructOf t children n → m ≤ n → HaveSlots m children
+capacity t m n children h l = capacity_of_children m n h.0 children h.2 l
 
 cut_children : (n o k : ℕ) (fields : List Field) (olds news : List Array) → o + k ≤ n → AreChildren n fields olds → AreCuts o k olds news → AreChildren k fields news
 cut_children n o k [] [] [] l h c = tt
@@ -99,7 +99,7 @@ cut_fields o k j (a ∷ olds) (b ∷ news) l c =
     let e : slot_at (array_slots b) j ≡ slot_at (array_slots a) (o + j) = rw c.0.1 (at_cut o k (array_slots a) j slot.Null l) in
     rw (e, cut_fields o k j olds news l c.1) refl
 
--- records of cut children are a cut of the records
+-- structs of cut children are a cut of the structs
 pub cut_struct : (t u : DataType) (n o k : ℕ) (olds news : List Array) (v w : Option Packed) → StructParts t olds n v → u ≡ t → o + k ≤ n → AreCuts o k olds news → IsCutOf v o k w → StructParts u news k w
 cut_struct t u n o k olds news v w h e l c d = record {
   filled = omega (arith, h.filled, as_many_cuts o k olds news c);
@@ -111,7 +111,7 @@ pub cut_records : (t : DataType) (n o k : ℕ) (olds news : List Array) (v w : O
     → slots_of (record_at (map array_slots news)) w 0 k ≡ take k (drop o xs)
 cut_records t n o k olds news v w xs h is l c d =
     let win : Window (record_at (map array_slots olds)) v 0 n n = record { within = omega arith; validity_fits = h.validity_fits } in
-    cut_made_slots win is (record_at (map array_slots news)) w o k k refl l d (λ j m. ap slot.Fields (cut_fields o k j olds news m c))
+    cut_made_slots win is (record_at (map array_slots news)) w o k k refl l d (λ j m. ap slot.Struct (cut_fields o k j olds news m c))
 
 -- one more array is cut
 pub one_more_cut : (o n : ℕ) (xs : List Array) (i : ℕ) (ys : List Array) (x y : Array) → i < length xs → x ≡ slice_index_or xs i x → array_type y ≡ array_type x → array_slots y ≡ take n (drop o (array_slots x))

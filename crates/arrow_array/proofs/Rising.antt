@@ -1,8 +1,8 @@
--- Offsets that fit are places, in order.
+-- Offsets that fit are indices, in order.
 use Rattle.std.proofs.Common.{◌≡◌, arith, ℕ, ◌+◌, ◌-◌, ◌<◌, ◌≤◌, inl, inr, ℤ, pos, negsuc, List, length}
 use mathlib.Core.Path.{subst}
 use Rattle.std.proofs.lemmas.Bool.{cases_lt}
-use Rattle.arrow_types.specs.Numbers.{IsPlace}
+use Rattle.arrow_types.specs.Numbers.{IsIndex}
 use Rattle.arrow_array.specs.Offsets.{offset_at, IsWithin, IsNotAbove, IsOffsets}
 
 -- the offsets below i fit, and before is the last of them
@@ -12,7 +12,7 @@ pub record OffsetsBelow (offsets : List ℤ) (n i before : ℕ) : Type 0 where
   pub last : (k : ℕ) → k + 1 ≡ i → offset_at offsets k ≡ pos before
   pub start : i ≡ 0 → before ≡ 0
 
-pub place_is : (z : ℤ) (n : ℕ) → IsWithin z n → IsPlace z
+pub place_is : (z : ℤ) (n : ℕ) → IsWithin z n → IsIndex z
 place_is (pos a) n h = tt
 place_is (negsuc a) n h = absurd h
 

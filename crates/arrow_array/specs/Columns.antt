@@ -14,12 +14,12 @@ pub record Column : Type 0 where
 abbrev pub column_code : Coded Column
 column_code = code_by (DataType × List Slot) (coded× the_types.the_row.coded (coded_list the_slots.the_row.coded)) (λ c. (c.data_type, c.slots)) (λ p. record { data_type = p.0; slots = p.1 }) (λ _. refl)
 
--- an array of texts or of byte strings: besides, the offsets of its slots, and the bytes that they point into
-pub record TextColumn : Type 0 where
+-- an array of strings or of binary values: besides, the offsets of its slots, and the bytes that they point into
+pub record ContentColumn : Type 0 where
   pub data_type : DataType
   pub slots : List Slot
   pub offsets : List ℤ
   pub bytes : List ℕ
 
-abbrev pub text_column_code : Coded TextColumn
-text_column_code = code_by (DataType × (List Slot × (List ℤ × List ℕ))) (coded× the_types.the_row.coded (coded× (coded_list the_slots.the_row.coded) (coded× (coded_list coded_ℤ) (coded_list coded_ℕ)))) (λ c. (c.data_type, (c.slots, (c.offsets, c.bytes)))) (λ p. record { data_type = p.0; slots = p.1.0; offsets = p.1.1.0; bytes = p.1.1.1 }) (λ _. refl)
+abbrev pub content_column_code : Coded ContentColumn
+content_column_code = code_by (DataType × (List Slot × (List ℤ × List ℕ))) (coded× the_types.the_row.coded (coded× (coded_list the_slots.the_row.coded) (coded× (coded_list coded_ℤ) (coded_list coded_ℕ)))) (λ c. (c.data_type, (c.slots, (c.offsets, c.bytes)))) (λ p. record { data_type = p.0; slots = p.1.0; offsets = p.1.1.0; bytes = p.1.1.1 }) (λ _. refl)

@@ -1,4 +1,4 @@
--- Keys, which are places in an array of values (Arrow columnar format, "Dictionary-encoded Layout").
+-- Keys, which are indices into an array of values (Arrow columnar format, "Dictionary-encoded Layout").
 use Rattle.std.specs.Prelude.{◌≡◌, ℕ, ◌<◌, Bool, pos, List, length, refl}
 use Rattle.std.specs.Coded.{Coded, code_by, coded×, coded_list}
 use Rattle.arrow_types.specs.declared.slot.Slot.{Slot}
@@ -47,19 +47,19 @@ dictionary_column_code = code_by (DataType × (List Slot × (List Slot × List S
 
 -- the slot of the values that a key names, and null where there is no key
 abbrev pub looked_up : List Slot → Slot → Slot
-looked_up items (slot.Whole (pos k)) = slot_at items k
+looked_up items (slot.Integer (pos k)) = slot_at items k
 looked_up items _ = slot.Null
 
--- a key is null, or a place in n values
+-- a key is null, or an index into n values
 abbrev pub IsKeyInto : ℕ → Slot → Type 0
 IsKeyInto n slot.Null = Unit {0}
-IsKeyInto n (slot.Whole (pos k)) = k < n
+IsKeyInto n (slot.Integer (pos k)) = k < n
 IsKeyInto n _ = ⊥
 
--- a key names no place
-abbrev pub IsNoPlace : Slot → Type 0
-IsNoPlace (slot.Whole (pos k)) = ⊥
-IsNoPlace _ = Unit {0}
+-- a key names no index
+abbrev pub IsNoIndex : Slot → Type 0
+IsNoIndex (slot.Integer (pos k)) = ⊥
+IsNoIndex _ = Unit {0}
 
 -- the type of a dictionary of such keys over such values
 abbrev pub IsDictionaryOf : IntegerType → DataType → DataType → Type 0

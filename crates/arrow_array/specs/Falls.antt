@@ -1,4 +1,5 @@
--- A child's type is no deeper than its parent's.
+-- Lemmas, which nobody has to believe: the type of a child is less deep than that of its parent.
+-- They stand in specs since the `size_decreases` of a struct imports nothing from elsewhere.
 use Rattle.std.specs.Prelude.{◌≡◌, ℕ, ◌≤◌, ◌+◌, ◌*◌, Bool, true, false, List, [], ◌∷◌, max}
 use Rattle.std.proofs.Common.{arith, refl, ap}
 use denote.Param.Weighed.{most}
@@ -11,6 +12,7 @@ use Rattle.arrow_array.specs.declared.array.Array.{Array}
 use Rattle.arrow_array.specs.declared.array.Array.TheVariants.{Null, Boolean, Int8, Int16, Int32, Int64, UInt8, UInt16, UInt32, UInt64, Int128, MonthDayNano, Utf8, LargeUtf8, Binary, LargeBinary, FixedSizeBinary, List as ListOf, LargeList, FixedSizeList, Struct, Dictionary}
 use Rattle.arrow_array.specs.declared.dictionary.DictionaryArray.TheDeep.{deep-Array, size-Array}
 use Rattle.arrow_array.specs.Arrays.{array_type}
+use Rattle.arrow_array.specs.Depths.{children_depth}
 use Rattle.arrow_array.specs.Dictionaries.{IsDictionaryOf}
 use Rattle.arrow_array.specs.FixedLists.{IsFixedListOf, list_size}
 use Rattle.arrow_array.specs.Lists.{list_type, IsListOf}
@@ -57,10 +59,6 @@ list_falls is_large t a h = omega (arith, deep_below a, item_below is_large t (a
 struct_above : (fs : List Field) → most size-Field fs + 1 ≤ size-DataType (types.Struct fs)
 struct_above fs = omega (arith, sized-Struct fs)
 
--- the depth of the deepest type of some arrays
-abbrev pub children_depth : List Array → ℕ
-children_depth = most (λ a. size-DataType (array_type a) + 1)
-
 fields_above : (n : ℕ) (fs : List Field) (children : List Array) → AreChildren n fs children → children_depth children ≤ most size-Field fs
 fields_above n [] [] h = omega arith
 fields_above n [] (a ∷ more) h = absurd h
@@ -69,7 +67,7 @@ fields_above n (f ∷ fs) (a ∷ more) h =
     let e : size-DataType (f.data_type) ≡ size-DataType (array_type a) = rw (h.0.0) refl in
     omega (arith, e, field_above f, fields_above n fs more h.1)
 
--- the children's types are less deep than the records'
+-- the children's types are less deep than the structs'
 pub children_below : (t : DataType) (children : List Array) (n : ℕ) → IsStructOf t children n → children_depth children ≤ size-DataType t
 children_below t children n h = rw h.1 (omega (arith, fields_above n h.0 children h.2, struct_above h.0))
 

@@ -1,4 +1,4 @@
--- Lists of one length (Arrow columnar format, "Fixed-Size List Layout").
+-- Fixed-size lists (Arrow columnar format, "Fixed-Size List Layout").
 use Rattle.std.specs.Prelude.{◌≡◌, ℕ, ◌*◌, ◌/◌, ◌%◌, ◌^◌, ◌<◌, List, take, drop, Option}
 use Rattle.arrow_types.specs.declared.slot.Slot.{Slot}
 use Rattle.arrow_types.specs.declared.slot.Slot.TheVariants as slot
@@ -8,20 +8,20 @@ use Rattle.arrow_types.specs.declared.types.Field.{Field}
 use Rattle.arrow_bitmap.specs.Bits.{Packed}
 use Rattle.arrow_array.specs.Parts.{IsValidityOf}
 
--- the list of so many of the child's slots from place k times as many
+-- the list of so many of the child's slots from index k times as many
 abbrev pub fixed_list_at : ℕ → List Slot → ℕ → Slot
-fixed_list_at size items k = slot.Listed (take size (drop (k * size) items))
+fixed_list_at size items k = slot.List (take size (drop (k * size) items))
 
--- how many items each list has; 0 for a type that isn't one of lists of one length
+-- how many items each list has; 0 for a type that isn't one of fixed-size lists
 abbrev pub list_size : DataType → ℕ
 list_size (FixedSizeList' shape item size) = size
 list_size _ = 0
 
--- the type of lists of one length whose items are of this type
+-- the type of fixed-size lists whose items are of this type
 abbrev pub IsFixedListOf : DataType → DataType → Type 0
 IsFixedListOf data_type item = (field : Field) × (data_type ≡ types.FixedSizeList field (list_size data_type)) × (field.data_type ≡ item)
 
--- parts of an array of lists of one length, at least 1, of a child of this type with n slots
+-- parts of an array of fixed-size lists, at least 1, of a child of this type with n slots
 pub record FixedListFits (data_type item : DataType) (n : ℕ) (validity : Option Packed) : Type 0 where
   pub filled : 0 < list_size data_type
   pub kind : IsFixedListOf data_type item

@@ -1,12 +1,15 @@
 pub mod Arrays
 pub mod Chunks
 pub mod Columns
+pub mod Depths
 pub mod Dictionaries
 pub mod Falls
 pub mod FixedLists
+pub mod Kinds
 pub mod Lent
 pub mod Lists
 pub mod Offsets
 pub mod Parts
+pub mod SlotTypes
 pub mod Slots
 pub mod Structs

@@ -24,7 +24,7 @@ list_column_code = code_by (DataType × (List Slot × (List ℤ × List Slot))) 
 
 -- the list of the child's slots between offset k and the next
 abbrev pub list_at : List ℤ → List Slot → ℕ → Slot
-list_at offsets items k = slot.Listed (part offsets items k)
+list_at offsets items k = slot.List (part offsets items k)
 
 -- the type of lists of a field, with offsets of 32 bits, or of 64
 abbrev pub list_type : Bool → Field → DataType

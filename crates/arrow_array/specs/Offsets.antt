@@ -32,15 +32,15 @@ pub record IsOffsets (offsets : List ℤ) (n : ℕ) : Type 0 where
   pub rising : (k : ℕ) → k + 1 < length offsets → IsNotAbove (offset_at offsets k) (offset_at offsets (k + 1))
 
 -- the bytes between each two neighbouring offsets are UTF-8
-abbrev pub AreTexts : List ℤ → List ℕ → Type 0
-AreTexts offsets bytes = (k : ℕ) → k + 1 < length offsets → IsUtf8 (part offsets bytes k)
+abbrev pub AreUtf8 : List ℤ → List ℕ → Type 0
+AreUtf8 offsets bytes = (k : ℕ) → k + 1 < length offsets → IsUtf8 (part offsets bytes k)
 
--- in a text whose first byte lies at place start, an offset stands between two characters, at the first, or behind the last
+-- in a text whose first byte has index start, an offset stands between two characters, at the first, or after the last
 abbrev pub IsBoundary : List ℕ → ℕ → ℤ → Type 0
 IsBoundary text start (pos a) = IsCharBoundary text (a - start)
 IsBoundary text start (negsuc a) = ⊥
 
--- an offset isn't before a place
+-- an offset isn't before an index
 abbrev pub IsFrom : ℕ → ℤ → Type 0
 IsFrom start (pos a) = start ≤ a
 IsFrom start (negsuc a) = ⊥

@@ -18,42 +18,42 @@ is_held _ = true
 -- whether a validity, if there is one, says that slot i isn't null
 abbrev pub valid_at : Option Packed → ℕ → Bool
 valid_at None i = true
-valid_at (Some validity) i = slice_index_or validity.truths i false
+valid_at (Some validity) i = slice_index_or validity.booleans i false
 
 -- what a validity, if there is one, tells of the slots: without one, each is held
 abbrev pub TellsHeld : Option Packed → List Slot → Type 0
 TellsHeld None slots = All (λ x. IsTrue (is_held x)) slots
-TellsHeld (Some validity) slots = validity.truths ≡ map is_held slots
+TellsHeld (Some validity) slots = validity.booleans ≡ map is_held slots
 
 -- a slot, which is null where the validity says so
 abbrev pub shown : Option Packed → ℕ → Slot → Slot
 shown None i x = x
-shown (Some validity) i x = cond (slice_index_or validity.truths i false) x slot.Null
+shown (Some validity) i x = cond (slice_index_or validity.booleans i false) x slot.Null
 
--- n slots: slot i is what f makes at place start + i, or null
+-- n slots: slot i is what f makes at index start + i, or null
 abbrev pub slots_of : (ℕ → Slot) → Option Packed → ℕ → ℕ → List Slot
 slots_of f validity start n = map (λ i. shown validity i (f (start + i))) (range_with_len 0 n)
 
--- a null, at each place
+-- a null, at each index
 abbrev pub null_at : ℕ → Slot
 null_at k = slot.Null
 
--- the truth value at place k
-abbrev pub truth_at : List Bool → ℕ → Slot
-truth_at truths k = slot.Truth (slice_index_or truths k false)
+-- the boolean at index k
+abbrev pub boolean_at : List Bool → ℕ → Slot
+boolean_at booleans k = slot.Boolean (slice_index_or booleans k false)
 
--- the slot of the value at place k, where native makes a slot of a value
+-- the slot of the value at index k, where native makes a slot of a value
 abbrev pub native_at : {X : Type 0} → (X → Slot) → List X → ℕ → Slot
 native_at native xs k = slice_index_or (map native xs) k slot.Null
 
--- the text between offset k and the next
-abbrev pub text_at : List ℤ → List ℕ → ℕ → Slot
-text_at offsets bytes k = slot.Words (part offsets bytes k)
+-- the string between offset k and the next
+abbrev pub utf8_at : List ℤ → List ℕ → ℕ → Slot
+utf8_at offsets bytes k = slot.String (part offsets bytes k)
 
 -- the bytes between offset k and the next
-abbrev pub octets_at : List ℤ → List ℕ → ℕ → Slot
-octets_at offsets bytes k = slot.Octets (part offsets bytes k)
+abbrev pub binary_at : List ℤ → List ℕ → ℕ → Slot
+binary_at offsets bytes k = slot.Binary (part offsets bytes k)
 
--- so many bytes from place k times as many
+-- so many bytes from index k times as many
 abbrev pub fixed_at : ℕ → List ℕ → ℕ → Slot
-fixed_at width bytes k = slot.Octets (take width (drop (k * width) bytes))
+fixed_at width bytes k = slot.Binary (take width (drop (k * width) bytes))

@@ -1,7 +1,11 @@
-ghost use Rattle.std.specs.Prelude.{◌≡◌, ◌+◌, ◌<◌, ◌≤◌, IfOk, IfErr, length, take, drop};
+//! An array of any kind.
+ghost use Rattle.std.specs.Prelude.{◌≡◌, ◌+◌, ◌<◌, ◌≤◌, IfOk, IfErr, length, take, drop, All};
 ghost use Rattle.std.specs.Option.{option_copied};
-ghost use Rattle.arrow_lists.specs.declared.error.Error.TheVariants.{OutOfMemory};
+ghost use Rattle.arrow_core.specs.declared.error.Error.TheVariants.{OutOfMemory};
 ghost use Rattle.arrow_array.specs.Arrays.{TellsValidity, array_type, array_slots};
+ghost use Rattle.arrow_array.specs.Kinds.{array_kind};
+ghost use Rattle.arrow_array.specs.Parts.{IsOfKind};
+ghost use Rattle.arrow_array.specs.SlotTypes.{SlotOf};
 ghost use Rattle.arrow_array.specs.Slots.{is_held, slot_at};
 
 use crate::binary::BinaryArray;
@@ -15,7 +19,7 @@ use crate::primitive::PrimitiveArray;
 use crate::structs::StructArray;
 use crate::utf8::Utf8Array;
 use arrow_bitmap::Bitmap;
-use arrow_lists::Result;
+use arrow_core::Result;
 use arrow_types::{DataType, MonthsDaysNs};
 use std::alloc::Global;
 
@@ -25,47 +29,47 @@ use std::alloc::Global;
 pub enum Array {
     /// Nulls.
     Null(NullArray),
-    /// Truth values.
+    /// Booleans.
     Boolean(BooleanArray),
-    /// Numbers of 8 bits, of any type that is kept as such.
+    /// Integers of 8 bits, of any type that lies in memory so.
     Int8(PrimitiveArray<i8>),
-    /// Numbers of 16 bits, of any type that is kept as such.
+    /// Integers of 16 bits, of any type that lies in memory so.
     Int16(PrimitiveArray<i16>),
-    /// Numbers of 32 bits, of any type that is kept as such.
+    /// Integers of 32 bits, of any type that lies in memory so.
     Int32(PrimitiveArray<i32>),
-    /// Numbers of 64 bits, of any type that is kept as such.
+    /// Integers of 64 bits, of any type that lies in memory so.
     Int64(PrimitiveArray<i64>),
-    /// Numbers of 8 bits without a sign.
+    /// Unsigned integers of 8 bits.
     UInt8(PrimitiveArray<u8>),
-    /// Numbers of 16 bits without a sign.
+    /// Unsigned integers of 16 bits.
     UInt16(PrimitiveArray<u16>),
-    /// Numbers of 32 bits without a sign.
+    /// Unsigned integers of 32 bits.
     UInt32(PrimitiveArray<u32>),
-    /// Numbers of 64 bits without a sign.
+    /// Unsigned integers of 64 bits.
     UInt64(PrimitiveArray<u64>),
-    /// Numbers of 128 bits, of any type that is kept as such.
+    /// Integers of 128 bits, of any type that lies in memory so.
     Int128(PrimitiveArray<i128>),
-    /// Lengths of time by the calendar.
+    /// Intervals.
     MonthDayNano(PrimitiveArray<MonthsDaysNs>),
-    /// Texts with offsets of 32 bits.
+    /// Strings with offsets of 32 bits.
     Utf8(Utf8Array<i32>),
-    /// Texts with offsets of 64 bits.
+    /// Strings with offsets of 64 bits.
     LargeUtf8(Utf8Array<i64>),
-    /// Byte strings with offsets of 32 bits.
+    /// Binary values with offsets of 32 bits.
     Binary(BinaryArray<i32>),
-    /// Byte strings with offsets of 64 bits.
+    /// Binary values with offsets of 64 bits.
     LargeBinary(BinaryArray<i64>),
-    /// Byte strings of one length.
+    /// Fixed-size binary values.
     FixedSizeBinary(FixedSizeBinaryArray),
     /// Lists with offsets of 32 bits.
     List(ListArray),
     /// Lists with offsets of 64 bits.
     LargeList(LargeListArray),
-    /// Lists of one length.
+    /// Fixed-size lists.
     FixedSizeList(FixedSizeListArray),
-    /// Records.
+    /// Structs.
     Struct(StructArray),
-    /// Values by their places in an array of values.
+    /// Values by their indices in an array of values.
     Dictionary(DictionaryArray),
 }
 
@@ -100,9 +104,11 @@ impl Array {
         }
     }
 
-    /// The data type.
+    /// The data type, whose slots lie in memory as the array's kind says, and which is no
+    /// extension.
     pub fn data_type(&self) -> &DataType
-        ensures { result.now ≡ array_type self.now }
+        ensures data_type { result.now ≡ array_type self.now }
+        ensures kind { IsOfKind (array_kind self.now) (array_type self.now) }
     {
         match self {
             Array::Null(array) => array.data_type(),
@@ -193,14 +199,47 @@ impl Array {
         }
     }
 
-    /// The `count` slots from place `offset` on. It shares the buffers.
+    /// Tells that each slot is one of the data type: of its kind, in its range, as long as it says,
+    /// and its items and fields of their types. It looks at each child once, and changes nothing.
+    #[cycle(typed)]
+    pub fn slots_are_typed(&self)
+        ensures { All (SlotOf (array_type self.now)) (array_slots self.now) }
+    {
+        match self {
+            Array::Null(array) => array.slots_are_typed(),
+            Array::Boolean(array) => array.slots_are_typed(),
+            Array::Int8(array) => array.slots_are_typed(),
+            Array::Int16(array) => array.slots_are_typed(),
+            Array::Int32(array) => array.slots_are_typed(),
+            Array::Int64(array) => array.slots_are_typed(),
+            Array::UInt8(array) => array.slots_are_typed(),
+            Array::UInt16(array) => array.slots_are_typed(),
+            Array::UInt32(array) => array.slots_are_typed(),
+            Array::UInt64(array) => array.slots_are_typed(),
+            Array::Int128(array) => array.slots_are_typed(),
+            Array::MonthDayNano(array) => array.slots_are_typed(),
+            Array::Utf8(array) => array.slots_are_typed(),
+            Array::LargeUtf8(array) => array.slots_are_typed(),
+            Array::Binary(array) => array.slots_are_typed(),
+            Array::LargeBinary(array) => array.slots_are_typed(),
+            Array::FixedSizeBinary(array) => array.slots_are_typed(),
+            Array::List(array) => array.slots_are_typed(),
+            Array::LargeList(array) => array.slots_are_typed(),
+            Array::FixedSizeList(array) => array.slots_are_typed(),
+            Array::Struct(array) => array.slots_are_typed(),
+            Array::Dictionary(array) => array.slots_are_typed(),
+        }
+    }
+
+    /// The `count` slots from index `offset` on. It shares the buffers.
     ///
     /// `OutOfMemory` alone.
     #[cycle(slices)]
     pub fn slice(&self, alloc: Global, offset: usize, count: usize) -> Result<Array>
         requires { offset + count ≤ length (array_slots self.now) }
         ensures data_type { IfOk result (λ a. array_type a ≡ array_type self.now) }
-        ensures slots { IfOk result (λ a. array_slots a ≡ take count (drop offset (array_slots self.now))) }
+        ensures slots { IfOk result
+            (λ a. array_slots a ≡ take count (drop offset (array_slots self.now))) }
         ensures memory { IfErr result (λ e. e ≡ OutOfMemory) }
     {
         Ok(match self {

@@ -1,20 +1,24 @@
-ghost use Rattle.std.specs.Prelude.{◌≡◌, ℕ, ◌+◌, ◌-◌, ◌<◌, ◌≤◌, ◌↔◌, IsTrue, IfOk, IfErr, length, map, take, drop, vec_len};
+//! Binary values.
+ghost use Rattle.std.specs.Prelude.{◌≡◌, ℕ, ◌+◌, ◌-◌, ◌<◌, ◌≤◌, ◌↔◌, IsTrue, IfOk, IfErr, length, map, take, drop, vec_len, All};
 ghost use Rattle.std.specs.Option.{option_copied};
-ghost use Rattle.arrow_lists.specs.declared.error.Error.TheVariants.{OutOfMemory};
-ghost use Rattle.arrow_types.specs.declared.slot.Slot.TheVariants.{Octets};
-ghost use Rattle.arrow_array.specs.Slots.{TellsHeld, is_held, slot_at, slots_of, octets_at};
+ghost use Rattle.arrow_core.specs.declared.error.Error.TheVariants.{OutOfMemory};
+ghost use Rattle.arrow_types.specs.declared.slot.Slot.TheVariants.{Binary as BinarySlot};
+ghost use Rattle.arrow_array.specs.Offsets.{IsOffsets};
+ghost use Rattle.arrow_array.specs.SlotTypes.{SlotOf};
+ghost use Rattle.arrow_array.specs.Slots.{TellsHeld, is_held, slot_at, slots_of, binary_at};
 ghost use Rattle.arrow_array.specs.Parts.{BinaryFits, IsRefusalOf, binary_type};
 
 use crate::buffer::Buffer;
 use crate::offsets::{are_offsets, part_of};
+use crate::ranges::{RangedOffset, tell_offset_ranges};
 use crate::validity;
 use arrow_bitmap::Bitmap;
-use arrow_lists::{Error, Reason, Result};
+use arrow_core::{Error, Reason, Result};
 use arrow_types::{DataType, Offset};
 use std::alloc::Global;
 use std::marker::Model;
 
-/// Byte strings, which lie one after another in a shared buffer, between shared offsets
+/// Binary values, which lie one after another in a shared buffer, between shared offsets
 /// (Arrow columnar format, "Variable-size Binary Layout").
 ///
 /// The offsets of `i32` make the type Binary, and those of `i64` LargeBinary.
@@ -28,25 +32,25 @@ pub struct BinaryArray<O: Offset> {
 
 impl<O: Offset> Model for BinaryArray<O> {
     ghost use Rattle.std.specs.Prelude.{◌-◌, length, map};
-    ghost use Rattle.arrow_array.specs.Columns.{TextColumn, text_column_code};
-    ghost use Rattle.arrow_array.specs.Slots.{slots_of, octets_at};
+    ghost use Rattle.arrow_array.specs.Columns.{ContentColumn, content_column_code};
+    ghost use Rattle.arrow_array.specs.Slots.{slots_of, binary_at};
     ghost use Rattle.arrow_array.specs.Parts.{BinaryFits, binary_type};
 
-    ghost Value = { TextColumn };
+    ghost Value = { ContentColumn };
 
-    ghost coded = { text_column_code };
+    ghost coded = { content_column_code };
 
     ghost view = { λ a. record {
       data_type = a.data_type;
-      slots = slots_of (octets_at (map O.place a.offsets) a.values) a.validity 0 (length (map O.place a.offsets) - 1);
-      offsets = map O.place a.offsets;
+      slots = slots_of (binary_at (map O.number a.offsets) a.values) a.validity 0 (length (map O.number a.offsets) - 1);
+      offsets = map O.number a.offsets;
       bytes = a.values;
     } };
 
-    ghost invariant = { λ a. BinaryFits (binary_type O.IS_LARGE) a.data_type (map O.place a.offsets) (length a.values) a.validity };
+    ghost invariant = { λ a. BinaryFits (binary_type O.IS_LARGE) a.data_type (map O.number a.offsets) (length a.values) a.validity };
 }
 
-/// Whether this is the type of byte strings with such offsets.
+/// Whether this is the type of binary values with such offsets.
 fn is_binary_type<O: Offset>(data_type: &DataType) -> bool
     ensures { IsTrue result ↔ (data_type.now ≡ binary_type O.IS_LARGE) }
 {
@@ -57,14 +61,16 @@ fn is_binary_type<O: Offset>(data_type: &DataType) -> bool
     }
 }
 
-/// Whether these parts make an array of byte strings.
+/// Whether these parts make an array of binary values.
 fn fits<O: Offset>(
     data_type: &DataType,
     offsets: &[O],
     values_len: usize,
     validity: &Option<Bitmap>,
 ) -> bool
-    ensures { IsTrue result ↔ BinaryFits (binary_type O.IS_LARGE) data_type.now (map O.place offsets.now) values_len validity.now }
+    ensures { IsTrue result
+        ↔ BinaryFits (binary_type O.IS_LARGE) data_type.now (map O.number offsets.now) values_len
+        validity.now }
 {
     if !is_binary_type::<O>(data_type) {
         return false;
@@ -90,11 +96,19 @@ impl<O: Offset> BinaryArray<O> {
         validity: Option<Bitmap>,
     ) -> Result<BinaryArray<O>>
         ensures data_type { IfOk result (λ a. a.data_type ≡ data_type) }
-        ensures slots { IfOk result (λ a. a.slots ≡ slots_of (octets_at (map O.place offsets.items) values.items) validity 0 (vec_len offsets - 1)) }
-        ensures offsets { IfOk result (λ a. a.offsets ≡ map O.place offsets.items) }
+        ensures slots { IfOk result
+            (λ a. a.slots
+            ≡ slots_of (binary_at (map O.number offsets.items) values.items) validity 0
+            (vec_len offsets - 1)) }
+        ensures offsets { IfOk result (λ a. a.offsets ≡ map O.number offsets.items) }
         ensures bytes { IfOk result (λ a. a.bytes ≡ values.items) }
-        ensures fits { IfOk result (λ _. BinaryFits (binary_type O.IS_LARGE) data_type (map O.place offsets.items) (vec_len values) validity) }
-        ensures err { IfErr result (IsRefusalOf (BinaryFits (binary_type O.IS_LARGE) data_type (map O.place offsets.items) (vec_len values) validity)) }
+        ensures fits { IfOk result
+            (λ _. BinaryFits (binary_type O.IS_LARGE) data_type (map O.number offsets.items)
+            (vec_len values) validity) }
+        ensures err { IfErr result
+            (IsRefusalOf
+            (BinaryFits (binary_type O.IS_LARGE) data_type (map O.number offsets.items)
+            (vec_len values) validity)) }
     {
         if !fits(&data_type, offsets.as_slice(), values.len(), &validity) {
             return Err(Error::InvalidArgumentError(Reason::ArrayParts));
@@ -111,10 +125,14 @@ impl<O: Offset> BinaryArray<O> {
         values: Vec<u8>,
         validity: Option<Bitmap>,
     ) -> Result<BinaryArray<O>>
-        requires { BinaryFits (binary_type O.IS_LARGE) data_type (map O.place offsets.items) (vec_len values) validity }
+        requires { BinaryFits (binary_type O.IS_LARGE) data_type (map O.number offsets.items)
+            (vec_len values) validity }
         ensures data_type { IfOk result (λ a. a.data_type ≡ data_type) }
-        ensures slots { IfOk result (λ a. a.slots ≡ slots_of (octets_at (map O.place offsets.items) values.items) validity 0 (vec_len offsets - 1)) }
-        ensures offsets { IfOk result (λ a. a.offsets ≡ map O.place offsets.items) }
+        ensures slots { IfOk result
+            (λ a. a.slots
+            ≡ slots_of (binary_at (map O.number offsets.items) values.items) validity 0
+            (vec_len offsets - 1)) }
+        ensures offsets { IfOk result (λ a. a.offsets ≡ map O.number offsets.items) }
         ensures bytes { IfOk result (λ a. a.bytes ≡ values.items) }
         ensures err { IfErr result (λ e. e ≡ OutOfMemory) }
     {
@@ -135,9 +153,10 @@ impl<O: Offset> BinaryArray<O> {
         self.offsets.len() - 1
     }
 
-    /// The data type.
+    /// The data type: Binary with offsets of 32 bits, and LargeBinary with those of 64.
     pub fn data_type(&self) -> &DataType
-        ensures { result.now ≡ self.now.data_type }
+        ensures data_type { result.now ≡ self.now.data_type }
+        ensures kind { self.now.data_type ≡ binary_type O.IS_LARGE }
     {
         &self.data_type
     }
@@ -145,8 +164,12 @@ impl<O: Offset> BinaryArray<O> {
     /// The offsets of the slots, one more than there are slots: a slot that isn't null is the
     /// bytes between its offset and the next in `values`.
     pub fn offsets(&self) -> &[O]
-        ensures offsets { map O.place result.now ≡ self.now.offsets }
-        ensures slots { (k : ℕ) → k < length self.now.slots → IsTrue (is_held (slot_at self.now.slots k)) → slot_at self.now.slots k ≡ octets_at (map O.place result.now) self.now.bytes k }
+        ensures offsets { map O.number result.now ≡ self.now.offsets }
+        ensures fit { IsOffsets (map O.number result.now) (length self.now.bytes) }
+        ensures count { length result.now ≡ length self.now.slots + 1 }
+        ensures slots { (k : ℕ) → k < length self.now.slots
+            → IsTrue (is_held (slot_at self.now.slots k))
+            → slot_at self.now.slots k ≡ binary_at (map O.number result.now) self.now.bytes k }
     {
         self.offsets.as_slice()
     }
@@ -176,19 +199,21 @@ impl<O: Offset> BinaryArray<O> {
     /// The bytes of slot `i`; at a null, whatever the buffer has there.
     pub fn value(&self, i: usize) -> &[u8]
         requires { i < length self.now.slots }
-        ensures { IsTrue (is_held (slot_at self.now.slots i)) → slot_at self.now.slots i ≡ Octets result.now }
+        ensures { IsTrue (is_held (slot_at self.now.slots i))
+            → slot_at self.now.slots i ≡ BinarySlot result.now }
     {
         part_of(self.offsets.as_slice(), self.values.as_slice(), i)
     }
 
-    /// The `count` slots from place `offset` on. It shares the buffers.
+    /// The `count` slots from index `offset` on. It shares the buffers.
     ///
     /// `OutOfMemory` alone.
     pub fn slice(&self, alloc: Global, offset: usize, count: usize) -> Result<BinaryArray<O>>
         requires { offset + count ≤ length self.now.slots }
         ensures data_type { IfOk result (λ a. a.data_type ≡ self.now.data_type) }
         ensures slots { IfOk result (λ a. a.slots ≡ take count (drop offset self.now.slots)) }
-        ensures offsets { IfOk result (λ a. a.offsets ≡ take (count + 1) (drop offset self.now.offsets)) }
+        ensures offsets { IfOk result
+            (λ a. a.offsets ≡ take (count + 1) (drop offset self.now.offsets)) }
         ensures bytes { IfOk result (λ a. a.bytes ≡ self.now.bytes) }
         ensures memory { IfErr result (λ e. e ≡ OutOfMemory) }
     {
@@ -202,5 +227,14 @@ impl<O: Offset> BinaryArray<O> {
             values,
             validity,
         })
+    }
+}
+
+impl<O: RangedOffset> BinaryArray<O> {
+    /// Tells that each slot is one of the data type.
+    pub(crate) fn slots_are_typed(&self)
+        ensures { All (SlotOf self.now.data_type) self.now.slots }
+    {
+        tell_offset_ranges(self.offsets.as_slice());
     }
 }

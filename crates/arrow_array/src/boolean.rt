@@ -1,18 +1,21 @@
-ghost use Rattle.std.specs.Prelude.{◌≡◌, ◌+◌, ◌<◌, ◌≤◌, ◌↔◌, IsTrue, IfOk, IfErr, length, take, drop, vec_len};
+//! Booleans.
+ghost use Rattle.std.specs.Prelude.{◌≡◌, ◌+◌, ◌<◌, ◌≤◌, ◌↔◌, IsTrue, IfOk, IfErr, length, take, drop, vec_len, All};
 ghost use Rattle.std.specs.Option.{option_copied};
-ghost use Rattle.arrow_lists.specs.declared.error.Error.TheVariants.{OutOfMemory};
-ghost use Rattle.arrow_types.specs.declared.slot.Slot.TheVariants.{Truth};
-ghost use Rattle.arrow_array.specs.Slots.{TellsHeld, is_held, slot_at, slots_of, truth_at};
+ghost use Rattle.arrow_core.specs.declared.error.Error.TheVariants.{OutOfMemory};
+ghost use Rattle.arrow_types.specs.declared.slot.Slot.TheVariants.{Boolean as BooleanSlot};
+ghost use Rattle.arrow_types.specs.declared.types.DataType.TheVariants.{Boolean as BooleanType};
+ghost use Rattle.arrow_array.specs.SlotTypes.{SlotOf};
+ghost use Rattle.arrow_array.specs.Slots.{TellsHeld, is_held, slot_at, slots_of, boolean_at};
 ghost use Rattle.arrow_array.specs.Parts.{BooleanFits, IsRefusalOf};
 
 use crate::validity;
 use arrow_bitmap::Bitmap;
-use arrow_lists::{Error, Reason, Result};
+use arrow_core::{Error, Reason, Result};
 use arrow_types::DataType;
 use std::alloc::Global;
 use std::marker::Model;
 
-/// Truth values, packed in a bitmap (Arrow columnar format, "Fixed-size Primitive Layout").
+/// Booleans, packed in a bitmap (Arrow columnar format, "Fixed-size Primitive Layout").
 #[derive(Drop)]
 pub struct BooleanArray {
     data_type: DataType,
@@ -23,19 +26,19 @@ pub struct BooleanArray {
 impl Model for BooleanArray {
     ghost use Rattle.std.specs.Prelude.{length};
     ghost use Rattle.arrow_array.specs.Columns.{Column, column_code};
-    ghost use Rattle.arrow_array.specs.Slots.{slots_of, truth_at};
+    ghost use Rattle.arrow_array.specs.Slots.{slots_of, boolean_at};
     ghost use Rattle.arrow_array.specs.Parts.{BooleanFits};
 
     ghost Value = { Column };
 
     ghost coded = { column_code };
 
-    ghost view = { λ a. record { data_type = a.data_type; slots = slots_of (truth_at a.values.truths) a.validity 0 (length a.values.truths) } };
+    ghost view = { λ a. record { data_type = a.data_type; slots = slots_of (boolean_at a.values.booleans) a.validity 0 (length a.values.booleans) } };
 
-    ghost invariant = { λ a. BooleanFits a.data_type (length a.values.truths) a.validity };
+    ghost invariant = { λ a. BooleanFits a.data_type (length a.values.booleans) a.validity };
 }
 
-/// Whether these parts make an array of so many truth values.
+/// Whether these parts make an array of so many booleans.
 fn fits(data_type: &DataType, len: usize, validity: &Option<Bitmap>) -> bool
     ensures { IsTrue result ↔ BooleanFits data_type.now len validity.now }
 {
@@ -43,7 +46,7 @@ fn fits(data_type: &DataType, len: usize, validity: &Option<Bitmap>) -> bool
 }
 
 impl BooleanArray {
-    /// The array of these truth values, one a slot, null where the validity is false.
+    /// The array of these booleans, one a slot, null where the validity is false.
     ///
     /// `InvalidArgumentError(ArrayParts)` where the type isn't Boolean, or where a given validity
     /// has another length; `OutOfMemory`.
@@ -54,7 +57,8 @@ impl BooleanArray {
         validity: Option<Bitmap>,
     ) -> Result<BooleanArray>
         ensures data_type { IfOk result (λ a. a.data_type ≡ data_type) }
-        ensures slots { IfOk result (λ a. a.slots ≡ slots_of (truth_at values.items) validity 0 (vec_len values)) }
+        ensures slots { IfOk result
+            (λ a. a.slots ≡ slots_of (boolean_at values.items) validity 0 (vec_len values)) }
         ensures fits { IfOk result (λ _. BooleanFits data_type (vec_len values) validity) }
         ensures err { IfErr result (IsRefusalOf (BooleanFits data_type (vec_len values) validity)) }
     {
@@ -69,15 +73,16 @@ impl BooleanArray {
         })
     }
 
-    /// The array of the truth values of a bitmap, which it keeps. It takes no memory.
+    /// The array of the booleans of a bitmap, which it keeps. It takes no memory.
     pub fn from_bitmaps(
         data_type: DataType,
         values: Bitmap,
         validity: Option<Bitmap>,
     ) -> BooleanArray
-        requires { BooleanFits data_type (length values.truths) validity }
+        requires { BooleanFits data_type (length values.booleans) validity }
         ensures data_type { result.data_type ≡ data_type }
-        ensures slots { result.slots ≡ slots_of (truth_at values.truths) validity 0 (length values.truths) }
+        ensures slots { result.slots
+            ≡ slots_of (boolean_at values.booleans) validity 0 (length values.booleans) }
     {
         BooleanArray {
             data_type,
@@ -93,9 +98,10 @@ impl BooleanArray {
         self.values.len()
     }
 
-    /// The data type.
+    /// The data type, which is Boolean.
     pub fn data_type(&self) -> &DataType
-        ensures { result.now ≡ self.now.data_type }
+        ensures data_type { result.now ≡ self.now.data_type }
+        ensures kind { self.now.data_type ≡ BooleanType }
     {
         &self.data_type
     }
@@ -115,15 +121,23 @@ impl BooleanArray {
         validity::is_valid(&self.validity, self.values.len(), i)
     }
 
-    /// The truth value of slot `i`; at a null, whatever the buffer has there.
+    /// The boolean of slot `i`; at a null, whatever the buffer has there.
     pub fn value(&self, i: usize) -> bool
         requires { i < length self.now.slots }
-        ensures { IsTrue (is_held (slot_at self.now.slots i)) → slot_at self.now.slots i ≡ Truth result }
+        ensures { IsTrue (is_held (slot_at self.now.slots i))
+            → slot_at self.now.slots i ≡ BooleanSlot result }
     {
         self.values.get(i)
     }
 
-    /// The `count` slots from place `offset` on. It shares the buffers.
+    /// Tells that each slot is one of the data type.
+    pub(crate) fn slots_are_typed(&self)
+        ensures { All (SlotOf self.now.data_type) self.now.slots }
+    {
+        let _ = &self.values;
+    }
+
+    /// The `count` slots from index `offset` on. It shares the buffers.
     ///
     /// `OutOfMemory` alone.
     pub fn slice(&self, alloc: Global, offset: usize, count: usize) -> Result<BooleanArray>

@@ -1,8 +1,8 @@
 //! Buffers of values, which arrays share (Arrow columnar format, "Buffers").
 ghost use Rattle.std.specs.Prelude.{◌≡◌, ◌+◌, ◌<◌, ◌≤◌, length, take, drop, IfOk, IfErr};
-ghost use Rattle.arrow_lists.specs.declared.error.Error.TheVariants.{OutOfMemory};
+ghost use Rattle.arrow_core.specs.declared.error.Error.TheVariants.{OutOfMemory};
 
-use arrow_lists::Result;
+use arrow_core::Result;
 use std::marker::Model;
 use std::rc::RcSlice;
 
@@ -28,7 +28,7 @@ impl<T> Model for Buffer<T> {
     ghost invariant = { λ b. (b.start + b.count ≤ length (rc_slice_items b.values)) × (b.start + b.count < 2 ^ 64) };
 }
 
-/// The `count` values from place `start` on.
+/// The `count` values from index `start` on.
 pub(crate) fn run_of<T>(values: &[T], start: usize, count: usize) -> &[T]
     requires { start + count ≤ length values.now }
     ensures { result.now ≡ take count (drop start values.now) }
@@ -39,7 +39,7 @@ pub(crate) fn run_of<T>(values: &[T], start: usize, count: usize) -> &[T]
 impl<T: Drop> Buffer<T> {
     /// The buffer of these values, which it keeps.
     ///
-    /// `OutOfMemory` where there is no room for the count of owners.
+    /// `OutOfMemory` where no count of owners can be allocated.
     pub(crate) fn try_from_vec(values: Vec<T>) -> Result<Buffer<T>>
         ensures values { IfOk result (λ b. b ≡ values.items) }
         ensures memory { IfErr result (λ e. e ≡ OutOfMemory) }
@@ -82,7 +82,7 @@ impl<T: Drop> Buffer<T> {
         })
     }
 
-    /// The `count` values from place `offset` on, in the same memory.
+    /// The `count` values from index `offset` on, in the same memory.
     ///
     /// `OutOfMemory` where the memory has too many owners.
     pub(crate) fn slice(&self, offset: usize, count: usize) -> Result<Buffer<T>>
@@ -98,7 +98,7 @@ impl<T: Drop> Buffer<T> {
         })
     }
 
-    /// The `count` values from place `offset` on, and the one after them, in the same memory.
+    /// The `count` values from index `offset` on, and the one after them, in the same memory.
     ///
     /// `OutOfMemory` where the memory has too many owners.
     pub(crate) fn slice_and_next(&self, offset: usize, count: usize) -> Result<Buffer<T>>

@@ -1,11 +1,12 @@
+//! Arrays of one length.
 ghost use Rattle.std.specs.Prelude.{◌≡◌, ◌+◌, ◌<◌, ◌↔◌, [], List, IsTrue, IfOk, IfErr, length, All, vec_len};
-ghost use Rattle.arrow_lists.specs.declared.error.Error.TheVariants.{InvalidArgumentError};
-ghost use Rattle.arrow_lists.specs.declared.error.Reason.TheVariants.{Lengths};
+ghost use Rattle.arrow_core.specs.declared.error.Error.TheVariants.{InvalidArgumentError};
+ghost use Rattle.arrow_core.specs.declared.error.Reason.TheVariants.{Lengths};
 ghost use Rattle.arrow_array.specs.Arrays.{array_slots};
 ghost use Rattle.arrow_array.specs.Chunks.{AreSameLength};
 
 use crate::array::Array;
-use arrow_lists::{Error, Reason, Result};
+use arrow_core::{Error, Reason, Result};
 use std::marker::Model;
 
 /// Arrays of one length, the columns of a table.
@@ -50,7 +51,8 @@ impl Chunk {
     pub fn try_new(arrays: Vec<Array>) -> Result<Chunk>
         ensures arrays { IfOk result (λ c. c ≡ arrays.items) }
         ensures lengths { IfOk result (λ _. AreSameLength arrays.items) }
-        ensures err { IfErr result (λ e. (e ≡ InvalidArgumentError Lengths) × (AreSameLength arrays.items → ⊥)) }
+        ensures err { IfErr result
+            (λ e. (e ≡ InvalidArgumentError Lengths) × (AreSameLength arrays.items → ⊥)) }
     {
         if !are_same_length(&arrays) {
             return Err(Error::InvalidArgumentError(Reason::Lengths));

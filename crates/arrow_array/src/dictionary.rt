@@ -1,20 +1,24 @@
-ghost use Rattle.std.specs.Prelude.{◌≡◌, ◌+◌, ◌<◌, ◌≤◌, ◌↔◌, ℕ, IsTrue, IfOk, IfErr, length, map, take, drop};
+//! Values by their indices in an array of values.
+ghost use Rattle.std.specs.Prelude.{◌≡◌, ◌+◌, ◌<◌, ◌≤◌, ◌↔◌, ℕ, IsTrue, IfOk, IfErr, length, map, take, drop, All};
 ghost use Rattle.std.specs.Option.{option_copied};
-ghost use Rattle.arrow_lists.specs.declared.error.Error.TheVariants.{OutOfMemory};
+ghost use Rattle.arrow_core.specs.declared.error.Error.TheVariants.{OutOfMemory};
 ghost use Rattle.arrow_array.specs.Arrays.{array_type, array_slots};
 ghost use Rattle.arrow_array.specs.Dictionaries.{DictionaryFits, IsDictionaryOf, IsKeyInto, keys_slots, keys_type, looked_up};
+ghost use Rattle.arrow_array.specs.Kinds.{IsDictionaryType, key_type};
+ghost use Rattle.arrow_array.specs.SlotTypes.{SlotOf};
 ghost use Rattle.arrow_array.specs.Slots.{TellsHeld, is_held, slot_at};
 ghost use Rattle.arrow_array.specs.Parts.{IsRefusalOf};
 
 use crate::array::Array;
+use crate::drops::let_go;
 use crate::keys::Keys;
 use arrow_bitmap::Bitmap;
-use arrow_lists::{Box, Error, Reason, Result};
+use arrow_core::{Box, Error, Reason, Result};
 use arrow_types::{DataType, IntegerType};
 use std::alloc::Global;
 use std::marker::Model;
 
-/// Values by their places in an array of values (Arrow columnar format,
+/// Values by their indices in an array of values (Arrow columnar format,
 /// "Dictionary-encoded Layout").
 #[cycle(arrays)]
 #[derive(Drop)]
@@ -66,20 +70,22 @@ fn is_dictionary_of(data_type: &DataType, key: IntegerType, value: &DataType) ->
     }
 }
 
-/// Whether key `i` is null, or a place in `len` values.
+/// Whether key `i` is null, or an index into `len` values.
 fn is_key_into(keys: &Keys, i: usize, len: usize) -> bool
     requires { i < length (keys_slots keys.now) }
     ensures { IsTrue result ↔ IsKeyInto len (slot_at (keys_slots keys.now) i) }
 {
-    match keys.place(i) {
-        Some(place) => place < len,
+    match keys.index(i) {
+        Some(index) => index < len,
         None => !keys.is_valid(i),
     }
 }
 
-/// Whether each key is null, or a place in `len` values.
+/// Whether each key is null, or an index into `len` values.
 fn are_keys_into(keys: &Keys, len: usize) -> bool
-    ensures { IsTrue result ↔ ((i : ℕ) → i < length (keys_slots keys.now) → IsKeyInto len (slot_at (keys_slots keys.now) i)) }
+    ensures { IsTrue result
+        ↔ ((i : ℕ) → i < length (keys_slots keys.now)
+        → IsKeyInto len (slot_at (keys_slots keys.now) i)) }
 {
     for i in 0..keys.len() {
         if !is_key_into(keys, i, len) {
@@ -91,20 +97,15 @@ fn are_keys_into(keys: &Keys, len: usize) -> bool
 
 /// Whether these parts make an array of a dictionary.
 fn fits(data_type: &DataType, keys: &Keys, values: &Array) -> bool
-    ensures { IsTrue result ↔ DictionaryFits data_type.now (keys_type keys.now) (keys_slots keys.now) (array_type values.now) (length (array_slots values.now)) }
+    ensures { IsTrue result
+        ↔ DictionaryFits data_type.now (keys_type keys.now) (keys_slots keys.now)
+        (array_type values.now) (length (array_slots values.now)) }
 {
     if !is_dictionary_of(data_type, keys.integer_type(), values.data_type()) {
         return false;
     }
     are_keys_into(keys, values.len())
 }
-
-/// Lets go of a type that makes no array. A call in place of the drop keeps the early ends of the
-/// constructor short.
-fn let_go_of_type(_data_type: DataType) {}
-
-/// Lets go of keys that make no array.
-fn let_go_of_keys(_keys: Keys) {}
 
 impl DictionaryArray {
     /// The array of the values at the keys, null where a key is null.
@@ -119,21 +120,25 @@ impl DictionaryArray {
         values: Array,
     ) -> Result<DictionaryArray>
         ensures data_type { IfOk result (λ a. a.data_type ≡ data_type) }
-        ensures slots { IfOk result (λ a. a.slots ≡ map (looked_up (array_slots values)) (keys_slots keys)) }
+        ensures slots { IfOk result
+            (λ a. a.slots ≡ map (looked_up (array_slots values)) (keys_slots keys)) }
         ensures keys { IfOk result (λ a. a.keys ≡ keys_slots keys) }
         ensures items { IfOk result (λ a. a.items ≡ array_slots values) }
-        ensures fits { IfOk result (λ _. DictionaryFits data_type (keys_type keys) (keys_slots keys) (array_type values) (length (array_slots values))) }
-        ensures err { IfErr result (IsRefusalOf (DictionaryFits data_type (keys_type keys) (keys_slots keys) (array_type values) (length (array_slots values)))) }
+        ensures fits { IfOk result
+            (λ _. DictionaryFits data_type (keys_type keys) (keys_slots keys) (array_type values)
+            (length (array_slots values))) }
+        ensures err { IfErr result
+            (IsRefusalOf
+            (DictionaryFits data_type (keys_type keys) (keys_slots keys) (array_type values)
+            (length (array_slots values)))) }
     {
         if !fits(&data_type, &keys, &values) {
-            let_go_of_type(data_type);
-            let_go_of_keys(keys);
+            let_go(data_type, keys);
             return Err(Error::InvalidArgumentError(Reason::ArrayParts));
         }
         match Box::new(alloc, values) {
             Err(error) => {
-                let_go_of_type(data_type);
-                let_go_of_keys(keys);
+                let_go(data_type, keys);
                 Err(error)
             }
             Ok(values) => Ok(DictionaryArray {
@@ -151,26 +156,30 @@ impl DictionaryArray {
         self.keys.len()
     }
 
-    /// The data type.
+    /// The data type, which is Dictionary.
     pub fn data_type(&self) -> &DataType
-        ensures { result.now ≡ self.now.data_type }
+        ensures data_type { result.now ≡ self.now.data_type }
+        ensures kind { IsDictionaryType self.now.data_type }
     {
         &self.data_type
     }
 
-    /// The keys, one for each slot: a slot is that of `values` at its key, and null where the key
-    /// is null.
+    /// The keys, one for each slot, of the integer type that the data type names: a slot is that
+    /// of `values` at its key, and null where the key is null.
     pub fn keys(&self) -> &Keys
         ensures keys { keys_slots result.now ≡ self.now.keys }
+        ensures key_type { keys_type result.now ≡ key_type self.now.data_type }
         ensures slots { self.now.slots ≡ map (looked_up self.now.items) (keys_slots result.now) }
-        ensures within { (i : ℕ) → i < length self.now.slots → IsKeyInto (length self.now.items) (slot_at (keys_slots result.now) i) }
+        ensures within { (i : ℕ) → i < length self.now.slots
+            → IsKeyInto (length self.now.items) (slot_at (keys_slots result.now) i) }
     {
         &self.keys
     }
 
-    /// The values that keys are places of.
+    /// The values that keys are indices into.
     pub fn values(&self) -> &Array
-        ensures data_type { (key : _) × IsDictionaryOf key self.now.data_type (array_type result.now) }
+        ensures data_type { IsDictionaryOf (key_type self.now.data_type) self.now.data_type
+            (array_type result.now) }
         ensures items { array_slots result.now ≡ self.now.items }
     {
         self.values.get()
@@ -190,13 +199,21 @@ impl DictionaryArray {
         requires { i < length self.now.slots }
         ensures { result ≡ is_held (slot_at self.now.slots i) }
     {
-        match self.keys.place(i) {
-            Some(place) => self.values.get().is_valid(place),
+        match self.keys.index(i) {
+            Some(index) => self.values.get().is_valid(index),
             None => false,
         }
     }
 
-    /// The `count` slots from place `offset` on, over the same values. It shares the buffers.
+    /// Tells that each slot is one of the data type.
+    #[cycle(typed)]
+    pub(crate) fn slots_are_typed(&self)
+        ensures { All (SlotOf self.now.data_type) self.now.slots }
+    {
+        self.values.get().slots_are_typed();
+    }
+
+    /// The `count` slots from index `offset` on, over the same values. It shares the buffers.
     ///
     /// `OutOfMemory` alone.
     #[cycle(slices)]

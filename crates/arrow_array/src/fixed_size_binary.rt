@@ -1,19 +1,22 @@
-ghost use Rattle.std.specs.Prelude.{◌≡◌, ◌+◌, ◌*◌, ◌/◌, ◌<◌, ◌≤◌, ◌↔◌, IsTrue, IfOk, IfErr, length, take, drop, vec_len};
+//! Binary values of one size.
+ghost use Rattle.std.specs.Prelude.{◌≡◌, ◌+◌, ◌*◌, ◌/◌, ◌<◌, ◌≤◌, ◌↔◌, IsTrue, IfOk, IfErr, length, take, drop, vec_len, All};
 ghost use Rattle.std.specs.Option.{option_copied};
-ghost use Rattle.arrow_lists.specs.declared.error.Error.TheVariants.{OutOfMemory};
-ghost use Rattle.arrow_types.specs.declared.slot.Slot.TheVariants.{Octets};
+ghost use Rattle.arrow_core.specs.declared.error.Error.TheVariants.{OutOfMemory};
+ghost use Rattle.arrow_types.specs.declared.slot.Slot.TheVariants.{Binary as BinarySlot};
+ghost use Rattle.arrow_array.specs.Kinds.{IsFixedBinaryType};
+ghost use Rattle.arrow_array.specs.SlotTypes.{SlotOf};
 ghost use Rattle.arrow_array.specs.Slots.{TellsHeld, is_held, slot_at, slots_of, fixed_at};
 ghost use Rattle.arrow_array.specs.Parts.{FixedSizeBinaryFits, IsRefusalOf, byte_width};
 
 use crate::buffer::{Buffer, run_of};
 use crate::validity;
 use arrow_bitmap::Bitmap;
-use arrow_lists::{Error, Reason, Result};
+use arrow_core::{Error, Reason, Result};
 use arrow_types::DataType;
 use std::alloc::Global;
 use std::marker::Model;
 
-/// Byte strings of one length, one after another in a shared buffer (Arrow columnar format,
+/// Fixed-size binary values, one after another in a shared buffer (Arrow columnar format,
 /// "Fixed-size Primitive Layout").
 #[derive(Drop)]
 pub struct FixedSizeBinaryArray {
@@ -48,7 +51,7 @@ fn size_of_type(data_type: &DataType) -> usize
     }
 }
 
-/// Whether these parts make an array of byte strings of one length.
+/// Whether these parts make an array of fixed-size binary values.
 fn fits(data_type: &DataType, len: usize, validity: &Option<Bitmap>) -> bool
     ensures { IsTrue result ↔ FixedSizeBinaryFits data_type.now len validity.now }
 {
@@ -63,7 +66,7 @@ fn fits(data_type: &DataType, len: usize, validity: &Option<Bitmap>) -> bool
 }
 
 impl FixedSizeBinaryArray {
-    /// The array of the byte strings of `values`, each as long as the type says, null where the
+    /// The array of the binary values of `values`, each as long as the type says, null where the
     /// validity is false. It keeps the values.
     ///
     /// `InvalidArgumentError(ArrayParts)` where the type isn't FixedSizeBinary of at least 1 byte,
@@ -76,9 +79,13 @@ impl FixedSizeBinaryArray {
         validity: Option<Bitmap>,
     ) -> Result<FixedSizeBinaryArray>
         ensures data_type { IfOk result (λ a. a.data_type ≡ data_type) }
-        ensures slots { IfOk result (λ a. a.slots ≡ slots_of (fixed_at (byte_width data_type) values.items) validity 0 (vec_len values / byte_width data_type)) }
+        ensures slots { IfOk result
+            (λ a. a.slots
+            ≡ slots_of (fixed_at (byte_width data_type) values.items) validity 0
+            (vec_len values / byte_width data_type)) }
         ensures fits { IfOk result (λ _. FixedSizeBinaryFits data_type (vec_len values) validity) }
-        ensures err { IfErr result (IsRefusalOf (FixedSizeBinaryFits data_type (vec_len values) validity)) }
+        ensures err { IfErr result
+            (IsRefusalOf (FixedSizeBinaryFits data_type (vec_len values) validity)) }
     {
         if !fits(&data_type, values.len(), &validity) {
             return Err(Error::InvalidArgumentError(Reason::ArrayParts));
@@ -100,9 +107,10 @@ impl FixedSizeBinaryArray {
         self.values.len() / self.size
     }
 
-    /// The data type.
+    /// The data type, which is FixedSizeBinary of at least 1 byte.
     pub fn data_type(&self) -> &DataType
-        ensures { result.now ≡ self.now.data_type }
+        ensures data_type { result.now ≡ self.now.data_type }
+        ensures kind { IsFixedBinaryType self.now.data_type }
     {
         &self.data_type
     }
@@ -122,17 +130,26 @@ impl FixedSizeBinaryArray {
         validity::is_valid(&self.validity, self.len(), i)
     }
 
-    /// The bytes of slot `i`; at a null, whatever the buffer has there.
+    /// The bytes of slot `i`, as many as the type says; at a null, whatever the buffer has there.
     pub fn value(&self, i: usize) -> &[u8]
         requires { i < length self.now.slots }
-        ensures { IsTrue (is_held (slot_at self.now.slots i)) → slot_at self.now.slots i ≡ Octets result.now }
+        ensures slot { IsTrue (is_held (slot_at self.now.slots i))
+            → slot_at self.now.slots i ≡ BinarySlot result.now }
+        ensures width { length result.now ≡ byte_width self.now.data_type }
     {
         let values = self.values.as_slice();
         let start = i * self.size;
         run_of(values, start, self.size)
     }
 
-    /// The `count` slots from place `offset` on. It shares the buffers.
+    /// Tells that each slot is one of the data type.
+    pub(crate) fn slots_are_typed(&self)
+        ensures { All (SlotOf self.now.data_type) self.now.slots }
+    {
+        let _ = &self.values;
+    }
+
+    /// The `count` slots from index `offset` on. It shares the buffers.
     ///
     /// `OutOfMemory` alone.
     pub fn slice(&self, alloc: Global, offset: usize, count: usize) -> Result<FixedSizeBinaryArray>

@@ -1,23 +1,27 @@
-ghost use Rattle.std.specs.Prelude.{◌≡◌, ◌+◌, ◌/◌, ◌<◌, ◌≤◌, ◌↔◌, IsTrue, IfOk, IfErr, length, take, drop};
+//! Lists of one size.
+ghost use Rattle.std.specs.Prelude.{◌≡◌, ◌+◌, ◌/◌, ◌<◌, ◌≤◌, ◌↔◌, IsTrue, IfOk, IfErr, length, take, drop, All};
 ghost use Rattle.std.specs.Option.{option_copied};
-ghost use Rattle.arrow_lists.specs.declared.error.Error.TheVariants.{OutOfMemory};
-ghost use Rattle.arrow_types.specs.declared.slot.Slot.TheVariants.{Listed};
+ghost use Rattle.arrow_core.specs.declared.error.Error.TheVariants.{OutOfMemory};
+ghost use Rattle.arrow_types.specs.declared.slot.Slot.TheVariants.{List as ListSlot};
 ghost use Rattle.arrow_array.specs.Arrays.{array_type, array_slots};
 ghost use Rattle.arrow_array.specs.FixedLists.{FixedListFits, IsFixedListOf, fixed_list_at, list_size};
+ghost use Rattle.arrow_array.specs.Kinds.{IsFixedListType};
 ghost use Rattle.arrow_array.specs.Lent.{IsPart, part_slots};
+ghost use Rattle.arrow_array.specs.SlotTypes.{SlotOf};
 ghost use Rattle.arrow_array.specs.Slots.{TellsHeld, is_held, slot_at, slots_of};
 ghost use Rattle.arrow_array.specs.Parts.{IsRefusalOf};
 
 use crate::array::Array;
+use crate::drops::let_go;
 use crate::part::Part;
 use crate::validity;
 use arrow_bitmap::Bitmap;
-use arrow_lists::{Box, Error, Reason, Result};
+use arrow_core::{Box, Error, Reason, Result};
 use arrow_types::DataType;
 use std::alloc::Global;
 use std::marker::Model;
 
-/// Lists of one length, one after another in a child (Arrow columnar format,
+/// Fixed-size lists, one after another in a child (Arrow columnar format,
 /// "Fixed-Size List Layout").
 #[cycle(arrays)]
 #[derive(Drop)]
@@ -66,7 +70,7 @@ fn size_of_type(data_type: &DataType) -> usize
     }
 }
 
-/// Whether this is the type of lists of one length of such items.
+/// Whether this is the type of fixed-size lists of such items.
 fn is_fixed_list_of(data_type: &DataType, item: &DataType) -> bool
     ensures { IsTrue result ↔ IsFixedListOf data_type.now item.now }
 {
@@ -76,9 +80,11 @@ fn is_fixed_list_of(data_type: &DataType, item: &DataType) -> bool
     }
 }
 
-/// Whether these parts make an array of lists of one length.
+/// Whether these parts make an array of fixed-size lists.
 fn fits(data_type: &DataType, values: &Array, validity: &Option<Bitmap>) -> bool
-    ensures { IsTrue result ↔ FixedListFits data_type.now (array_type values.now) (length (array_slots values.now)) validity.now }
+    ensures { IsTrue result
+        ↔ FixedListFits data_type.now (array_type values.now) (length (array_slots values.now))
+        validity.now }
 {
     if !is_fixed_list_of(data_type, values.data_type()) {
         return false;
@@ -94,10 +100,6 @@ fn fits(data_type: &DataType, values: &Array, validity: &Option<Bitmap>) -> bool
     validity::fits(validity, len / size)
 }
 
-/// Lets go of a type and a validity that make no array. A call in place of the drops keeps the
-/// early ends of the constructor short.
-fn let_go(_data_type: DataType, _validity: Option<Bitmap>) {}
-
 impl FixedSizeListArray {
     /// The array of the lists of neighbouring slots of the child, each as long as the type says,
     /// null where the validity is false.
@@ -112,9 +114,16 @@ impl FixedSizeListArray {
         validity: Option<Bitmap>,
     ) -> Result<FixedSizeListArray>
         ensures data_type { IfOk result (λ a. a.data_type ≡ data_type) }
-        ensures slots { IfOk result (λ a. a.slots ≡ slots_of (fixed_list_at (list_size data_type) (array_slots values)) validity 0 (length (array_slots values) / list_size data_type)) }
-        ensures fits { IfOk result (λ _. FixedListFits data_type (array_type values) (length (array_slots values)) validity) }
-        ensures err { IfErr result (IsRefusalOf (FixedListFits data_type (array_type values) (length (array_slots values)) validity)) }
+        ensures slots { IfOk result
+            (λ a. a.slots
+            ≡ slots_of (fixed_list_at (list_size data_type) (array_slots values)) validity 0
+            (length (array_slots values) / list_size data_type)) }
+        ensures fits { IfOk result
+            (λ _. FixedListFits data_type (array_type values) (length (array_slots values))
+            validity) }
+        ensures err { IfErr result
+            (IsRefusalOf
+            (FixedListFits data_type (array_type values) (length (array_slots values)) validity)) }
     {
         if !fits(&data_type, &values, &validity) {
             let_go(data_type, validity);
@@ -144,9 +153,10 @@ impl FixedSizeListArray {
         self.count
     }
 
-    /// The data type.
+    /// The data type, which is FixedSizeList of at least 1 item.
     pub fn data_type(&self) -> &DataType
-        ensures { result.now ≡ self.now.data_type }
+        ensures data_type { result.now ≡ self.now.data_type }
+        ensures kind { IsFixedListType self.now.data_type }
     {
         &self.data_type
     }
@@ -166,12 +176,15 @@ impl FixedSizeListArray {
         validity::is_valid(&self.validity, self.count, i)
     }
 
-    /// The items of the list in slot `i`; at a null, whatever the child has there.
+    /// The items of the list in slot `i`, as many as the type says; at a null, whatever the child
+    /// has there.
     pub fn value(&self, i: usize) -> Part<'_>
         requires { i < length self.now.slots }
         ensures data_type { IsFixedListOf self.now.data_type (array_type result.array.now) }
         ensures part { IsPart result }
-        ensures slot { IsTrue (is_held (slot_at self.now.slots i)) → slot_at self.now.slots i ≡ Listed (part_slots result) }
+        ensures size { length (part_slots result) ≡ list_size self.now.data_type }
+        ensures slot { IsTrue (is_held (slot_at self.now.slots i))
+            → slot_at self.now.slots i ≡ ListSlot (part_slots result) }
     {
         let array = self.values.get();
         let start = i * self.size;
@@ -179,7 +192,15 @@ impl FixedSizeListArray {
         Part { array, start, end }
     }
 
-    /// The `count` slots from place `offset` on, and of the child the slots that they need. It
+    /// Tells that each slot is one of the data type.
+    #[cycle(typed)]
+    pub(crate) fn slots_are_typed(&self)
+        ensures { All (SlotOf self.now.data_type) self.now.slots }
+    {
+        self.values.get().slots_are_typed();
+    }
+
+    /// The `count` slots from index `offset` on, and of the child the slots that they need. It
     /// shares the child's buffers.
     ///
     /// `OutOfMemory` alone.

@@ -1,40 +1,41 @@
+//! The keys of a dictionary.
 ghost use Rattle.std.specs.Prelude.{◌≡◌, ◌+◌, ◌<◌, ◌≤◌, IfOk, IfErr, MatchOption, length, pos, take, drop};
 ghost use Rattle.std.specs.Option.{option_copied};
-ghost use Rattle.arrow_lists.specs.declared.error.Error.TheVariants.{OutOfMemory};
-ghost use Rattle.arrow_types.specs.declared.slot.Slot.TheVariants.{Whole};
+ghost use Rattle.arrow_core.specs.declared.error.Error.TheVariants.{OutOfMemory};
+ghost use Rattle.arrow_types.specs.declared.slot.Slot.TheVariants.{Integer as IntegerSlot};
 ghost use Rattle.arrow_types.specs.Numbers.{IsNegative};
-ghost use Rattle.arrow_array.specs.Dictionaries.{IsNoPlace, keys_slots, keys_type};
+ghost use Rattle.arrow_array.specs.Dictionaries.{IsNoIndex, keys_slots, keys_type};
 ghost use Rattle.arrow_array.specs.Slots.{TellsHeld, is_held, slot_at};
 
 use crate::primitive::PrimitiveArray;
 use arrow_bitmap::Bitmap;
-use arrow_lists::Result;
+use arrow_core::Result;
 use arrow_types::IntegerType;
 use std::alloc::Global;
 
 /// The keys of a dictionary, of any integer type.
 #[derive(Drop)]
 pub enum Keys {
-    /// Signed numbers of 8 bits.
+    /// Signed integers of 8 bits.
     Int8(PrimitiveArray<i8>),
-    /// Signed numbers of 16 bits.
+    /// Signed integers of 16 bits.
     Int16(PrimitiveArray<i16>),
-    /// Signed numbers of 32 bits.
+    /// Signed integers of 32 bits.
     Int32(PrimitiveArray<i32>),
-    /// Signed numbers of 64 bits.
+    /// Signed integers of 64 bits.
     Int64(PrimitiveArray<i64>),
-    /// Numbers of 8 bits without a sign.
+    /// Unsigned integers of 8 bits.
     UInt8(PrimitiveArray<u8>),
-    /// Numbers of 16 bits without a sign.
+    /// Unsigned integers of 16 bits.
     UInt16(PrimitiveArray<u16>),
-    /// Numbers of 32 bits without a sign.
+    /// Unsigned integers of 32 bits.
     UInt32(PrimitiveArray<u32>),
-    /// Numbers of 64 bits without a sign.
+    /// Unsigned integers of 64 bits.
     UInt64(PrimitiveArray<u64>),
 }
 
-/// A signed key as a place, or `None` where it is negative.
-fn place_of(key: i64) -> Option<usize>
+/// A signed key as an index, or `None` where it is negative.
+fn index_of(key: i64) -> Option<usize>
     ensures { MatchOption result (IsNegative key) (λ k. key ≡ pos k) }
 {
     if key < 0 { None } else { Some(key as usize) }
@@ -106,19 +107,20 @@ impl Keys {
         }
     }
 
-    /// Key `i` as a place, or `None` where it is null or negative.
-    pub fn place(&self, i: usize) -> Option<usize>
+    /// Key `i` as an index, or `None` where it is null or negative.
+    pub fn index(&self, i: usize) -> Option<usize>
         requires { i < length (keys_slots self.now) }
-        ensures { MatchOption result (IsNoPlace (slot_at (keys_slots self.now) i)) (λ k. slot_at (keys_slots self.now) i ≡ Whole (pos k)) }
+        ensures { MatchOption result (IsNoIndex (slot_at (keys_slots self.now) i))
+            (λ k. slot_at (keys_slots self.now) i ≡ IntegerSlot (pos k)) }
     {
         if !self.is_valid(i) {
             return None;
         }
         match self {
-            Keys::Int8(keys) => place_of(keys.value(i) as i64),
-            Keys::Int16(keys) => place_of(keys.value(i) as i64),
-            Keys::Int32(keys) => place_of(keys.value(i) as i64),
-            Keys::Int64(keys) => place_of(keys.value(i)),
+            Keys::Int8(keys) => index_of(keys.value(i) as i64),
+            Keys::Int16(keys) => index_of(keys.value(i) as i64),
+            Keys::Int32(keys) => index_of(keys.value(i) as i64),
+            Keys::Int64(keys) => index_of(keys.value(i)),
             Keys::UInt8(keys) => Some(keys.value(i) as usize),
             Keys::UInt16(keys) => Some(keys.value(i) as usize),
             Keys::UInt32(keys) => Some(keys.value(i) as usize),
@@ -126,13 +128,14 @@ impl Keys {
         }
     }
 
-    /// The `count` keys from place `offset` on. It shares the buffers.
+    /// The `count` keys from index `offset` on. It shares the buffers.
     ///
     /// `OutOfMemory` alone.
     pub fn slice(&self, alloc: Global, offset: usize, count: usize) -> Result<Keys>
         requires { offset + count ≤ length (keys_slots self.now) }
         ensures integer_type { IfOk result (λ cut. keys_type cut ≡ keys_type self.now) }
-        ensures slots { IfOk result (λ cut. keys_slots cut ≡ take count (drop offset (keys_slots self.now))) }
+        ensures slots { IfOk result
+            (λ cut. keys_slots cut ≡ take count (drop offset (keys_slots self.now))) }
         ensures memory { IfErr result (λ e. e ≡ OutOfMemory) }
     {
         Ok(match self {

@@ -9,6 +9,7 @@ mod boolean;
 mod buffer;
 mod chunk;
 mod dictionary;
+mod drops;
 mod fixed_size_binary;
 mod fixed_size_list;
 mod keys;
@@ -17,6 +18,7 @@ mod null;
 mod offsets;
 mod part;
 mod primitive;
+mod ranges;
 mod structs;
 mod utf8;
 mod validity;
@@ -36,6 +38,3 @@ pub use part::Part;
 pub use primitive::PrimitiveArray;
 pub use structs::StructArray;
 pub use utf8::Utf8Array;
-
-#[cfg(test)]
-mod tests;

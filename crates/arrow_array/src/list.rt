@@ -1,21 +1,26 @@
-ghost use Rattle.std.specs.Prelude.{◌≡◌, ℕ, ◌+◌, ◌-◌, ◌<◌, ◌≤◌, ◌↔◌, false, true, IsTrue, IfOk, IfErr, length, map, take, drop, vec_len};
+//! Lists with offsets of 32 bits, or of 64.
+ghost use Rattle.std.specs.Prelude.{◌≡◌, ℕ, ◌+◌, ◌-◌, ◌<◌, ◌≤◌, ◌↔◌, false, true, IsTrue, IfOk, IfErr, length, map, take, drop, vec_len, All};
 ghost use Rattle.std.specs.Option.{option_copied};
-ghost use Rattle.arrow_lists.specs.declared.error.Error.TheVariants.{OutOfMemory};
-ghost use Rattle.arrow_types.specs.declared.slot.Slot.TheVariants.{Listed};
+ghost use Rattle.arrow_core.specs.declared.error.Error.TheVariants.{OutOfMemory};
+ghost use Rattle.arrow_types.specs.declared.slot.Slot.TheVariants.{List as ListSlot};
 ghost use Rattle.arrow_array.specs.Arrays.{array_type, array_slots};
+ghost use Rattle.arrow_array.specs.Kinds.{IsListType};
 ghost use Rattle.arrow_array.specs.Lent.{IsPart, part_slots};
 ghost use Rattle.arrow_array.specs.Lists.{IsListOf, ListFits, list_at};
 ghost use Rattle.arrow_array.specs.Offsets.{IsOffsets, offset_at};
+ghost use Rattle.arrow_array.specs.SlotTypes.{SlotOf};
 ghost use Rattle.arrow_array.specs.Slots.{TellsHeld, is_held, slot_at, slots_of};
-ghost use Rattle.arrow_array.specs.Parts.{IsRefusalOf, IsValidityOf};
+ghost use Rattle.arrow_array.specs.Parts.{IsRefusalOf};
 
 use crate::array::Array;
 use crate::buffer::Buffer;
+use crate::drops::let_go;
 use crate::offsets::{are_offsets, part_bounds};
 use crate::part::Part;
+use crate::ranges::tell_offset_ranges;
 use crate::validity;
 use arrow_bitmap::Bitmap;
-use arrow_lists::{Box, Error, Reason, Result};
+use arrow_core::{Box, Error, Reason, Result};
 use arrow_types::{DataType, Offset};
 use std::alloc::Global;
 use std::marker::Model;
@@ -98,60 +103,35 @@ impl Model for LargeListArray {
     ghost size_decreases = { λ a h. list_falls true a.data_type a.values h.kind };
 }
 
-/// Whether this is the type of lists of such items, with offsets of 32 bits.
-fn is_list_of(data_type: &DataType, item: &DataType) -> bool
-    ensures { IsTrue result ↔ IsListOf false data_type.now item.now }
+/// Whether this is the type of lists of such items, with such offsets.
+fn is_list_of<O: Offset>(data_type: &DataType, item: &DataType) -> bool
+    ensures { IsTrue result ↔ IsListOf O.IS_LARGE data_type.now item.now }
 {
     match data_type {
-        DataType::List(field) => field.get().data_type.is_same(item),
+        DataType::List(field) => !O::IS_LARGE && field.get().data_type.is_same(item),
+        DataType::LargeList(field) => O::IS_LARGE && field.get().data_type.is_same(item),
         _ => false,
     }
 }
 
-/// Whether this is the type of lists of such items, with offsets of 64 bits.
-fn is_large_list_of(data_type: &DataType, item: &DataType) -> bool
-    ensures { IsTrue result ↔ IsListOf true data_type.now item.now }
-{
-    match data_type {
-        DataType::LargeList(field) => field.get().data_type.is_same(item),
-        _ => false,
-    }
-}
-
-/// Whether these are offsets into so many items, and a given validity has a value for each part
-/// between two of them.
-fn are_bounds<O: Offset>(offsets: &[O], len: usize, validity: &Option<Bitmap>) -> bool
-    ensures { IsTrue result ↔ (IsOffsets (map O.place offsets.now) len × IsValidityOf validity.now (length offsets.now - 1)) }
-{
-    if !are_offsets(offsets, len) {
-        return false;
-    }
-    validity::fits(validity, offsets.len() - 1)
-}
-
-/// Whether these parts make an array of lists with offsets of 32 bits.
-fn fits(data_type: &DataType, offsets: &[i32], values: &Array, validity: &Option<Bitmap>) -> bool
-    ensures { IsTrue result ↔ ListFits false data_type.now (array_type values.now) offsets.now (array_slots values.now) validity.now }
-{
-    if !is_list_of(data_type, values.data_type()) {
-        return false;
-    }
-    are_bounds(offsets, values.len(), validity)
-}
-
-/// Whether these parts make an array of lists with offsets of 64 bits.
-fn large_fits(
+/// Whether these parts make an array of lists.
+fn fits<O: Offset>(
     data_type: &DataType,
-    offsets: &[i64],
+    offsets: &[O],
     values: &Array,
     validity: &Option<Bitmap>,
 ) -> bool
-    ensures { IsTrue result ↔ ListFits true data_type.now (array_type values.now) offsets.now (array_slots values.now) validity.now }
+    ensures { IsTrue result
+        ↔ ListFits O.IS_LARGE data_type.now (array_type values.now) (map O.number offsets.now)
+        (array_slots values.now) validity.now }
 {
-    if !is_large_list_of(data_type, values.data_type()) {
+    if !is_list_of::<O>(data_type, values.data_type()) {
         return false;
     }
-    are_bounds(offsets, values.len(), validity)
+    if !are_offsets(offsets, values.len()) {
+        return false;
+    }
+    validity::fits(validity, offsets.len() - 1)
 }
 
 /// The offsets and the child, to be shared.
@@ -167,17 +147,14 @@ fn shared<T: Drop>(alloc: Global, offsets: Vec<T>, values: Array) -> Result<(Buf
     Ok((offsets, values))
 }
 
-/// Lets go of a type and a validity that make no array. A call in place of the drops keeps the
-/// early ends of the constructors short.
-fn let_go(_data_type: DataType, _validity: Option<Bitmap>) {}
-
 /// The slots of the child between offset `i` and the next.
 fn part_of<'a, O: Offset>(offsets: &[O], values: &'a Array, i: usize) -> Part<'a>
-    requires offsets { IsOffsets (map O.place offsets.now) (length (array_slots values.now)) }
+    requires offsets { IsOffsets (map O.number offsets.now) (length (array_slots values.now)) }
     requires within { i + 1 < length offsets.now }
     ensures array { result.array.now ≡ values.now }
     ensures part { IsPart result }
-    ensures slots { Listed (part_slots result) ≡ list_at (map O.place offsets.now) (array_slots values.now) i }
+    ensures slots { ListSlot (part_slots result)
+        ≡ list_at (map O.number offsets.now) (array_slots values.now) i }
 {
     let (start, end) = part_bounds(offsets, i, values.len());
     Part {
@@ -203,11 +180,19 @@ impl ListArray {
         validity: Option<Bitmap>,
     ) -> Result<ListArray>
         ensures data_type { IfOk result (λ a. a.data_type ≡ data_type) }
-        ensures slots { IfOk result (λ a. a.slots ≡ slots_of (list_at offsets.items (array_slots values)) validity 0 (vec_len offsets - 1)) }
+        ensures slots { IfOk result
+            (λ a. a.slots
+            ≡ slots_of (list_at offsets.items (array_slots values)) validity 0
+            (vec_len offsets - 1)) }
         ensures offsets { IfOk result (λ a. a.offsets ≡ offsets.items) }
         ensures items { IfOk result (λ a. a.items ≡ array_slots values) }
-        ensures fits { IfOk result (λ _. ListFits false data_type (array_type values) offsets.items (array_slots values) validity) }
-        ensures err { IfErr result (IsRefusalOf (ListFits false data_type (array_type values) offsets.items (array_slots values) validity)) }
+        ensures fits { IfOk result
+            (λ _. ListFits false data_type (array_type values) offsets.items (array_slots values)
+            validity) }
+        ensures err { IfErr result
+            (IsRefusalOf
+            (ListFits false data_type (array_type values) offsets.items (array_slots values)
+            validity)) }
     {
         if !fits(&data_type, offsets.as_slice(), &values, &validity) {
             let_go(data_type, validity);
@@ -234,9 +219,10 @@ impl ListArray {
         self.offsets.len() - 1
     }
 
-    /// The data type.
+    /// The data type, which is List of some field.
     pub fn data_type(&self) -> &DataType
-        ensures { result.now ≡ self.now.data_type }
+        ensures data_type { result.now ≡ self.now.data_type }
+        ensures kind { IsListType false self.now.data_type }
     {
         &self.data_type
     }
@@ -245,7 +231,11 @@ impl ListArray {
     /// of the slots of `values` between its offset and the next.
     pub fn offsets(&self) -> &[i32]
         ensures offsets { result.now ≡ self.now.offsets }
-        ensures slots { (k : ℕ) → k < length self.now.slots → IsTrue (is_held (slot_at self.now.slots k)) → slot_at self.now.slots k ≡ list_at result.now self.now.items k }
+        ensures fit { IsOffsets result.now (length self.now.items) }
+        ensures count { length result.now ≡ length self.now.slots + 1 }
+        ensures slots { (k : ℕ) → k < length self.now.slots
+            → IsTrue (is_held (slot_at self.now.slots k))
+            → slot_at self.now.slots k ≡ list_at result.now self.now.items k }
     {
         self.offsets.as_slice()
     }
@@ -278,12 +268,22 @@ impl ListArray {
         requires { i < length self.now.slots }
         ensures data_type { IsListOf false self.now.data_type (array_type result.array.now) }
         ensures part { IsPart result }
-        ensures slot { IsTrue (is_held (slot_at self.now.slots i)) → slot_at self.now.slots i ≡ Listed (part_slots result) }
+        ensures slot { IsTrue (is_held (slot_at self.now.slots i))
+            → slot_at self.now.slots i ≡ ListSlot (part_slots result) }
     {
         part_of(self.offsets.as_slice(), self.values.get(), i)
     }
 
-    /// The `count` slots from place `offset` on. It shares the offsets and the buffers of the
+    /// Tells that each slot is one of the data type.
+    #[cycle(typed)]
+    pub(crate) fn slots_are_typed(&self)
+        ensures { All (SlotOf self.now.data_type) self.now.slots }
+    {
+        tell_offset_ranges(self.offsets.as_slice());
+        self.values.get().slots_are_typed();
+    }
+
+    /// The `count` slots from index `offset` on. It shares the offsets and the buffers of the
     /// child, of which it keeps all slots.
     ///
     /// `OutOfMemory` alone.
@@ -292,7 +292,8 @@ impl ListArray {
         requires { offset + count ≤ length self.now.slots }
         ensures data_type { IfOk result (λ a. a.data_type ≡ self.now.data_type) }
         ensures slots { IfOk result (λ a. a.slots ≡ take count (drop offset self.now.slots)) }
-        ensures offsets { IfOk result (λ a. a.offsets ≡ take (count + 1) (drop offset self.now.offsets)) }
+        ensures offsets { IfOk result
+            (λ a. a.offsets ≡ take (count + 1) (drop offset self.now.offsets)) }
         ensures items { IfOk result (λ a. a.items ≡ self.now.items) }
         ensures memory { IfErr result (λ e. e ≡ OutOfMemory) }
     {
@@ -327,13 +328,21 @@ impl LargeListArray {
         validity: Option<Bitmap>,
     ) -> Result<LargeListArray>
         ensures data_type { IfOk result (λ a. a.data_type ≡ data_type) }
-        ensures slots { IfOk result (λ a. a.slots ≡ slots_of (list_at offsets.items (array_slots values)) validity 0 (vec_len offsets - 1)) }
+        ensures slots { IfOk result
+            (λ a. a.slots
+            ≡ slots_of (list_at offsets.items (array_slots values)) validity 0
+            (vec_len offsets - 1)) }
         ensures offsets { IfOk result (λ a. a.offsets ≡ offsets.items) }
         ensures items { IfOk result (λ a. a.items ≡ array_slots values) }
-        ensures fits { IfOk result (λ _. ListFits true data_type (array_type values) offsets.items (array_slots values) validity) }
-        ensures err { IfErr result (IsRefusalOf (ListFits true data_type (array_type values) offsets.items (array_slots values) validity)) }
+        ensures fits { IfOk result
+            (λ _. ListFits true data_type (array_type values) offsets.items (array_slots values)
+            validity) }
+        ensures err { IfErr result
+            (IsRefusalOf
+            (ListFits true data_type (array_type values) offsets.items (array_slots values)
+            validity)) }
     {
-        if !large_fits(&data_type, offsets.as_slice(), &values, &validity) {
+        if !fits(&data_type, offsets.as_slice(), &values, &validity) {
             let_go(data_type, validity);
             return Err(Error::InvalidArgumentError(Reason::ArrayParts));
         }
@@ -358,9 +367,10 @@ impl LargeListArray {
         self.offsets.len() - 1
     }
 
-    /// The data type.
+    /// The data type, which is LargeList of some field.
     pub fn data_type(&self) -> &DataType
-        ensures { result.now ≡ self.now.data_type }
+        ensures data_type { result.now ≡ self.now.data_type }
+        ensures kind { IsListType true self.now.data_type }
     {
         &self.data_type
     }
@@ -369,7 +379,11 @@ impl LargeListArray {
     /// of the slots of `values` between its offset and the next.
     pub fn offsets(&self) -> &[i64]
         ensures offsets { result.now ≡ self.now.offsets }
-        ensures slots { (k : ℕ) → k < length self.now.slots → IsTrue (is_held (slot_at self.now.slots k)) → slot_at self.now.slots k ≡ list_at result.now self.now.items k }
+        ensures fit { IsOffsets result.now (length self.now.items) }
+        ensures count { length result.now ≡ length self.now.slots + 1 }
+        ensures slots { (k : ℕ) → k < length self.now.slots
+            → IsTrue (is_held (slot_at self.now.slots k))
+            → slot_at self.now.slots k ≡ list_at result.now self.now.items k }
     {
         self.offsets.as_slice()
     }
@@ -402,12 +416,22 @@ impl LargeListArray {
         requires { i < length self.now.slots }
         ensures data_type { IsListOf true self.now.data_type (array_type result.array.now) }
         ensures part { IsPart result }
-        ensures slot { IsTrue (is_held (slot_at self.now.slots i)) → slot_at self.now.slots i ≡ Listed (part_slots result) }
+        ensures slot { IsTrue (is_held (slot_at self.now.slots i))
+            → slot_at self.now.slots i ≡ ListSlot (part_slots result) }
     {
         part_of(self.offsets.as_slice(), self.values.get(), i)
     }
 
-    /// The `count` slots from place `offset` on. It shares the offsets and the buffers of the
+    /// Tells that each slot is one of the data type.
+    #[cycle(typed)]
+    pub(crate) fn slots_are_typed(&self)
+        ensures { All (SlotOf self.now.data_type) self.now.slots }
+    {
+        tell_offset_ranges(self.offsets.as_slice());
+        self.values.get().slots_are_typed();
+    }
+
+    /// The `count` slots from index `offset` on. It shares the offsets and the buffers of the
     /// child, of which it keeps all slots.
     ///
     /// `OutOfMemory` alone.
@@ -416,7 +440,8 @@ impl LargeListArray {
         requires { offset + count ≤ length self.now.slots }
         ensures data_type { IfOk result (λ a. a.data_type ≡ self.now.data_type) }
         ensures slots { IfOk result (λ a. a.slots ≡ take count (drop offset self.now.slots)) }
-        ensures offsets { IfOk result (λ a. a.offsets ≡ take (count + 1) (drop offset self.now.offsets)) }
+        ensures offsets { IfOk result
+            (λ a. a.offsets ≡ take (count + 1) (drop offset self.now.offsets)) }
         ensures items { IfOk result (λ a. a.items ≡ self.now.items) }
         ensures memory { IfErr result (λ e. e ≡ OutOfMemory) }
     {

@@ -1,12 +1,14 @@
-ghost use Rattle.std.specs.Prelude.{◌≡◌, false, ◌+◌, ◌<◌, ◌≤◌, ◌↔◌, IsTrue, IfOk, IfErr, length, take, drop, None};
+//! Nulls.
+ghost use Rattle.std.specs.Prelude.{◌≡◌, false, ◌+◌, ◌<◌, ◌≤◌, ◌↔◌, IsTrue, IfOk, IfErr, length, take, drop, None, All};
 ghost use Rattle.std.specs.Option.{option_copied};
-ghost use Rattle.arrow_lists.specs.declared.error.Error.TheVariants.{OutOfMemory};
+ghost use Rattle.arrow_core.specs.declared.error.Error.TheVariants.{OutOfMemory};
 ghost use Rattle.arrow_types.specs.declared.types.DataType.TheVariants.{Null};
+ghost use Rattle.arrow_array.specs.SlotTypes.{SlotOf};
 ghost use Rattle.arrow_array.specs.Slots.{is_held, slot_at, slots_of, null_at};
 ghost use Rattle.arrow_array.specs.Parts.{IsRefusalOf};
 
 use arrow_bitmap::Bitmap;
-use arrow_lists::{Error, Reason, Result};
+use arrow_core::{Error, Reason, Result};
 use arrow_types::DataType;
 use std::alloc::Global;
 use std::marker::Model;
@@ -65,7 +67,8 @@ impl NullArray {
 
     /// The data type, which is Null.
     pub fn data_type(&self) -> &DataType
-        ensures { result.now ≡ self.now.data_type }
+        ensures data_type { result.now ≡ self.now.data_type }
+        ensures kind { self.now.data_type ≡ Null }
     {
         &self.data_type
     }
@@ -88,7 +91,15 @@ impl NullArray {
         false
     }
 
-    /// The `count` slots from place `offset` on.
+    /// Tells that each slot is one of the data type.
+    pub(crate) fn slots_are_typed(&self)
+        ensures { All (SlotOf self.now.data_type) self.now.slots }
+    {
+        // The slots are `count` nulls.
+        let _ = &self.count;
+    }
+
+    /// The `count` slots from index `offset` on.
     ///
     /// `OutOfMemory` alone.
     pub fn slice(&self, alloc: Global, _offset: usize, count: usize) -> Result<NullArray>

@@ -1,6 +1,6 @@
 //! Offsets, which cut a buffer into parts (Arrow columnar format, "Variable-size Binary Layout").
 ghost use Rattle.std.specs.Prelude.{◌≡◌, ◌+◌, ◌-◌, ◌<◌, ◌≤◌, ◌↔◌, IsTrue, MatchOption, pos, length, map};
-ghost use Rattle.arrow_types.specs.Numbers.{IsNegative, IsPlace};
+ghost use Rattle.arrow_types.specs.Numbers.{IsNegative, IsIndex};
 ghost use Rattle.arrow_array.specs.Offsets.{IsOffsets, offset_at, part};
 
 use arrow_types::Offset;
@@ -8,7 +8,8 @@ use arrow_types::Offset;
 /// Offset `k`, or `None` where it is negative.
 fn checked_offset<O: Offset>(offsets: &[O], k: usize) -> Option<usize>
     requires { k < length offsets.now }
-    ensures { MatchOption result (IsNegative (offset_at (map O.place offsets.now) k)) (λ n. offset_at (map O.place offsets.now) k ≡ pos n) }
+    ensures { MatchOption result (IsNegative (offset_at (map O.number offsets.now) k))
+        (λ n. offset_at (map O.number offsets.now) k ≡ pos n) }
 {
     offsets[k].checked_to_usize()
 }
@@ -16,20 +17,20 @@ fn checked_offset<O: Offset>(offsets: &[O], k: usize) -> Option<usize>
 /// Offset `k`, which isn't negative.
 pub(crate) fn offset<O: Offset>(offsets: &[O], k: usize) -> usize
     requires within { k < length offsets.now }
-    requires place { IsPlace (offset_at (map O.place offsets.now) k) }
-    ensures { offset_at (map O.place offsets.now) k ≡ pos result }
+    requires index { IsIndex (offset_at (map O.number offsets.now) k) }
+    ensures { offset_at (map O.number offsets.now) k ≡ pos result }
 {
     offsets[k].to_usize()
 }
 
 /// Where part `k` of a buffer of `len` items begins and ends.
 pub(crate) fn part_bounds<O: Offset>(offsets: &[O], k: usize, len: usize) -> (usize, usize)
-    requires offsets { IsOffsets (map O.place offsets.now) len }
+    requires offsets { IsOffsets (map O.number offsets.now) len }
     requires within { k + 1 < length offsets.now }
     ensures order { result.0 ≤ result.1 }
     ensures within { result.1 ≤ len }
-    ensures start { offset_at (map O.place offsets.now) k ≡ pos result.0 }
-    ensures end { offset_at (map O.place offsets.now) (k + 1) ≡ pos result.1 }
+    ensures start { offset_at (map O.number offsets.now) k ≡ pos result.0 }
+    ensures end { offset_at (map O.number offsets.now) (k + 1) ≡ pos result.1 }
 {
     let start = offset(offsets, k);
     let end = offset(offsets, k + 1);
@@ -38,11 +39,11 @@ pub(crate) fn part_bounds<O: Offset>(offsets: &[O], k: usize, len: usize) -> (us
 
 /// Where the parts of a buffer of `len` items begin and end, taken together.
 pub(crate) fn whole_bounds<O: Offset>(offsets: &[O], len: usize) -> (usize, usize)
-    requires { IsOffsets (map O.place offsets.now) len }
+    requires { IsOffsets (map O.number offsets.now) len }
     ensures order { result.0 ≤ result.1 }
     ensures within { result.1 ≤ len }
-    ensures start { offset_at (map O.place offsets.now) 0 ≡ pos result.0 }
-    ensures end { offset_at (map O.place offsets.now) (length offsets.now - 1) ≡ pos result.1 }
+    ensures start { offset_at (map O.number offsets.now) 0 ≡ pos result.0 }
+    ensures end { offset_at (map O.number offsets.now) (length offsets.now - 1) ≡ pos result.1 }
 {
     let start = offset(offsets, 0);
     let end = offset(offsets, offsets.len() - 1);
@@ -51,9 +52,9 @@ pub(crate) fn whole_bounds<O: Offset>(offsets: &[O], len: usize) -> (usize, usiz
 
 /// Part `k` of the values.
 pub(crate) fn part_of<'a, O: Offset, T>(offsets: &[O], values: &'a [T], k: usize) -> &'a [T]
-    requires offsets { IsOffsets (map O.place offsets.now) (length values.now) }
+    requires offsets { IsOffsets (map O.number offsets.now) (length values.now) }
     requires within { k + 1 < length offsets.now }
-    ensures { result.now ≡ part (map O.place offsets.now) values.now k }
+    ensures { result.now ≡ part (map O.number offsets.now) values.now k }
 {
     let (start, end) = part_bounds(offsets, k, values.len());
     &values[start..end]
@@ -62,7 +63,7 @@ pub(crate) fn part_of<'a, O: Offset, T>(offsets: &[O], values: &'a [T], k: usize
 /// Whether these are offsets into a buffer of `len` items: at least one, none negative, none
 /// below the one before, and none past the end.
 pub(crate) fn are_offsets<O: Offset>(offsets: &[O], len: usize) -> bool
-    ensures { IsTrue result ↔ IsOffsets (map O.place offsets.now) len }
+    ensures { IsTrue result ↔ IsOffsets (map O.number offsets.now) len }
 {
     if offsets.is_empty() {
         return false;

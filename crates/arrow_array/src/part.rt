@@ -1,3 +1,4 @@
+//! What a list lends of its child.
 use crate::array::Array;
 
 /// Neighbouring slots of an array, as a list lends its items: those from `start` up to, and
@@ -6,8 +7,8 @@ use crate::array::Array;
 pub struct Part<'a> {
     /// The array.
     pub array: &'a Array,
-    /// The place of the first slot.
+    /// The index of the first slot.
     pub start: usize,
-    /// The place after the last slot.
+    /// The index after the last slot.
     pub end: usize,
 }

@@ -1,18 +1,21 @@
-ghost use Rattle.std.specs.Prelude.{◌≡◌, ◌+◌, ◌<◌, ◌≤◌, ◌↔◌, IsTrue, IfOk, IfErr, length, take, drop, vec_len};
+//! Values that lie in memory as they are.
+ghost use Rattle.std.specs.Prelude.{◌≡◌, ◌+◌, ◌<◌, ◌≤◌, ◌↔◌, IsTrue, IfOk, IfErr, length, take, drop, vec_len, All};
 ghost use Rattle.std.specs.Option.{option_copied};
-ghost use Rattle.arrow_lists.specs.declared.error.Error.TheVariants.{OutOfMemory};
+ghost use Rattle.arrow_core.specs.declared.error.Error.TheVariants.{OutOfMemory};
+ghost use Rattle.arrow_array.specs.SlotTypes.{SlotOf};
 ghost use Rattle.arrow_array.specs.Slots.{TellsHeld, is_held, native_at, slot_at, slots_of};
 ghost use Rattle.arrow_array.specs.Parts.{IsPlain, IsRefusalOf, PrimitiveFits, is_extension};
 
 use crate::buffer::Buffer;
+use crate::ranges::{Ranged, tell_ranges};
 use crate::validity;
 use arrow_bitmap::Bitmap;
-use arrow_lists::{Error, Reason, Result};
+use arrow_core::{Error, Reason, Result};
 use arrow_types::{DataType, NativeType, PhysicalType};
 use std::alloc::Global;
 use std::marker::Model;
 
-/// Numbers, one after another in a shared buffer (Arrow columnar format,
+/// Values of one native type, one after another in a shared buffer (Arrow columnar format,
 /// "Fixed-size Primitive Layout").
 #[derive(Drop)]
 pub struct PrimitiveArray<T: NativeType> {
@@ -55,7 +58,7 @@ fn is_plain<T: NativeType>(data_type: &DataType) -> bool
     }
 }
 
-/// Whether these parts make an array of so many numbers.
+/// Whether these parts make an array of so many values.
 fn fits<T: NativeType>(data_type: &DataType, len: usize, validity: &Option<Bitmap>) -> bool
     ensures { IsTrue result ↔ PrimitiveFits T.PRIMITIVE data_type.now len validity.now }
 {
@@ -76,9 +79,13 @@ impl<T: NativeType> PrimitiveArray<T> {
         validity: Option<Bitmap>,
     ) -> Result<PrimitiveArray<T>>
         ensures data_type { IfOk result (λ a. a.data_type ≡ data_type) }
-        ensures slots { IfOk result (λ a. a.slots ≡ slots_of (native_at T.native_slot values.items) validity 0 (vec_len values)) }
-        ensures fits { IfOk result (λ _. PrimitiveFits T.PRIMITIVE data_type (vec_len values) validity) }
-        ensures err { IfErr result (IsRefusalOf (PrimitiveFits T.PRIMITIVE data_type (vec_len values) validity)) }
+        ensures slots { IfOk result
+            (λ a. a.slots
+            ≡ slots_of (native_at T.native_slot values.items) validity 0 (vec_len values)) }
+        ensures fits { IfOk result
+            (λ _. PrimitiveFits T.PRIMITIVE data_type (vec_len values) validity) }
+        ensures err { IfErr result
+            (IsRefusalOf (PrimitiveFits T.PRIMITIVE data_type (vec_len values) validity)) }
     {
         if !fits::<T>(&data_type, values.len(), &validity) {
             return Err(Error::InvalidArgumentError(Reason::ArrayParts));
@@ -98,9 +105,10 @@ impl<T: NativeType> PrimitiveArray<T> {
         self.values.len()
     }
 
-    /// The data type.
+    /// The data type, whose values lie in memory as a `T`, and which is no extension.
     pub fn data_type(&self) -> &DataType
-        ensures { result.now ≡ self.now.data_type }
+        ensures data_type { result.now ≡ self.now.data_type }
+        ensures kind { IsPlain T.PRIMITIVE self.now.data_type }
     {
         &self.data_type
     }
@@ -123,12 +131,13 @@ impl<T: NativeType> PrimitiveArray<T> {
     /// The value of slot `i`; at a null, whatever the buffer has there.
     pub fn value(&self, i: usize) -> T
         requires { i < length self.now.slots }
-        ensures { IsTrue (is_held (slot_at self.now.slots i)) → slot_at self.now.slots i ≡ T.native_slot result }
+        ensures { IsTrue (is_held (slot_at self.now.slots i))
+            → slot_at self.now.slots i ≡ T.native_slot result }
     {
         self.values.as_slice()[i]
     }
 
-    /// The `count` slots from place `offset` on. It shares the buffers.
+    /// The `count` slots from index `offset` on. It shares the buffers.
     ///
     /// `OutOfMemory` alone.
     pub fn slice(&self, alloc: Global, offset: usize, count: usize) -> Result<PrimitiveArray<T>>
@@ -145,5 +154,14 @@ impl<T: NativeType> PrimitiveArray<T> {
             values,
             validity,
         })
+    }
+}
+
+impl<T: Ranged> PrimitiveArray<T> {
+    /// Tells that each slot is one of the data type.
+    pub(crate) fn slots_are_typed(&self)
+        ensures { All (SlotOf self.now.data_type) self.now.slots }
+    {
+        tell_ranges(self.values.as_slice());
     }
 }

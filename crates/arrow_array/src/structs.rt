@@ -1,20 +1,23 @@
-ghost use Rattle.std.specs.Prelude.{◌≡◌, ℕ, ◌+◌, ◌<◌, ◌≤◌, ◌↔◌, IsTrue, IfOk, IfErr, length, map, take, drop};
+//! Structs.
+ghost use Rattle.std.specs.Prelude.{◌≡◌, ℕ, ◌+◌, ◌<◌, ◌≤◌, ◌↔◌, IsTrue, IfOk, IfErr, length, map, take, drop, All};
 ghost use Rattle.std.specs.Option.{option_copied};
-ghost use Rattle.arrow_lists.specs.declared.error.Error.TheVariants.{OutOfMemory};
+ghost use Rattle.arrow_core.specs.declared.error.Error.TheVariants.{OutOfMemory};
 ghost use Rattle.arrow_array.specs.Arrays.{array_type, array_slots};
+ghost use Rattle.arrow_array.specs.Kinds.{IsStructType};
+ghost use Rattle.arrow_array.specs.SlotTypes.{IsTyped, SlotOf};
 ghost use Rattle.arrow_array.specs.Slots.{TellsHeld, is_held, slot_at, slots_of};
-ghost use Rattle.arrow_array.specs.Structs.{AreChildren, AreCuts, HaveRoom, IsStructOf, StructFits, first_len, record_at};
+ghost use Rattle.arrow_array.specs.Structs.{AreChildren, AreCuts, HaveSlots, IsStructOf, StructFits, first_len, record_at};
 ghost use Rattle.arrow_array.specs.Parts.{IsRefusalOf};
 
 use crate::array::Array;
 use crate::validity;
 use arrow_bitmap::Bitmap;
-use arrow_lists::{Error, Reason, Result};
+use arrow_core::{Error, Reason, Result};
 use arrow_types::{DataType, Field};
 use std::alloc::Global;
 use std::marker::Model;
 
-/// Records of the slots of several children, of which there is at least one
+/// Structs of the slots of several children, of which there is at least one
 /// (Arrow columnar format, "Struct Layout").
 #[cycle(arrays)]
 #[derive(Drop)]
@@ -72,7 +75,7 @@ fn are_children(fields: &[Field], children: &[Array], count: usize) -> bool
     true
 }
 
-/// Whether this is the type of records of the children, which have so many slots each.
+/// Whether this is the type of structs of the children, which have so many slots each.
 fn is_struct_type(data_type: &DataType, children: &[Array], count: usize) -> bool
     ensures { IsTrue result ↔ IsStructOf data_type.now children.now count }
 {
@@ -82,7 +85,7 @@ fn is_struct_type(data_type: &DataType, children: &[Array], count: usize) -> boo
     }
 }
 
-/// Whether these parts make an array of records.
+/// Whether these parts make an array of structs.
 fn fits(data_type: &DataType, children: &[Array], validity: &Option<Bitmap>) -> bool
     ensures { IsTrue result ↔ StructFits data_type.now children.now validity.now }
 {
@@ -97,10 +100,10 @@ fn fits(data_type: &DataType, children: &[Array], validity: &Option<Bitmap>) -> 
 }
 
 impl StructArray {
-    /// The array of the records of the children's slots, place by place, null where the validity
+    /// The array of the structs of the children's slots, index by index, null where the validity
     /// is false.
     ///
-    /// `InvalidArgumentError(ArrayParts)` where the type isn't that of records; where there is no
+    /// `InvalidArgumentError(ArrayParts)` where the type isn't that of structs; where there is no
     /// child, or not one for each field, of the field's type; where two children have different
     /// lengths; or where a given validity hasn't their length. `OutOfMemory`.
     pub fn try_new(
@@ -110,7 +113,10 @@ impl StructArray {
         validity: Option<Bitmap>,
     ) -> Result<StructArray>
         ensures data_type { IfOk result (λ a. a.data_type ≡ data_type) }
-        ensures slots { IfOk result (λ a. a.slots ≡ slots_of (record_at (map array_slots values.items)) validity 0 (first_len values.items)) }
+        ensures slots { IfOk result
+            (λ a. a.slots
+            ≡ slots_of (record_at (map array_slots values.items)) validity 0
+            (first_len values.items)) }
         ensures fits { IfOk result (λ _. StructFits data_type values.items validity) }
         ensures err { IfErr result (IsRefusalOf (StructFits data_type values.items validity)) }
     {
@@ -133,18 +139,22 @@ impl StructArray {
         self.count
     }
 
-    /// The data type.
+    /// The data type, which is Struct of at least 1 field.
     pub fn data_type(&self) -> &DataType
-        ensures { result.now ≡ self.now.data_type }
+        ensures data_type { result.now ≡ self.now.data_type }
+        ensures kind { IsStructType self.now.data_type }
     {
         &self.data_type
     }
 
-    /// The children, one for each field, each with as many slots as there are records: a slot that
-    /// isn't null is the record of their slots at its place.
+    /// The children, one for each field, of its type, each with as many slots as there are
+    /// structs. A slot that isn't null is the struct of the children's slots at its index; what
+    /// they hold beneath a null isn't told.
     pub fn values(&self) -> &[Array]
         ensures data_type { IsStructOf self.now.data_type result.now (length self.now.slots) }
-        ensures slots { (k : ℕ) → k < length self.now.slots → IsTrue (is_held (slot_at self.now.slots k)) → slot_at self.now.slots k ≡ record_at (map array_slots result.now) k }
+        ensures slots { (k : ℕ) → k < length self.now.slots
+            → IsTrue (is_held (slot_at self.now.slots k))
+            → slot_at self.now.slots k ≡ record_at (map array_slots result.now) k }
     {
         self.values.as_slice()
     }
@@ -164,7 +174,15 @@ impl StructArray {
         validity::is_valid(&self.validity, self.count, i)
     }
 
-    /// The `count` slots from place `offset` on, those of each child. It shares the children's
+    /// Tells that each slot is one of the data type.
+    #[cycle(typed)]
+    pub(crate) fn slots_are_typed(&self)
+        ensures { All (SlotOf self.now.data_type) self.now.slots }
+    {
+        all_are_typed(self.values.as_slice());
+    }
+
+    /// The `count` slots from index `offset` on, those of each child. It shares the children's
     /// buffers.
     ///
     /// `OutOfMemory` alone.
@@ -187,10 +205,10 @@ impl StructArray {
     }
 }
 
-/// The `count` slots of each array from place `offset` on.
+/// The `count` slots of each array from index `offset` on.
 #[cycle(slices)]
 fn slice_all(arrays: &[Array], alloc: Global, offset: usize, count: usize) -> Result<Vec<Array>>
-    requires { HaveRoom (offset + count) arrays.now }
+    requires { HaveSlots (offset + count) arrays.now }
     ensures cuts { IfOk result (λ slices. AreCuts offset count arrays.now slices.items) }
     ensures memory { IfErr result (λ e. e ≡ OutOfMemory) }
 {
@@ -200,4 +218,14 @@ fn slice_all(arrays: &[Array], alloc: Global, offset: usize, count: usize) -> Re
         slices.push(slice)?;
     }
     Ok(slices)
+}
+
+/// Tells that the slots of each array are of its type.
+#[cycle(typed)]
+fn all_are_typed(arrays: &[Array])
+    ensures { All IsTyped arrays.now }
+{
+    for array in arrays {
+        array.slots_are_typed();
+    }
 }

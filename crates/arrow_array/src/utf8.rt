@@ -1,22 +1,25 @@
-ghost use Rattle.std.specs.Prelude.{◌≡◌, ℕ, ◌+◌, ◌-◌, ◌<◌, ◌≤◌, ◌↔◌, IsTrue, IfOk, IfErr, length, map, take, drop, vec_len};
+//! Strings.
+ghost use Rattle.std.specs.Prelude.{◌≡◌, ℕ, ◌+◌, ◌-◌, ◌<◌, ◌≤◌, ◌↔◌, IsTrue, IfOk, IfErr, length, map, take, drop, vec_len, All};
 ghost use Rattle.std.specs.Option.{option_copied};
-ghost use Rattle.arrow_lists.specs.declared.error.Error.TheVariants.{OutOfMemory};
-ghost use Rattle.arrow_types.specs.declared.slot.Slot.TheVariants.{Words};
-ghost use Rattle.arrow_array.specs.Offsets.{IsOffsets, IsBoundary, IsFrom, AreTexts, offset_at};
-ghost use Rattle.arrow_array.specs.Slots.{TellsHeld, is_held, slot_at, slots_of, text_at};
-ghost use Rattle.arrow_array.specs.Parts.{TextFits, IsRefusalOf, text_type};
+ghost use Rattle.arrow_core.specs.declared.error.Error.TheVariants.{OutOfMemory};
+ghost use Rattle.arrow_types.specs.declared.slot.Slot.TheVariants.{String as StringSlot};
+ghost use Rattle.arrow_array.specs.Offsets.{IsOffsets, IsBoundary, IsFrom, AreUtf8, offset_at};
+ghost use Rattle.arrow_array.specs.SlotTypes.{SlotOf};
+ghost use Rattle.arrow_array.specs.Slots.{TellsHeld, is_held, slot_at, slots_of, utf8_at};
+ghost use Rattle.arrow_array.specs.Parts.{Utf8Fits, IsRefusalOf, utf8_type};
 
 use crate::buffer::Buffer;
 use crate::offsets::{are_offsets, offset, part_of, whole_bounds};
+use crate::ranges::{RangedOffset, tell_offset_ranges};
 use crate::validity;
 use arrow_bitmap::Bitmap;
-use arrow_lists::{Error, Reason, Result};
+use arrow_core::{Error, Reason, Result};
 use arrow_types::{DataType, Offset};
 use simdutf8::compat::from_utf8;
 use std::alloc::Global;
 use std::marker::Model;
 
-/// Texts, which lie one after another in a shared buffer of bytes, between shared offsets
+/// Strings, which lie one after another in a shared buffer of bytes, between shared offsets
 /// (Arrow columnar format, "Variable-size Binary Layout").
 ///
 /// The offsets of `i32` make the type Utf8, and those of `i64` LargeUtf8.
@@ -30,27 +33,27 @@ pub struct Utf8Array<O: Offset> {
 
 impl<O: Offset> Model for Utf8Array<O> {
     ghost use Rattle.std.specs.Prelude.{◌-◌, length, map};
-    ghost use Rattle.arrow_array.specs.Columns.{TextColumn, text_column_code};
-    ghost use Rattle.arrow_array.specs.Slots.{slots_of, text_at};
-    ghost use Rattle.arrow_array.specs.Parts.{TextFits, text_type};
+    ghost use Rattle.arrow_array.specs.Columns.{ContentColumn, content_column_code};
+    ghost use Rattle.arrow_array.specs.Slots.{slots_of, utf8_at};
+    ghost use Rattle.arrow_array.specs.Parts.{Utf8Fits, utf8_type};
 
-    ghost Value = { TextColumn };
+    ghost Value = { ContentColumn };
 
-    ghost coded = { text_column_code };
+    ghost coded = { content_column_code };
 
     ghost view = { λ a. record {
       data_type = a.data_type;
-      slots = slots_of (text_at (map O.place a.offsets) a.values) a.validity 0 (length (map O.place a.offsets) - 1);
-      offsets = map O.place a.offsets;
+      slots = slots_of (utf8_at (map O.number a.offsets) a.values) a.validity 0 (length (map O.number a.offsets) - 1);
+      offsets = map O.number a.offsets;
       bytes = a.values;
     } };
 
-    ghost invariant = { λ a. TextFits (text_type O.IS_LARGE) a.data_type (map O.place a.offsets) a.values a.validity };
+    ghost invariant = { λ a. Utf8Fits (utf8_type O.IS_LARGE) a.data_type (map O.number a.offsets) a.values a.validity };
 }
 
-/// Whether this is the type of texts with such offsets.
-fn is_text_type<O: Offset>(data_type: &DataType) -> bool
-    ensures { IsTrue result ↔ (data_type.now ≡ text_type O.IS_LARGE) }
+/// Whether this is the type of strings with such offsets.
+fn is_utf8_type<O: Offset>(data_type: &DataType) -> bool
+    ensures { IsTrue result ↔ (data_type.now ≡ utf8_type O.IS_LARGE) }
 {
     if O::IS_LARGE {
         matches!(data_type, DataType::LargeUtf8)
@@ -59,11 +62,14 @@ fn is_text_type<O: Offset>(data_type: &DataType) -> bool
     }
 }
 
-/// Whether each offset stands between two characters of the text, whose first byte lies at place
+/// Whether each offset stands between two characters of the text, whose first byte has index
 /// `start`.
 fn are_boundaries<O: Offset>(offsets: &[O], text: &str, start: usize) -> bool
-    requires from { (k : ℕ) → k < length offsets.now → IsFrom start (offset_at (map O.place offsets.now) k) }
-    ensures { IsTrue result ↔ ((k : ℕ) → k < length offsets.now → IsBoundary text.now start (offset_at (map O.place offsets.now) k)) }
+    requires from { (k : ℕ) → k < length offsets.now
+        → IsFrom start (offset_at (map O.number offsets.now) k) }
+    ensures { IsTrue result
+        ↔ ((k : ℕ) → k < length offsets.now
+        → IsBoundary text.now start (offset_at (map O.number offsets.now) k)) }
 {
     for i in 0..offsets.len() {
         if !text.is_char_boundary(offset(offsets, i) - start) {
@@ -75,9 +81,9 @@ fn are_boundaries<O: Offset>(offsets: &[O], text: &str, start: usize) -> bool
 
 /// Whether the bytes between each two neighbouring offsets are UTF-8: the bytes between the first
 /// and the last are, and each offset stands between two characters.
-fn are_texts<O: Offset>(offsets: &[O], values: &[u8]) -> bool
-    requires { IsOffsets (map O.place offsets.now) (length values.now) }
-    ensures { IsTrue result ↔ AreTexts (map O.place offsets.now) values.now }
+fn are_utf8<O: Offset>(offsets: &[O], values: &[u8]) -> bool
+    requires { IsOffsets (map O.number offsets.now) (length values.now) }
+    ensures { IsTrue result ↔ AreUtf8 (map O.number offsets.now) values.now }
 {
     let (start, end) = whole_bounds(offsets, values.len());
     match from_utf8(&values[start..end]) {
@@ -86,16 +92,18 @@ fn are_texts<O: Offset>(offsets: &[O], values: &[u8]) -> bool
     }
 }
 
-/// Whether these parts make an array of texts.
+/// Whether these parts make an array of strings.
 fn fits<O: Offset>(
     data_type: &DataType,
     offsets: &[O],
     values: &[u8],
     validity: &Option<Bitmap>,
 ) -> bool
-    ensures { IsTrue result ↔ TextFits (text_type O.IS_LARGE) data_type.now (map O.place offsets.now) values.now validity.now }
+    ensures { IsTrue result
+        ↔ Utf8Fits (utf8_type O.IS_LARGE) data_type.now (map O.number offsets.now) values.now
+        validity.now }
 {
-    if !is_text_type::<O>(data_type) {
+    if !is_utf8_type::<O>(data_type) {
         return false;
     }
     if !are_offsets(offsets, values.len()) {
@@ -104,11 +112,11 @@ fn fits<O: Offset>(
     if !validity::fits(validity, offsets.len() - 1) {
         return false;
     }
-    are_texts(offsets, values)
+    are_utf8(offsets, values)
 }
 
 impl<O: Offset> Utf8Array<O> {
-    /// The array of the texts between each two neighbouring offsets into the bytes of `values`,
+    /// The array of the strings between each two neighbouring offsets into the bytes of `values`,
     /// null where the validity is false.
     ///
     /// `InvalidArgumentError(ArrayParts)` where the type isn't that of such offsets; where there is
@@ -123,11 +131,19 @@ impl<O: Offset> Utf8Array<O> {
         validity: Option<Bitmap>,
     ) -> Result<Utf8Array<O>>
         ensures data_type { IfOk result (λ a. a.data_type ≡ data_type) }
-        ensures slots { IfOk result (λ a. a.slots ≡ slots_of (text_at (map O.place offsets.items) values.items) validity 0 (vec_len offsets - 1)) }
-        ensures offsets { IfOk result (λ a. a.offsets ≡ map O.place offsets.items) }
+        ensures slots { IfOk result
+            (λ a. a.slots
+            ≡ slots_of (utf8_at (map O.number offsets.items) values.items) validity 0
+            (vec_len offsets - 1)) }
+        ensures offsets { IfOk result (λ a. a.offsets ≡ map O.number offsets.items) }
         ensures bytes { IfOk result (λ a. a.bytes ≡ values.items) }
-        ensures fits { IfOk result (λ _. TextFits (text_type O.IS_LARGE) data_type (map O.place offsets.items) values.items validity) }
-        ensures err { IfErr result (IsRefusalOf (TextFits (text_type O.IS_LARGE) data_type (map O.place offsets.items) values.items validity)) }
+        ensures fits { IfOk result
+            (λ _. Utf8Fits (utf8_type O.IS_LARGE) data_type (map O.number offsets.items)
+            values.items validity) }
+        ensures err { IfErr result
+            (IsRefusalOf
+            (Utf8Fits (utf8_type O.IS_LARGE) data_type (map O.number offsets.items) values.items
+            validity)) }
     {
         if !fits(&data_type, offsets.as_slice(), values.as_slice(), &validity) {
             return Err(Error::InvalidArgumentError(Reason::ArrayParts));
@@ -144,10 +160,14 @@ impl<O: Offset> Utf8Array<O> {
         values: Vec<u8>,
         validity: Option<Bitmap>,
     ) -> Result<Utf8Array<O>>
-        requires { TextFits (text_type O.IS_LARGE) data_type (map O.place offsets.items) values.items validity }
+        requires { Utf8Fits (utf8_type O.IS_LARGE) data_type (map O.number offsets.items)
+            values.items validity }
         ensures data_type { IfOk result (λ a. a.data_type ≡ data_type) }
-        ensures slots { IfOk result (λ a. a.slots ≡ slots_of (text_at (map O.place offsets.items) values.items) validity 0 (vec_len offsets - 1)) }
-        ensures offsets { IfOk result (λ a. a.offsets ≡ map O.place offsets.items) }
+        ensures slots { IfOk result
+            (λ a. a.slots
+            ≡ slots_of (utf8_at (map O.number offsets.items) values.items) validity 0
+            (vec_len offsets - 1)) }
+        ensures offsets { IfOk result (λ a. a.offsets ≡ map O.number offsets.items) }
         ensures bytes { IfOk result (λ a. a.bytes ≡ values.items) }
         ensures err { IfErr result (λ e. e ≡ OutOfMemory) }
     {
@@ -168,23 +188,28 @@ impl<O: Offset> Utf8Array<O> {
         self.offsets.len() - 1
     }
 
-    /// The data type.
+    /// The data type: Utf8 with offsets of 32 bits, and LargeUtf8 with those of 64.
     pub fn data_type(&self) -> &DataType
-        ensures { result.now ≡ self.now.data_type }
+        ensures data_type { result.now ≡ self.now.data_type }
+        ensures kind { self.now.data_type ≡ utf8_type O.IS_LARGE }
     {
         &self.data_type
     }
 
     /// The offsets of the slots, one more than there are slots: a slot that isn't null is the
-    /// text between its offset and the next in `values`.
+    /// string between its offset and the next in `values`.
     pub fn offsets(&self) -> &[O]
-        ensures offsets { map O.place result.now ≡ self.now.offsets }
-        ensures slots { (k : ℕ) → k < length self.now.slots → IsTrue (is_held (slot_at self.now.slots k)) → slot_at self.now.slots k ≡ text_at (map O.place result.now) self.now.bytes k }
+        ensures offsets { map O.number result.now ≡ self.now.offsets }
+        ensures fit { IsOffsets (map O.number result.now) (length self.now.bytes) }
+        ensures count { length result.now ≡ length self.now.slots + 1 }
+        ensures slots { (k : ℕ) → k < length self.now.slots
+            → IsTrue (is_held (slot_at self.now.slots k))
+            → slot_at self.now.slots k ≡ utf8_at (map O.number result.now) self.now.bytes k }
     {
         self.offsets.as_slice()
     }
 
-    /// The bytes that the texts lie in.
+    /// The bytes that the strings lie in.
     pub fn values(&self) -> &[u8]
         ensures { result.now ≡ self.now.bytes }
     {
@@ -206,24 +231,26 @@ impl<O: Offset> Utf8Array<O> {
         validity::is_valid(&self.validity, self.len(), i)
     }
 
-    /// The text of slot `i`; at a null, whatever the buffer has there.
+    /// The string in slot `i`; at a null, whatever the buffer has there.
     pub fn value(&self, i: usize) -> &str
         requires { i < length self.now.slots }
-        ensures { IsTrue (is_held (slot_at self.now.slots i)) → slot_at self.now.slots i ≡ Words result.now }
+        ensures { IsTrue (is_held (slot_at self.now.slots i))
+            → slot_at self.now.slots i ≡ StringSlot result.now }
     {
         let text = part_of(self.offsets.as_slice(), self.values.as_slice(), i);
         // The constructors have seen that these bytes are UTF-8.
         unsafe { str::from_utf8_unchecked(text) }
     }
 
-    /// The `count` slots from place `offset` on. It shares the buffers.
+    /// The `count` slots from index `offset` on. It shares the buffers.
     ///
     /// `OutOfMemory` alone.
     pub fn slice(&self, alloc: Global, offset: usize, count: usize) -> Result<Utf8Array<O>>
         requires { offset + count ≤ length self.now.slots }
         ensures data_type { IfOk result (λ a. a.data_type ≡ self.now.data_type) }
         ensures slots { IfOk result (λ a. a.slots ≡ take count (drop offset self.now.slots)) }
-        ensures offsets { IfOk result (λ a. a.offsets ≡ take (count + 1) (drop offset self.now.offsets)) }
+        ensures offsets { IfOk result
+            (λ a. a.offsets ≡ take (count + 1) (drop offset self.now.offsets)) }
         ensures bytes { IfOk result (λ a. a.bytes ≡ self.now.bytes) }
         ensures memory { IfErr result (λ e. e ≡ OutOfMemory) }
     {
@@ -237,5 +264,14 @@ impl<O: Offset> Utf8Array<O> {
             values,
             validity,
         })
+    }
+}
+
+impl<O: RangedOffset> Utf8Array<O> {
+    /// Tells that each slot is one of the data type.
+    pub(crate) fn slots_are_typed(&self)
+        ensures { All (SlotOf self.now.data_type) self.now.slots }
+    {
+        tell_offset_ranges(self.offsets.as_slice());
     }
 }

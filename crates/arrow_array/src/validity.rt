@@ -1,11 +1,11 @@
 //! A validity bitmap, which may be missing (Arrow columnar format, "Validity bitmaps").
 ghost use Rattle.std.specs.Prelude.{◌≡◌, ◌+◌, ◌<◌, ◌≤◌, ◌↔◌, IsTrue, IfOk, IfErr};
-ghost use Rattle.arrow_lists.specs.declared.error.Error.TheVariants.{OutOfMemory};
+ghost use Rattle.arrow_core.specs.declared.error.Error.TheVariants.{OutOfMemory};
 ghost use Rattle.arrow_array.specs.Parts.{IsCutOf, IsValidityOf};
 ghost use Rattle.arrow_array.specs.Slots.{valid_at};
 
 use arrow_bitmap::Bitmap;
-use arrow_lists::Result;
+use arrow_core::Result;
 
 /// Whether a validity that is given has this length.
 pub(crate) fn fits(validity: &Option<Bitmap>, len: usize) -> bool
@@ -29,7 +29,7 @@ pub(crate) fn is_valid(validity: &Option<Bitmap>, len: usize, i: usize) -> bool
     }
 }
 
-/// The `count` values from place `offset` on, of a validity that is given.
+/// The `count` values from index `offset` on, of a validity that is given.
 ///
 /// `OutOfMemory` alone.
 pub(crate) fn slice(

@@ -7,7 +7,7 @@ use Rattle.std.specs.Char.Utf16.{is_high_surrogate, surrogate_pair_char}
 use Rattle.arrow_base.specs.JsonString.{is_unescaped, short_escape, hexadecimal, IsChar, Chars, no_chars, one_char, JsonString}
 use Rattle.arrow_base.proofs.Decisions.{by_test}
 
--- ---- what the first character adds to the text, and the bytes behind it
+-- ---- what the first character adds to the text, and the bytes after it
 
 abbrev if_some : Option ℕ → (ℕ → Option (List ℕ × List ℕ)) → Option (List ℕ × List ℕ)
 if_some None f = None
@@ -40,7 +40,7 @@ no_u byte char h = by_test _ (byte == 0x75) (λ e. bad (grind (arith, nat_tests,
     bad : byte ≡ 0x75 → (byte == 0x75) ≡ false
     bad e = let none : short_escape 0x75 ≡ None = refl in let some : short_escape 0x75 ≡ Some char = subst (λ b. short_escape b ≡ Some char) e h in cc
 
--- a character in front is found
+-- a character in prefix is found
 char-found : (bytes text rest : List ℕ) → IsChar bytes text → char_found (bytes ++ rest) ≡ Some (text, rest)
 char-found bytes text rest (inl h) = rw (h.1, h.2) (rw (no_reverse_solidus h.0 h.3) refl)
 char-found bytes text rest (inr (inl h)) = rw (h.2, h.3) (rw (no_u h.0 h.1 h.4, h.4) refl)

@@ -22,7 +22,7 @@ is_value-true : (o : Option ℕ) (n : ℕ) → T (is_value o n) → o ≡ Some n
 is_value-true None n h = absurd h
 is_value-true (Some m) n h = ap (λ x. Some x) (grind (arith, nat_tests, h))
 
--- the digits of a control character spell it
+-- the digits of a control character encode it
 digits-spell : (byte : ℕ) → byte < 32 → hexadecimal 48 48 (digit_char (byte / 16)) (digit_char (byte % 16)) ≡ Some byte
 unfolding hexadecimal passes_below
 digits-spell byte l =

@@ -10,7 +10,7 @@ run-first rest n h =
     ap (λ (l : List ℕ). flat_map escaped l) (sym (take-append-drop n rest)) ∙ flat_map-append escaped (take n rest) (drop n rest)
     ∙ ap (λ (l : List ℕ). l ++ flat_map escaped (drop n rest)) h
 
--- the byte behind the run comes next
+-- the byte after the run comes next
 pub byte-next : (rest : List ℕ) (n : ℕ) → n < length rest → flat_map escaped (drop n rest) ≡ escaped (get_or rest n 0) ++ flat_map escaped (drop (n + 1) rest)
 byte-next rest n h =
     let e : drop n rest ≡ get_or rest n 0 ∷ drop (n + 1) rest = rw (add-one, drop-cons rest n 0) refl in
@@ -28,32 +28,32 @@ run-all rest n h p =
     let t : take n rest ≡ rest = grind (arith, common_steps) in
     ap (λ (l : List ℕ). flat_map escaped l) (sym t) ∙ p ∙ t
 
--- what needs no escape is written as it is, and nothing behind it
+-- what needs no escape is written as it is, and nothing after it
 pub nothing-behind : (written rest : List ℕ) → written ≡ rest → written ≡ rest ++ []
 nothing-behind written rest e = e ∙ sym (append-nil rest)
 
 -- of the whole, what stands before the rest needs no escape
 pub record Passed (whole rest : List ℕ) : Type 0 where
-  pub front : List ℕ
-  pub splits : front ++ rest ≡ whole
-  pub plain : flat_map escaped front ≡ front
+  pub prefix : List ℕ
+  pub splits : prefix ++ rest ≡ whole
+  pub plain : flat_map escaped prefix ≡ prefix
 
 pub passed-none : (whole : List ℕ) → Passed whole whole
-passed-none whole = record { front = []; splits = refl; plain = refl }
+passed-none whole = record { prefix = []; splits = refl; plain = refl }
 
 -- one block more needs none
 pub passed-block : (whole rest block more : List ℕ) (n : ℕ) → Passed whole rest → block ≡ take n rest → more ≡ drop n rest → flat_map escaped block ≡ block → Passed whole more
-passed-block whole rest block more n h front behind p =
-    let e : block ++ more ≡ rest = ap (λ (l : List ℕ). l ++ more) front ∙ ap (λ (l : List ℕ). take n rest ++ l) behind ∙ take-append-drop n rest in
+passed-block whole rest block more n h prefix behind p =
+    let e : block ++ more ≡ rest = ap (λ (l : List ℕ). l ++ more) prefix ∙ ap (λ (l : List ℕ). take n rest ++ l) behind ∙ take-append-drop n rest in
     record {
-      front = h.front ++ block;
-      splits = append_assoc h.front block more ∙ ap (λ (l : List ℕ). h.front ++ l) e ∙ h.splits;
-      plain = rw (flat_map-append escaped h.front block, h.plain, p) refl;
+      prefix = h.prefix ++ block;
+      splits = append_assoc h.prefix block more ∙ ap (λ (l : List ℕ). h.prefix ++ l) e ∙ h.splits;
+      plain = rw (flat_map-append escaped h.prefix block, h.plain, p) refl;
     }
 
 pub passed-take : (whole rest : List ℕ) → Passed whole rest → flat_map escaped (take (length whole - length rest) whole) ≡ take (length whole - length rest) whole
 passed-take whole rest h =
-    let is : take (length whole - length rest) whole ≡ h.front = grind (arith, common_steps, h.splits) in
+    let is : take (length whole - length rest) whole ≡ h.prefix = grind (arith, common_steps, h.splits) in
     ap (λ (l : List ℕ). flat_map escaped l) is ∙ h.plain ∙ sym is
 
 pub passed-length : (whole rest : List ℕ) → Passed whole rest → length rest ≤ length whole

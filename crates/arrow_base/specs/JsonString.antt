@@ -19,14 +19,14 @@ short_escape byte =
     else if byte == 0x74 then Some 0x09
     else None
 
--- the number that four hexadecimal digits of either case spell
+-- the number that four hexadecimal digits of either case encode
 unfoldable pub hexadecimal : ℕ → ℕ → ℕ → ℕ → Option ℕ
 hexadecimal a b c d =
     if is_digit a 16 && (is_digit b 16 && (is_digit c 16 && is_digit d 16))
     then Some (digit_value a * 4096 + digit_value b * 256 + digit_value c * 16 + digit_value d)
     else None
 
--- `\u` and four hexadecimal digits, which spell the code unit
+-- `\u` and four hexadecimal digits, which encode the code unit
 abbrev pub IsCodeUnit : List ℕ → ℕ → Type 0
 IsCodeUnit bytes unit =
     (a : ℕ) × (b : ℕ) × (c : ℕ) × (d : ℕ) × (bytes ≡ 0x5c ∷ 0x75 ∷ a ∷ b ∷ c ∷ d ∷ []) × (hexadecimal a b c d ≡ Some unit)

@@ -6,7 +6,7 @@ use Rattle.arrow_base.specs.declared.memory_sink.MemorySink.{MemorySink}
 abbrev pub held_of : MemorySink → List ℕ
 held_of sink = sink.bytes.items
 
--- how many bytes it has room for in all
+-- how many bytes it takes in all
 abbrev pub room_of : MemorySink → ℕ
 room_of sink = sink.room
 

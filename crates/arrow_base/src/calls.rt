@@ -1,7 +1,8 @@
+//! Which calls are to fail.
 ghost use Rattle.std.specs.Prelude.{◌≡◌, ◌+◌};
 ghost use Rattle.arrow_base.specs.Outside.{one_more, is_among};
 
-use arrow_lists::Items;
+use arrow_core::Items;
 
 // The calls so far, and the numbers of those that are to fail. The first call has the number 1.
 #[derive(Drop)]

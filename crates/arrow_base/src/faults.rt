@@ -1,3 +1,4 @@
+//! Failed reads and writes, and their count.
 ghost use Rattle.std.specs.Prelude.{◌≡◌, ◌≤◌};
 ghost use Rattle.arrow_base.specs.Outside.{RoseOrFull, last_count, one_more};
 

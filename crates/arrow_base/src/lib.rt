@@ -13,8 +13,9 @@ mod std_sink;
 mod std_source;
 mod steady_source;
 pub mod utf8;
+mod vec_sink;
 
-pub use arrow_lists::{Box, Bytes, Error, Items, Metadata, Reason, Result, Text};
+pub use arrow_core::{Box, Bytes, Error, Items, Metadata, Reason, Result, Text};
 pub use arrow_types::{
     DataType, Field, IntegerType, IntervalUnit, MonthsDaysNs, NativeType, Offset, PhysicalType,
     PrimitiveType, Schema, Slot, TimeUnit, UnionMode,
@@ -28,6 +29,3 @@ pub use std_sink::StdSink;
 pub use std_source::StdSource;
 pub use steady_source::SteadySource;
 pub use utf8::{CharEscape, write_str};
-
-#[cfg(test)]
-mod tests;

@@ -1,16 +1,18 @@
-ghost use Rattle.std.specs.Prelude.{◌≡◌, ◌<◌, ◌≤◌, ◌+◌, ◌-◌, ◌==◌, ◌||◌, [], Some, min, take, length, vec_len, vec_capacity, is_err, IfOk, OnErr, IfErr};
+//! Sinks in memory, which fail where they are told to.
+ghost use Rattle.std.specs.Prelude.{◌≡◌, ◌<◌, ◌≤◌, ◌+◌, ◌-◌, ◌==◌, ◌||◌, [], Some, min, take, length, vec_len, vec_capacity, is_err, IfOk, OnErr};
 ghost use Rattle.std.specs.Int.{IsInRange};
 ghost use Rattle.std.specs.Io.KnownBytes.{Appends, Keeps};
+ghost use Rattle.arrow_core.specs.Errors.{OnlyOutOfMemory};
 ghost use Rattle.arrow_base.specs.Outside.{RoseOrFull, is_among, one_more, counted};
 
 use crate::calls::Calls;
 use crate::faults::{Failed, Faults};
 use crate::sink::Sink;
-use arrow_lists::{Error, Items, Result};
+use arrow_core::{Items, Result};
 use std::alloc::Global;
 
-/// A sink in memory with room for so many bytes, which takes them in pieces and fails at the writes
-/// that it was told to fail at, and where no room is left.
+/// A sink in memory of a fixed capacity, which takes bytes in pieces and fails at the writes that it
+/// was told to fail at, and once it is full.
 #[derive(Drop)]
 pub struct MemorySink {
     bytes: Vec<u8>,
@@ -26,9 +28,9 @@ pub struct MemorySink {
 impl MemorySink {
     ghost use Rattle.arrow_base.specs.MemorySink.{held_of, room_of, piece_of, failing_of, writes_of, faults_of};
 
-    /// A sink with room for `room` bytes, which are reserved at once. A write takes at most `piece`
+    /// A sink that takes `room` bytes in all, for which memory is reserved at once. A write takes at most `piece`
     /// bytes, which is at least 1, and the writes whose numbers, counted from 1, are in `failing`
-    /// fail. `OutOfMemory` where the room can't be reserved.
+    /// fail. `OutOfMemory` where the memory can't be reserved.
     pub fn with_room(
         alloc: Global,
         room: usize,
@@ -42,7 +44,7 @@ impl MemorySink {
         ensures failing { IfOk result (λ s. failing_of s ≡ failing) }
         ensures no_write_yet { IfOk result (λ s. writes_of s ≡ 0) }
         ensures no_fault_yet { IfOk result (λ s. faults_of s ≡ 0) }
-        ensures only { IfErr result (λ e. e ≡ Error.OutOfMemory) }
+        ensures memory { OnlyOutOfMemory result }
     {
         let bytes = Vec::with_capacity(alloc, room)?;
         Ok(MemorySink {
@@ -79,14 +81,20 @@ impl Sink for MemorySink {
     fn write(&mut self, bytes: &[u8]) -> std::result::Result<usize, Failed>
         requires { 0 < length bytes.now }
         ensures count { IfOk result (IsInRange 1 (length bytes.now)) }
-        ensures taken { IfOk result (λ n. Appends (Some (held_of self.old)) (Some (held_of self.new)) (take n bytes.now)) }
-        ensures unchanged { OnErr result (Keeps (Some (held_of self.old)) (Some (held_of self.new))) }
+        ensures taken { IfOk result
+            (λ n. Appends (Some (held_of self.old)) (Some (held_of self.new)) (take n bytes.now)) }
+        ensures unchanged { OnErr result
+            (Keeps (Some (held_of self.old)) (Some (held_of self.new))) }
         ensures never_falls { faults_of self.old ≤ faults_of self.new }
         ensures cause { OnErr result (RoseOrFull (faults_of self.old) (faults_of self.new)) }
 
         // What a write takes, and which writes fail, is known to the last byte.
-        ensures as_much { IfOk result (λ n. n ≡ min (length bytes.now) (min (piece_of self.old) (room_of self.old - length (held_of self.old)))) }
-        ensures fails { is_err result ≡ (is_among (failing_of self.old) (writes_of self.old + 1) || (length (held_of self.old) == room_of self.old)) }
+        ensures as_much { IfOk result
+            (λ n. n ≡ min (length bytes.now)
+            (min (piece_of self.old) (room_of self.old - length (held_of self.old)))) }
+        ensures fails { is_err result
+            ≡ (is_among (failing_of self.old) (writes_of self.old + 1)
+            || (length (held_of self.old) == room_of self.old)) }
         ensures numbered { writes_of self.new ≡ one_more (writes_of self.old) }
         ensures counted { faults_of self.new ≡ counted (is_err result) (faults_of self.old) }
         ensures same_room { room_of self.new ≡ room_of self.old }
@@ -99,7 +107,7 @@ impl Sink for MemorySink {
             return Err(self.faults.fail());
         }
         let n = bytes.len().min(self.piece).min(free);
-        // The room was reserved, so that this takes no memory.
+        // The memory was reserved, so that this takes none.
         match self.bytes.extend_from_slice(&bytes[..n]) {
             Ok(()) => Ok(n),
             Err(_) => unreachable!(),

@@ -1,3 +1,4 @@
+//! Sources in memory, which fail where they are told to.
 ghost use Rattle.std.specs.Prelude.{◌≡◌, ◌<◌, ◌≤◌, ◌+◌, Some, min, take, drop, length, is_err, IfOk, OnErr};
 ghost use Rattle.std.specs.Io.KnownBytes.{Consumes, Keeps, IsAtEnd};
 ghost use Rattle.arrow_base.specs.Outside.{RoseOrFull, is_among, one_more, counted};
@@ -6,7 +7,7 @@ use crate::calls::Calls;
 use crate::faults::{Failed, Faults};
 use crate::pieces::Pieces;
 use crate::source::Source;
-use arrow_lists::{Bytes, Items};
+use arrow_core::{Bytes, Items};
 
 /// Bytes in memory as a source, which gives them in pieces and fails at the reads that it was told
 /// to fail at.
@@ -48,14 +49,19 @@ impl Source for MemorySource {
     fn read(&mut self, buffer: &mut [u8]) -> std::result::Result<usize, Failed>
         requires { 0 < length buffer.old }
         ensures count { IfOk result (λ n. n ≤ length buffer.old) }
-        ensures given { IfOk result (λ n. Consumes (Some (left_of self.old)) (Some (left_of self.new)) (take n buffer.new)) }
+        ensures given { IfOk result
+            (λ n. Consumes (Some (left_of self.old)) (Some (left_of self.new))
+            (take n buffer.new)) }
         ensures end { IfOk result (λ n. n ≡ 0 → IsAtEnd (Some (left_of self.new))) }
-        ensures unchanged { OnErr result (Keeps (Some (left_of self.old)) (Some (left_of self.new))) }
+        ensures unchanged { OnErr result
+            (Keeps (Some (left_of self.old)) (Some (left_of self.new))) }
         ensures never_falls { faults_of self.old ≤ faults_of self.new }
         ensures cause { OnErr result (RoseOrFull (faults_of self.old) (faults_of self.new)) }
 
         // What a read gives, and which reads fail, is known to the last byte.
-        ensures as_much { IfOk result (λ n. n ≡ min (length buffer.old) (min (piece_of self.old) (length (left_of self.old)))) }
+        ensures as_much { IfOk result
+            (λ n. n ≡ min (length buffer.old)
+            (min (piece_of self.old) (length (left_of self.old)))) }
         ensures fails { is_err result ≡ is_among (failing_of self.old) (reads_of self.old + 1) }
         ensures numbered { reads_of self.new ≡ one_more (reads_of self.old) }
         ensures counted { faults_of self.new ≡ counted (is_err result) (faults_of self.old) }

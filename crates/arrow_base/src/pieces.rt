@@ -1,6 +1,7 @@
+//! Bytes that are given in pieces.
 ghost use Rattle.std.specs.Prelude.{◌≡◌, ◌≤◌, ◌++◌, min, length, drop, take};
 
-use arrow_lists::Bytes;
+use arrow_core::Bytes;
 
 // Bytes that are given in pieces.
 #[derive(Drop)]
@@ -27,8 +28,11 @@ impl Pieces {
 
     // Gives as much as the buffer, the piece and the bytes that are left allow.
     pub(crate) fn give(&mut self, buffer: &mut [u8]) -> usize
-        ensures as_much { result ≡ min (length buffer.old) (min self.old.piece (length (drop self.old.at self.old.bytes))) }
-        ensures given { drop self.old.at self.old.bytes ≡ take result buffer.new ++ drop self.new.at self.new.bytes }
+        ensures as_much { result
+            ≡ min (length buffer.old)
+            (min self.old.piece (length (drop self.old.at self.old.bytes))) }
+        ensures given { drop self.old.at self.old.bytes
+            ≡ take result buffer.new ++ drop self.new.at self.new.bytes }
         ensures same { self.new.piece ≡ self.old.piece }
     {
         let left = &self.bytes.as_slice()[self.at..];

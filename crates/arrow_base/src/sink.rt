@@ -1,10 +1,11 @@
+//! Where bytes go.
 ghost use Rattle.std.specs.Prelude.{◌≡◌, ℕ, ◌<◌, ◌≤◌, List, Option, take, length, IfOk, OnOk, OnErr, IfErr};
 ghost use Rattle.std.specs.Int.{IsInRange};
 ghost use Rattle.std.specs.Io.KnownBytes.{Appends, Keeps};
 ghost use Rattle.arrow_base.specs.Outside.{RoseOrFull, AppendsPrefix, last_count};
 
 use crate::faults::Failed;
-use arrow_lists::{Error, Result};
+use arrow_core::{Error, Result};
 
 /// What takes bytes.
 pub trait Sink {
@@ -23,7 +24,8 @@ pub trait Sink {
     fn write(&mut self, bytes: &[u8]) -> std::result::Result<usize, Failed>
         requires { 0 < length bytes.now }
         ensures count { IfOk result (IsInRange 1 (length bytes.now)) }
-        ensures taken { IfOk result (λ n. Appends (held self.old) (held self.new) (take n bytes.now)) }
+        ensures taken { IfOk result
+            (λ n. Appends (held self.old) (held self.new) (take n bytes.now)) }
         ensures unchanged { OnErr result (Keeps (held self.old) (held self.new)) }
         ensures never_falls { faults self.old ≤ faults self.new }
         ensures cause { OnErr result (RoseOrFull (faults self.old) (faults self.new)) }

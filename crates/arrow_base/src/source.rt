@@ -1,3 +1,4 @@
+//! Where bytes come from.
 ghost use Rattle.std.specs.Prelude.{◌≡◌, ℕ, ◌<◌, ◌≤◌, List, Option, take, length, IfOk, OnErr};
 ghost use Rattle.std.specs.Io.KnownBytes.{Consumes, Keeps, IsAtEnd};
 ghost use Rattle.arrow_base.specs.Outside.{RoseOrFull, last_count};
@@ -15,13 +16,14 @@ pub trait Source {
     // Which reference it is, where it is one.
     ghost whose: { Self → ℕ } = { λ _. 0 };
 
-    /// Puts the next bytes into the front of the buffer, which isn't empty, and answers how many; 0
-    /// at the end alone. `Failed` is answered only where the count of faults rose, or stands at its
+    /// Puts the next bytes at the start of the buffer, which isn't empty, and answers how many; 0 at
+    /// the end alone. `Failed` is answered only where the count of faults rose, or stands at its
     /// last value; no byte is lost then.
     fn read(&mut self, buffer: &mut [u8]) -> std::result::Result<usize, Failed>
         requires { 0 < length buffer.old }
         ensures count { IfOk result (λ n. n ≤ length buffer.old) }
-        ensures given { IfOk result (λ n. Consumes (left self.old) (left self.new) (take n buffer.new)) }
+        ensures given { IfOk result
+            (λ n. Consumes (left self.old) (left self.new) (take n buffer.new)) }
         ensures end { IfOk result (λ n. n ≡ 0 → IsAtEnd (left self.new)) }
         ensures unchanged { OnErr result (Keeps (left self.old) (left self.new)) }
         ensures never_falls { faults self.old ≤ faults self.new }

@@ -1,7 +1,8 @@
-ghost use Rattle.std.specs.Prelude.{◌≡◌, ◌<◌, ◌≤◌, None, take, length, IfOk, OnErr};
+//! Writers of std as sinks.
+ghost use Rattle.std.specs.Prelude.{◌≡◌, ◌<◌, ◌≤◌, None, take, length, is_err, IfOk, OnErr};
 ghost use Rattle.std.specs.Int.{IsInRange};
 ghost use Rattle.std.specs.Io.KnownBytes.{Appends};
-ghost use Rattle.arrow_base.specs.Outside.{RoseOrFull};
+ghost use Rattle.arrow_base.specs.Outside.{RoseOrFull, counted};
 
 use crate::faults::{Failed, Faults};
 use crate::sink::Sink;
@@ -16,8 +17,9 @@ pub struct StdSink<W> {
 }
 
 impl<W: Write> StdSink<W> {
-    /// A sink over the writer.
+    /// A sink over the writer. Nothing is written: the writer's contents are as they were.
     pub fn new(writer: W) -> StdSink<W>
+        ensures contents { W.contents result.writer ≡ W.contents writer }
         ensures no_fault_yet { ⟦<StdSink<W> as Sink>⟧.faults result ≡ 0 }
     {
         StdSink {
@@ -36,10 +38,15 @@ impl<W: Write> Sink for StdSink<W> {
         requires { 0 < length bytes.now }
         ensures count { IfOk result (IsInRange 1 (length bytes.now)) }
         ensures never_falls { self.old.faults.count ≤ self.new.faults.count }
-        ensures cause { OnErr result (RoseOrFull (self.old.faults.count) (self.new.faults.count)) }
+        ensures cause { OnErr result (RoseOrFull self.old.faults.count self.new.faults.count) }
 
         // What an Ok says was taken is what the writer took.
-        ensures written { IfOk result (λ n. Appends (W.contents self.old.writer) (W.contents self.new.writer) (take n bytes.now)) }
+        ensures written { IfOk result
+            (λ n. Appends (W.contents self.old.writer) (W.contents self.new.writer)
+            (take n bytes.now)) }
+
+        // The count rises at an error alone.
+        ensures counted { self.new.faults.count ≡ counted (is_err result) self.old.faults.count }
     {
         match self.writer.write(bytes) {
             Ok(0) | Err(_) => Err(self.faults.fail()),

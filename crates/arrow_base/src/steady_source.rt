@@ -1,10 +1,11 @@
+//! Sources in memory, which never fail.
 ghost use Rattle.std.specs.Prelude.{◌≡◌, ◌<◌, ◌≤◌, Some, min, take, length, IfOk, IsOk};
 ghost use Rattle.std.specs.Io.KnownBytes.{Consumes, IsAtEnd};
 
 use crate::faults::Failed;
 use crate::pieces::Pieces;
 use crate::source::Source;
-use arrow_lists::Bytes;
+use arrow_core::Bytes;
 
 /// Bytes in memory as a source that gives them in pieces and never fails.
 #[derive(Drop)]
@@ -38,12 +39,16 @@ impl Source for SteadySource {
     fn read(&mut self, buffer: &mut [u8]) -> std::result::Result<usize, Failed>
         requires { 0 < length buffer.old }
         ensures count { IfOk result (λ n. n ≤ length buffer.old) }
-        ensures given { IfOk result (λ n. Consumes (Some (left_of self.old)) (Some (left_of self.new)) (take n buffer.new)) }
+        ensures given { IfOk result
+            (λ n. Consumes (Some (left_of self.old)) (Some (left_of self.new))
+            (take n buffer.new)) }
         ensures end { IfOk result (λ n. n ≡ 0 → IsAtEnd (Some (left_of self.new))) }
 
         // What a read gives is known to the last byte.
         ensures never_fails { IsOk result }
-        ensures as_much { IfOk result (λ n. n ≡ min (length buffer.old) (min (piece_of self.old) (length (left_of self.old)))) }
+        ensures as_much { IfOk result
+            (λ n. n ≡ min (length buffer.old)
+            (min (piece_of self.old) (length (left_of self.old)))) }
         ensures same_piece { piece_of self.new ≡ piece_of self.old }
     {
         Ok(self.pieces.give(buffer))

@@ -8,7 +8,7 @@ ghost use Rattle.arrow_base.specs.JsonString.{JsonString};
 ghost use Rattle.arrow_base.specs.WrittenString.{escape_bytes, escaped, json_string};
 
 use crate::sink::{Sink, write_all};
-use arrow_lists::{Error, Result};
+use arrow_core::{Error, Result};
 
 // How many bytes are looked at together.
 const BLOCK: usize = 16;
@@ -38,7 +38,8 @@ impl CharEscape {
     // The escape of a byte, where it has one.
     #[inline]
     fn of(byte: u8) -> Option<CharEscape>
-        ensures { MatchOption result (escaped byte ≡ byte ∷ []) (λ escape. escaped byte ≡ escape_bytes escape) }
+        ensures { MatchOption result (escaped byte ≡ byte ∷ [])
+            (λ escape. escaped byte ≡ escape_bytes escape) }
     {
         match byte {
             b'"' => Some(CharEscape::Quote),
@@ -68,7 +69,8 @@ fn hex_digit(value: u8) -> u8
 fn write_escape<K: Sink>(sink: &mut K, escape: CharEscape) -> Result<()>
     ensures ok { OnOk result (Appends (K.held sink.old) (K.held sink.new) (escape_bytes escape)) }
     ensures only { IfErr result (λ e. e ≡ Error.WriteFault) }
-    ensures prefix { OnErr result (AppendsPrefix (K.held sink.old) (K.held sink.new) (escape_bytes escape)) }
+    ensures prefix { OnErr result
+        (AppendsPrefix (K.held sink.old) (K.held sink.new) (escape_bytes escape)) }
     ensures never_falls { K.faults sink.old ≤ K.faults sink.new }
     ensures cause { OnErr result (RoseOrFull (K.faults sink.old) (K.faults sink.new)) }
     ensures same { K.whose sink.new ≡ K.whose sink.old }
@@ -101,7 +103,7 @@ fn has_escape(block: &[u8; BLOCK]) -> bool
     found
 }
 
-// How many bytes at the front are in whole blocks that need no escape.
+// How many bytes at the start are in whole blocks that need no escape.
 fn plain_blocks_len(text: &[u8]) -> usize
     ensures within { result ≤ length text.now }
     ensures plain { flat_map escaped (take result text.now) ≡ take result text.now }
@@ -120,8 +122,10 @@ fn plain_blocks_len(text: &[u8]) -> usize
 fn next_escape(text: &[u8]) -> Option<(usize, CharEscape)>
     ensures none { IfNone result (flat_map escaped text.now ≡ text.now) }
     ensures within { IfSome result (λ found. found.0 < length text.now) }
-    ensures plain { IfSome result (λ found. flat_map escaped (take found.0 text.now) ≡ take found.0 text.now) }
-    ensures escape { IfSome result (λ found. escaped (slice_index text.now found.0) ≡ escape_bytes found.1) }
+    ensures plain { IfSome result
+        (λ found. flat_map escaped (take found.0 text.now) ≡ take found.0 text.now) }
+    ensures escape { IfSome result
+        (λ found. escaped (slice_index text.now found.0) ≡ escape_bytes found.1) }
 {
     for i in plain_blocks_len(text)..text.len() {
         if let Some(escape) = CharEscape::of(text[i]) {
@@ -133,9 +137,11 @@ fn next_escape(text: &[u8]) -> Option<(usize, CharEscape)>
 
 // Writes what stands between the quotation marks, each run of bytes that need no escape at once.
 fn write_escaped<K: Sink>(sink: &mut K, text: &[u8]) -> Result<()>
-    ensures ok { OnOk result (Appends (K.held sink.old) (K.held sink.new) (flat_map escaped text.now)) }
+    ensures ok { OnOk result
+        (Appends (K.held sink.old) (K.held sink.new) (flat_map escaped text.now)) }
     ensures only { IfErr result (λ e. e ≡ Error.WriteFault) }
-    ensures prefix { OnErr result (AppendsPrefix (K.held sink.old) (K.held sink.new) (flat_map escaped text.now)) }
+    ensures prefix { OnErr result
+        (AppendsPrefix (K.held sink.old) (K.held sink.new) (flat_map escaped text.now)) }
     ensures never_falls { K.faults sink.old ≤ K.faults sink.new }
     ensures cause { OnErr result (RoseOrFull (K.faults sink.old) (K.faults sink.new)) }
     ensures same { K.whose sink.new ≡ K.whose sink.old }
@@ -158,7 +164,8 @@ pub fn write_str<K: Sink>(sink: &mut K, value: &str) -> Result<()>
     ensures reads_back { JsonString (json_string value.now) value.now }
     ensures one_meaning { (other : List ℕ) → JsonString (json_string value.now) other → other ≡ value.now }
     ensures only { IfErr result (λ e. e ≡ Error.WriteFault) }
-    ensures prefix { OnErr result (AppendsPrefix (K.held sink.old) (K.held sink.new) (json_string value.now)) }
+    ensures prefix { OnErr result
+        (AppendsPrefix (K.held sink.old) (K.held sink.new) (json_string value.now)) }
     ensures never_falls { K.faults sink.old ≤ K.faults sink.new }
     ensures cause { OnErr result (RoseOrFull (K.faults sink.old) (K.faults sink.new)) }
     ensures same { K.whose sink.new ≡ K.whose sink.old }

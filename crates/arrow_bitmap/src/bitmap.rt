@@ -1,14 +1,16 @@
-ghost use Rattle.std.specs.Prelude.{◌≡◌, ℕ, ◌+◌, ◌*◌, ◌<◌, ◌≤◌, ◌≢◌, [], not, length, take, drop, slice_index_or, false, vec_len, IsTrue, ◌↔◌, IfOk, IfErr};
-ghost use Rattle.std.specs.List.{filter};
-ghost use Rattle.arrow_bitmap.specs.Bits.{bit_of, truths_of};
-ghost use Rattle.arrow_lists.specs.declared.error.Error.TheVariants.{OutOfMemory};
+//! A list of booleans, 64 to a word.
+ghost use Rattle.std.specs.Prelude.{◌≡◌, ℕ, ◌+◌, ◌*◌, ◌^◌, ◌<◌, ◌≤◌, ◌≢◌, [], not, length, take, drop, slice_index_or, false, vec_len, IsTrue, ◌↔◌, ◌==◌, count_by, IfOk};
+ghost use Rattle.std.specs.Int.{bit_at};
+ghost use Rattle.std.specs.List.{filter, range_with_len};
+ghost use Rattle.arrow_core.specs.Errors.{OnlyOutOfMemory};
+ghost use Rattle.arrow_bitmap.specs.Bits.{bit_of, boolean_of, booleans_of};
 
-use arrow_lists::Result;
+use arrow_core::Result;
 use std::alloc::Global;
 use std::marker::Model;
 use std::rc::RcSlice;
 
-/// A list of truth values, 64 to a word, from the lowest bit on
+/// A list of booleans, 64 to a word, from the lowest bit on
 /// (Arrow columnar format, "Validity bitmaps").
 ///
 /// The words are shared: a slice of a bitmap begins at another bit of the same words.
@@ -42,41 +44,78 @@ fn set_bit(words: &mut [u64], i: usize)
     words[i / 64] = word | 1 << (i % 64);
 }
 
-impl Bitmap {
-    /// The bitmap of these truth values, from bit 0 of new words on.
-    ///
-    /// `OutOfMemory` where there is no room for the words.
-    pub fn try_from_slice(alloc: Global, values: &[bool]) -> Result<Bitmap>
-        ensures truths { IfOk result (λ b. b.truths ≡ values.now) }
-        ensures offset { IfOk result (λ b. b.offset ≡ 0) }
-        ensures err { IfErr result (λ e. e ≡ OutOfMemory) }
-    {
-        let mut words = Vec::new(alloc);
-        for i in 0..values.len() {
-            if i % 64 == 0 {
-                words.push(0)?;
-            }
-            if values[i] {
-                set_bit(&mut words, i);
-            }
+/// Packs the booleans into the words, of which there are none at first.
+fn pack(mut words: Vec<u64>, values: &[bool]) -> Result<Vec<u64>>
+    requires { words.items ≡ [] }
+    ensures packed { IfOk result
+        (λ packed. booleans_of packed.items 0 (length values.now) ≡ values.now) }
+    ensures covered { IfOk result (λ packed. length values.now ≤ 64 * vec_len packed) }
+    ensures memory { OnlyOutOfMemory result }
+{
+    for i in 0..values.len() {
+        if i % 64 == 0 {
+            words.push(0)?;
         }
-        let shared = RcSlice::from_vec(words)?;
-        Ok(Bitmap {
-            words: shared,
-            start: 0,
-            count: values.len(),
-        })
+        if values[i] {
+            set_bit(&mut words, i);
+        }
+    }
+    Ok(words)
+}
+
+/// How many of the `n` bits of the word from bit `from` on are set.
+fn set_in_word(word: u64, from: usize, n: usize) -> usize
+    requires some { 1 ≤ n }
+    requires within { from + n ≤ 64 }
+    ensures { result ≡ count_by (λ k. bit_at word k == 1) (range_with_len from n) }
+{
+    let bits = word >> from;
+    if n == 64 {
+        bits.count_ones() as usize
+    } else {
+        (bits & ((1 << n) - 1)).count_ones() as usize
+    }
+}
+
+/// How many of the `count` bits of the words from bit `start` on are set, word by word.
+fn set_bits(words: &[u64], start: usize, count: usize) -> usize
+    requires within { start + count ≤ 64 * length words.now }
+    requires fits { start + count < 2 ^ 64 }
+    ensures { result ≡ count_by (boolean_of words.now) (range_with_len start count) }
+{
+    let mut set = 0;
+    let mut done = 0;
+    while done < count {
+        let from = (start + done) % 64;
+        let n = (64 - from).min(count - done);
+        set += set_in_word(words[(start + done) / 64], from, n);
+        done += n;
+    }
+    set
+}
+
+impl Bitmap {
+    /// The bitmap of these booleans, from bit 0 of new words on.
+    ///
+    /// The words are reserved at once. `OutOfMemory` where there is no memory for them.
+    pub fn try_from_slice(alloc: Global, values: &[bool]) -> Result<Bitmap>
+        ensures booleans { IfOk result (λ b. b.booleans ≡ values.now) }
+        ensures offset { IfOk result (λ b. b.offset ≡ 0) }
+        ensures memory { OnlyOutOfMemory result }
+    {
+        let words = Vec::with_capacity(alloc, values.len().div_ceil(64))?;
+        Bitmap::try_from_words(pack(words, values)?, values.len())
     }
 
     /// The bitmap of the first `len` bits of these words, which it keeps.
     ///
-    /// `OutOfMemory` where there is no room for the count of owners.
+    /// `OutOfMemory` where there is no memory for the count of owners.
     pub fn try_from_words(words: Vec<u64>, len: usize) -> Result<Bitmap>
         requires { len ≤ 64 * vec_len words }
-        ensures truths { IfOk result (λ b. b.truths ≡ truths_of words.items 0 len) }
+        ensures booleans { IfOk result (λ b. b.booleans ≡ booleans_of words.items 0 len) }
         ensures words { IfOk result (λ b. b.words ≡ words.items) }
         ensures offset { IfOk result (λ b. b.offset ≡ 0) }
-        ensures err { IfErr result (λ e. e ≡ OutOfMemory) }
+        ensures memory { OnlyOutOfMemory result }
     {
         let words = RcSlice::from_vec(words)?;
         Ok(Bitmap {
@@ -86,34 +125,37 @@ impl Bitmap {
         })
     }
 
-    /// How many truth values there are.
+    /// How many booleans there are.
     pub fn len(&self) -> usize
-        ensures { result ≡ length self.now.truths }
+        ensures { result ≡ length self.now.booleans }
     {
         self.count
     }
 
     /// Whether there are none.
     pub fn is_empty(&self) -> bool
-        ensures { IsTrue result ↔ (self.now.truths ≡ []) }
+        ensures { IsTrue result ↔ (self.now.booleans ≡ []) }
     {
         self.count == 0
     }
 
     /// Value `i`.
     pub fn get(&self, i: usize) -> bool
-        requires { i < length self.now.truths }
-        ensures { result ≡ slice_index_or self.now.truths i false }
+        requires { i < length self.now.booleans }
+        ensures { result ≡ slice_index_or self.now.booleans i false }
     {
         let bit = self.start + i;
         let words = self.words.as_slice();
         (words[bit / 64] >> (bit % 64)) & 1 == 1
     }
 
-    /// The words from that of the first value on: value `i` is bit `offset + i` of them.
+    /// The words from that of the first value on, as many as the values reach at least: value `i` is
+    /// bit `offset + i` of them.
     pub fn words(&self) -> &[u64]
         ensures words { result.now ≡ self.now.words }
-        ensures truths { self.now.truths ≡ truths_of result.now self.now.offset (length self.now.truths) }
+        ensures booleans { self.now.booleans
+            ≡ booleans_of result.now self.now.offset (length self.now.booleans) }
+        ensures covered { self.now.offset + length self.now.booleans ≤ 64 * length result.now }
     {
         &self.words.as_slice()[self.start / 64..]
     }
@@ -128,24 +170,19 @@ impl Bitmap {
 
     /// How many of the values are false.
     pub fn unset_bits(&self) -> usize
-        ensures { result ≡ length (filter not self.now.truths) }
+        ensures { result ≡ length (filter not self.now.booleans) }
     {
-        let mut unset = 0;
-        for i in 0..self.count {
-            if !self.get(i) {
-                unset += 1;
-            }
-        }
-        unset
+        self.count - set_bits(self.words.as_slice(), self.start, self.count)
     }
 
-    /// The `count` values from place `offset` on. It shares the words.
+    /// The `count` values from index `offset` on. It shares the words.
     ///
     /// `OutOfMemory` where the words have too many owners.
     pub fn slice(&self, offset: usize, count: usize) -> Result<Bitmap>
-        requires { offset + count ≤ length self.now.truths }
-        ensures truths { IfOk result (λ b. b.truths ≡ take count (drop offset self.now.truths)) }
-        ensures err { IfErr result (λ e. e ≡ OutOfMemory) }
+        requires { offset + count ≤ length self.now.booleans }
+        ensures booleans { IfOk result
+            (λ b. b.booleans ≡ take count (drop offset self.now.booleans)) }
+        ensures memory { OnlyOutOfMemory result }
     {
         let words = self.words.clone()?;
         Ok(Bitmap {

@@ -1,9 +1,6 @@
-//! Truth values in packed words, as the Arrow columnar format keeps validity bitmaps.
+//! Booleans in packed words, as the Arrow columnar format keeps validity bitmaps.
 #![tactic(auto)]
 
 mod bitmap;
 
 pub use bitmap::Bitmap;
-
-#[cfg(test)]
-mod tests;

@@ -6,8 +6,8 @@ use Rattle.std.proofs.Math.Seq.{drop-cons}
 use Rattle.std.proofs.Math.ListN.{drop_of_length-le}
 use Rattle.std.proofs.Math.Nat.{mul-div_cancel}
 use Rattle.std.proofs.lemmas.List.{map-append, append-nil}
-use Rattle.arrow_lists.specs.declared.error.Error.{Error}
-use Rattle.arrow_lists.specs.declared.error.Error.TheVariants.{OutOfMemory}
+use Rattle.arrow_core.specs.declared.error.Error.{Error}
+use Rattle.arrow_core.specs.declared.error.Error.TheVariants.{OutOfMemory}
 use Rattle.arrow_types.specs.declared.slot.Slot.{Slot}
 use Rattle.arrow_types.specs.declared.types.DataType.{DataType}
 use Rattle.arrow_bitmap.specs.Bits.{Packed}
@@ -16,12 +16,12 @@ use Rattle.arrow_array.specs.Lists.{ListFits, list_at}
 use Rattle.arrow_array.specs.Parts.{IsRefusalOf}
 use Rattle.arrow_array.specs.Slots.{slots_of}
 use Rattle.arrow_builders.specs.Children.{AllFit}
-use Rattle.arrow_builders.specs.Builders.{slots_where}
+use Rattle.arrow_flat.specs.Builders.{slots_where}
 use Rattle.arrow_builders.specs.Fits.{ChildrenFit, ListsFit, FixedListsFit}
-use Rattle.arrow_builders.specs.Nested.{items_of, lists_from, offsets_of, fixed_list_slot}
+use Rattle.arrow_flat.specs.Nested.{items_of, lists_from, offsets_of, fixed_list_slot}
 use Rattle.arrow_builders.specs.declared.array.MutableArray.{MutableArray}
 use Rattle.arrow_builders.proofs.ListFits.{list_parts, parts_reach}
-use Rattle.arrow_builders.proofs.ListOffsets.{length-offsets}
+use Rattle.arrow_flat.proofs.ListOffsets.{length-offsets}
 use Rattle.arrow_builders.proofs.NestedSlots.{lists-array, fixed_lists-array}
 use Rattle.arrow_builders.proofs.OtherFits.{fixed_parts, fixed_fit}
 
@@ -48,7 +48,7 @@ pub shown_slots : {A : Type 0} (slots : A → List Slot) (P : Type 0) (r : Resul
 shown_slots slots P (Ok a) xs ys h p f = h ∙ f p
 shown_slots slots P (Err e) xs ys h p f = tt
 
--- want of memory is a refusal of anything
+-- out of memory is a refusal of anything
 pub memory_refuses : {A : Type 0} (P : Type 0) (r : Result A Error) → IfErr r (λ e. e ≡ OutOfMemory) → IfErr r (IsRefusalOf P)
 memory_refuses P (Ok a) h = tt
 memory_refuses P (Err e) h = inl h
@@ -56,7 +56,7 @@ memory_refuses P (Err e) h = inl h
 -- ---- lists
 
 module _ (is_large : Bool) (t u item other : DataType) (ls : List (Option ℕ)) (os : List ℤ) (xs ys : List Slot) (v : Packed) (n : ℕ)
-    (te : u ≡ t) (ie : other ≡ item) (oe : os ≡ offsets_of ls) (ye : ys ≡ xs) (ve : v.truths ≡ map is_some ls) (ne : n ≡ length os) where
+    (te : u ≡ t) (ie : other ≡ item) (oe : os ≡ offsets_of ls) (ye : ys ≡ xs) (ve : v.booleans ≡ map is_some ls) (ne : n ≡ length os) where
   pub to_parts : (P : Type 0) → ListsFit is_large t item (items_of ls) (length xs) P → ListFits is_large u other os ys (Some v)
   to_parts P h = rw (te, ie, oe, ye) (list_parts is_large t item ls xs v P h ve)
 
@@ -75,9 +75,9 @@ module _ (is_large : Bool) (t u item other : DataType) (ls : List (Option ℕ)) 
       let m : n - 1 ≡ length ls = omega (arith, ne, ap length oe, length-offsets ls) in
       rw (oe, ye) (lists-array ls xs v (n - 1) (parts_reach is_large t item ls xs v (plain_parts h)) ve m)
 
--- ---- lists of one length
+-- ---- fixed-size lists
 
-module _ (t u item other : DataType) (ts : List Bool) (xs ys : List Slot) (v : Packed) (te : u ≡ t) (ie : other ≡ item) (ye : ys ≡ xs) (ve : v.truths ≡ ts) where
+module _ (t u item other : DataType) (ts : List Bool) (xs ys : List Slot) (v : Packed) (te : u ≡ t) (ie : other ≡ item) (ye : ys ≡ xs) (ve : v.booleans ≡ ts) where
   pub to_fixed_parts : (P : Type 0) → FixedListsFit t item (length ts) (length xs) P → FixedListFits u other (length ys) (Some v)
   to_fixed_parts P h = rw (te, ie, ye) (fixed_parts t item (length ts) (length xs) v P h (ap length ve))
 

@@ -1,13 +1,13 @@
 -- Finding a node by its number.
-use Rattle.std.proofs.Common.{◌≡◌, ◌∙◌, ℕ, ◌+◌, ◌-◌, ◌<◌, suc, zero, Bool, true, false, cond, nat_eq, List, [], ◌∷◌, ◌++◌, length, get_or, drop, Result, Ok, Err, refl, sym, ap, arith, add-one}
+use Rattle.std.proofs.Common.{◌≡◌, ◌∙◌, ℕ, ◌+◌, ◌-◌, ◌<◌, suc, zero, Bool, true, false, cond, nat_eq, List, [], ◌∷◌, ◌++◌, map, length, get_or, drop, Result, Ok, Err, refl, sym, ap, arith, add-one}
 use Rattle.std.specs.Prelude.{Option, Some, None, option_map, slice_get}
 use Rattle.std.proofs.Math.Dec.{eqb-suc-zero}
 use Rattle.std.proofs.Math.Seq.{drop-cons}
 use Rattle.arrow_builders.specs.Children.{all_nodes}
 use Rattle.arrow_builders.specs.Found.{found_at}
 use Rattle.arrow_builders.specs.MutableArrays.{nodes, lengths_of}
-use Rattle.arrow_builders.specs.Nodes.{Node}
-use Rattle.arrow_builders.specs.declared.lengths.NodeLengths.{NodeLengths}
+use Rattle.arrow_flat.specs.Nodes.{Node}
+use Rattle.arrow_flat.specs.declared.lengths.NodeLengths.{NodeLengths}
 use Rattle.arrow_builders.specs.declared.array.MutableArray.{MutableArray}
 
 abbrev pub or_at : List Node → Result NodeLengths ℕ → Result NodeLengths ℕ
@@ -28,7 +28,7 @@ find-step bs b i n lt e =
     let d : drop i bs ≡ b ∷ drop (i + 1) bs = rw add-one (drop-cons bs i b lt ∙ ap (λ (x : MutableArray). x ∷ drop (suc i) bs) (sym e)) in
     ap (λ (cs : List MutableArray). found_at (all_nodes cs) n) d ∙ found_at-append (nodes b) (all_nodes (drop (i + 1) bs)) n
 
--- past the first node the place is counted from the node behind it
+-- past the first node the place is counted from the node after it
 pub find-behind : (x : Node) (xs : List Node) (here : NodeLengths) (n left : ℕ) (r : Result NodeLengths ℕ) → cond (nat_eq n 0) (Ok here) (Err (n - 1)) ≡ Err left → r ≡ found_at xs left → r ≡ found_at (x ∷ xs) n
 find-behind x xs here n left r e h = h ∙ split (nat_eq n 0) e
   where
@@ -47,3 +47,9 @@ found_is (x ∷ xs) (suc n) =
     let e : suc n - 1 ≡ n = omega arith in
     let d : nat_eq (suc n) 0 ≡ false = eqb-suc-zero n in
     rw (d, e) (found_is xs n)
+
+-- where there is one node, the number is 0 or lies past it
+pub one_found : (xs : List Node) (here : NodeLengths) (n : ℕ) (r : Result NodeLengths ℕ) → map lengths_of xs ≡ here ∷ [] → r ≡ cond (nat_eq n 0) (Ok here) (Err (n - 1)) → r ≡ found_at xs n
+one_found [] here n r e h = absurd cc
+one_found (x ∷ y ∷ xs) here n r e h = absurd cc
+one_found (x ∷ []) here n r e h = let k : lengths_of x ≡ here = cc in h ∙ ap (λ (l : NodeLengths). cond (nat_eq n 0) (Ok l) (Err (n - 1))) (sym k)

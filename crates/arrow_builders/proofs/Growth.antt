@@ -4,7 +4,7 @@ use Rattle.std.specs.List.{AllZip}
 use Rattle.std.proofs.Math.Nat.{add-mul}
 use Rattle.std.proofs.lemmas.List.{length-append}
 use Rattle.arrow_array.specs.FixedLists.{list_size}
-use Rattle.arrow_builders.specs.Nodes.{Node, Takes, Roomier}
+use Rattle.arrow_flat.specs.Nodes.{Node, Takes, NoLessSpare}
 use Rattle.arrow_builders.specs.Shapes.{Shape, flat, dictionary, lists, fixed_lists, records, no_field, field, Added, null_bytes, nulls_in, AllAdded, AllTake, FitsIn}
 
 -- ---- sums of what is added
@@ -77,7 +77,7 @@ module _ {X : Type 0} (Adds : Added → X → X → Type 0) where
     AllAdded-then (a ∷ ps) (b ∷ bs) (x ∷ xs) (y ∷ ys) (z ∷ zs) h k = (both a b x y z h.0 k.0, AllAdded-then ps bs xs ys zs h.1 k.1)
 
 pub Takes-same : (a b : ℕ) (x : Node) → Takes a b x x
-Takes-same a b x = record { slots_added = omega arith; slots_kept = omega arith; bytes_added = omega arith; bytes_kept = omega arith; slot_room = omega arith; byte_room = omega arith }
+Takes-same a b x = record { slots_added = omega arith; slots_kept = omega arith; bytes_added = omega arith; bytes_kept = omega arith; slot_capacity = omega arith; byte_capacity = omega arith }
 
 Takes-then : (a b c d : ℕ) (x y z : Node) → Takes a b x y → Takes c d y z → Takes (a + c) (b + d) x z
 Takes-then a b c d x y z h k = record {
@@ -85,8 +85,8 @@ Takes-then a b c d x y z h k = record {
   slots_kept = omega (arith, h.slots_kept, k.slots_kept);
   bytes_added = omega (arith, h.bytes_added, k.bytes_added);
   bytes_kept = omega (arith, h.bytes_kept, k.bytes_kept);
-  slot_room = omega (arith, h.slot_room, k.slot_room);
-  byte_room = omega (arith, h.byte_room, k.byte_room);
+  slot_capacity = omega (arith, h.slot_capacity, k.slot_capacity);
+  byte_capacity = omega (arith, h.byte_capacity, k.byte_capacity);
 }
 
 Takes-more : (a b c d : ℕ) (x y : Node) → Takes a b x y → Takes (a + c) (b + d) x y
@@ -117,7 +117,7 @@ AllTake-append ps bs xs ys us vs h k = AllAdded-append (λ a x y. Takes a.slots 
 
 -- where there is room for all, there is room for the next after the first were taken
 FitsIn-after : (a b c d e f : ℕ) (x y : Node) → FitsIn (record { slots = a + c + e; bytes = b + d + f }) x → Takes a b x y → FitsIn (record { slots = c; bytes = d }) y
-FitsIn-after a b c d e f x y r h = record { slots = omega (arith, r.slots, h.slots_added, h.slot_room); bytes = omega (arith, r.bytes, h.bytes_added, h.byte_room) }
+FitsIn-after a b c d e f x y r h = record { slots = omega (arith, r.slots, h.slots_added, h.slot_capacity); bytes = omega (arith, r.bytes, h.bytes_added, h.byte_capacity) }
 
 pub AllFitsIn-after : (ps bs cs : List Added) (xs ys : List Node) → length ps ≡ length bs → AllTake ps xs ys → AllZip FitsIn (sums (sums ps bs) cs) xs → AllZip FitsIn bs ys
 AllFitsIn-after [] [] cs [] [] l h r = tt
@@ -132,11 +132,11 @@ AllFitsIn-after (a ∷ ps) [] cs (x ∷ xs) (y ∷ ys) l h r = absurd (omega (ar
 AllFitsIn-after (a ∷ ps) (b ∷ bs) [] (x ∷ xs) (y ∷ ys) l h r = absurd r
 AllFitsIn-after (a ∷ ps) (b ∷ bs) (c ∷ cs) (x ∷ xs) (y ∷ ys) l h r = (FitsIn-after a.slots a.bytes b.slots b.bytes c.slots c.bytes x y r.0 h.0, AllFitsIn-after ps bs cs xs ys (omega (arith, l)) h.1 r.1)
 
-pub AllFitsIn-front : (ps bs : List Added) (xs ys : List Node) → length ps ≡ length xs → AllZip FitsIn (ps ++ bs) (xs ++ ys) → AllZip FitsIn ps xs
-AllFitsIn-front [] bs [] ys l r = tt
-AllFitsIn-front [] bs (x ∷ xs) ys l r = absurd (omega (arith, l))
-AllFitsIn-front (a ∷ ps) bs [] ys l r = absurd (omega (arith, l))
-AllFitsIn-front (a ∷ ps) bs (x ∷ xs) ys l r = (r.0, AllFitsIn-front ps bs xs ys (omega (arith, l)) r.1)
+pub AllFitsIn-prefix : (ps bs : List Added) (xs ys : List Node) → length ps ≡ length xs → AllZip FitsIn (ps ++ bs) (xs ++ ys) → AllZip FitsIn ps xs
+AllFitsIn-prefix [] bs [] ys l r = tt
+AllFitsIn-prefix [] bs (x ∷ xs) ys l r = absurd (omega (arith, l))
+AllFitsIn-prefix (a ∷ ps) bs [] ys l r = absurd (omega (arith, l))
+AllFitsIn-prefix (a ∷ ps) bs (x ∷ xs) ys l r = (r.0, AllFitsIn-prefix ps bs xs ys (omega (arith, l)) r.1)
 
 pub AllFitsIn-back : (ps bs : List Added) (xs ys : List Node) → length ps ≡ length xs → AllZip FitsIn (ps ++ bs) (xs ++ ys) → AllZip FitsIn bs ys
 AllFitsIn-back [] bs [] ys l r = r
@@ -156,13 +156,13 @@ AllZip-append E [] (y ∷ ys) us vs h k = absurd h
 AllZip-append E (x ∷ xs) [] us vs h k = absurd h
 AllZip-append E (x ∷ xs) (y ∷ ys) us vs h k = (h.0, AllZip-append E xs ys us vs h.1 k)
 
-pub Roomier-same : (x : Node) → Roomier x x
-Roomier-same x = record { slots = refl; slot_room = omega arith; bytes = refl; byte_room = omega arith }
+pub NoLessSpare-same : (x : Node) → NoLessSpare x x
+NoLessSpare-same x = record { slots = refl; slot_capacity = omega arith; bytes = refl; byte_capacity = omega arith }
 
-pub Roomier-then : (xs ys zs : List Node) → AllZip Roomier xs ys → AllZip Roomier ys zs → AllZip Roomier xs zs
-Roomier-then [] [] [] h k = tt
-Roomier-then [] [] (z ∷ zs) h k = absurd k
-Roomier-then [] (y ∷ ys) zs h k = absurd h
-Roomier-then (x ∷ xs) [] zs h k = absurd h
-Roomier-then (x ∷ xs) (y ∷ ys) [] h k = absurd k
-Roomier-then (x ∷ xs) (y ∷ ys) (z ∷ zs) h k = (record { slots = k.0.slots ∙ h.0.slots; slot_room = omega (arith, h.0.slot_room, k.0.slot_room); bytes = k.0.bytes ∙ h.0.bytes; byte_room = omega (arith, h.0.byte_room, k.0.byte_room) }, Roomier-then xs ys zs h.1 k.1)
+pub NoLessSpare-then : (xs ys zs : List Node) → AllZip NoLessSpare xs ys → AllZip NoLessSpare ys zs → AllZip NoLessSpare xs zs
+NoLessSpare-then [] [] [] h k = tt
+NoLessSpare-then [] [] (z ∷ zs) h k = absurd k
+NoLessSpare-then [] (y ∷ ys) zs h k = absurd h
+NoLessSpare-then (x ∷ xs) [] zs h k = absurd h
+NoLessSpare-then (x ∷ xs) (y ∷ ys) [] h k = absurd k
+NoLessSpare-then (x ∷ xs) (y ∷ ys) (z ∷ zs) h k = (record { slots = k.0.slots ∙ h.0.slots; slot_capacity = omega (arith, h.0.slot_capacity, k.0.slot_capacity); bytes = k.0.bytes ∙ h.0.bytes; byte_capacity = omega (arith, h.0.byte_capacity, k.0.byte_capacity) }, NoLessSpare-then xs ys zs h.1 k.1)

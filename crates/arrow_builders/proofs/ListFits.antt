@@ -8,8 +8,8 @@ use Rattle.arrow_bitmap.specs.Bits.{Packed}
 use Rattle.arrow_array.specs.Lists.{ListFits}
 use Rattle.arrow_array.specs.Offsets.{offset_at, IsWithin, IsNotAbove, IsOffsets}
 use Rattle.arrow_builders.specs.Fits.{ListsFit}
-use Rattle.arrow_builders.specs.Nested.{list_len, items_of, ends_from, offsets_of}
-use Rattle.arrow_builders.proofs.ListOffsets.{length-offsets, last_offset}
+use Rattle.arrow_flat.specs.Nested.{list_len, items_of, ends_from, offsets_of}
+use Rattle.arrow_flat.proofs.ListOffsets.{length-offsets, last_offset}
 
 ends_within : (s : ℕ) (ls : List (Option ℕ)) (n : ℕ) → s + items_of ls ≤ n → (k : ℕ) → k < length (pos s ∷ ends_from s ls) → IsWithin (offset_at (pos s ∷ ends_from s ls) k) n
 ends_within s ls n h zero l = omega (arith, h)
@@ -33,7 +33,7 @@ pub offsets_reach : (ls : List (Option ℕ)) (n : ℕ) → IsOffsets (offsets_of
 offsets_reach ls n h = subst (λ (z : ℤ). IsWithin z n) (last_offset ls (pos 0)) (h.within (length ls) (omega (arith, length-offsets ls)))
 
 -- the parts of an array of lists
-pub list_parts : (is_large : Bool) (t item : DataType) (ls : List (Option ℕ)) (xs : List Slot) (v : Packed) (P : Type 0) → ListsFit is_large t item (items_of ls) (length xs) P → v.truths ≡ map is_some ls → ListFits is_large t item (offsets_of ls) xs (Some v)
+pub list_parts : (is_large : Bool) (t item : DataType) (ls : List (Option ℕ)) (xs : List Slot) (v : Packed) (P : Type 0) → ListsFit is_large t item (items_of ls) (length xs) P → v.booleans ≡ map is_some ls → ListFits is_large t item (offsets_of ls) xs (Some v)
 list_parts is_large t item ls xs v P h d = record {
   kind = h.kind;
   offsets_fit = are_offsets ls (length xs) h.within;

@@ -3,12 +3,12 @@ use Rattle.std.proofs.Common.{◌≡◌, ap, ◌∙◌, sym, subst, ℕ, zero, s
 use Rattle.std.specs.List.{AllZip}
 use Rattle.arrow_builders.specs.Children.{all_nodes, fields_of}
 use Rattle.arrow_builders.specs.MutableArrays.{nodes}
-use Rattle.arrow_builders.specs.Nested.{marks_node}
-use Rattle.arrow_builders.specs.Nodes.{Node, Takes}
+use Rattle.arrow_flat.specs.Nested.{marks_node}
+use Rattle.arrow_flat.specs.Nodes.{Node, Takes}
 use Rattle.arrow_builders.specs.Shapes.{Added, AllTake, FitsIn, nulls_in, nulls_at, shape}
 use Rattle.arrow_builders.specs.declared.structs.DynMutableStructArray.{DynMutableStructArray}
 use Rattle.arrow_builders.specs.declared.array.MutableArray.{MutableArray, Struct}
-use Rattle.arrow_builders.proofs.Growth.{sums, length-nulls, nulls-sum, AllTake-then, AllTake-more, AllFitsIn-after, AllFitsIn-front, AllFitsIn-back}
+use Rattle.arrow_builders.proofs.Growth.{sums, length-nulls, nulls-sum, AllTake-then, AllTake-more, AllFitsIn-after, AllFitsIn-prefix, AllFitsIn-back}
 use Rattle.arrow_builders.proofs.Rows.{nodes-record, shape-record}
 use Rattle.arrow_builders.proofs.Sizes.{nulls-fit}
 
@@ -40,7 +40,7 @@ module _ (b c : MutableArray) (i : ℕ) (s : shape c ≡ shape b) (h : AllTake (
 -- each child has room, where all have
 pub child_fits : (n i : ℕ) (bs : List MutableArray) (x : MutableArray) → i < length bs → AllZip FitsIn (nulls_in n (fields_of (map shape bs))) (all_nodes bs) → AllZip FitsIn (nulls_in n (shape (get_or bs i x))) (nodes (get_or bs i x))
 child_fits n i [] x l r = absurd (omega (arith, l))
-child_fits n zero (b ∷ bs) x l r = AllFitsIn-front (nulls_in n (shape b)) (nulls_in n (fields_of (map shape bs))) (nodes b) (all_nodes bs) (nulls-fit n b) r
+child_fits n zero (b ∷ bs) x l r = AllFitsIn-prefix (nulls_in n (shape b)) (nulls_in n (fields_of (map shape bs))) (nodes b) (all_nodes bs) (nulls-fit n b) r
 child_fits n (suc i) (b ∷ bs) x l r = child_fits n i bs x (omega (arith, l)) (AllFitsIn-back (nulls_in n (shape b)) (nulls_in n (fields_of (map shape bs))) (nodes b) (all_nodes bs) (nulls-fit n b) r)
 
 -- ---- a null of a builder of records

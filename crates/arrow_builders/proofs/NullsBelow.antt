@@ -1,4 +1,4 @@
--- The nulls that come behind the slots at each node of a builder.
+-- The nulls that come after the slots at each node of a builder.
 use Rattle.std.proofs.Common.{◌≡◌, ap, ◌∙◌, sym, subst, ℕ, ◌+◌, ◌*◌, List, [], ◌∷◌, ◌++◌, map, arith, Result, OnOk}
 use Rattle.std.proofs.lemmas.List.{append-nil}
 use Rattle.arrow_types.specs.declared.slot.Slot.{Slot}
@@ -6,7 +6,7 @@ use Rattle.arrow_types.specs.declared.slot.Slot.TheVariants as slot
 use Rattle.arrow_array.specs.FixedLists.{list_size}
 use Rattle.arrow_builders.specs.Children.{all_slots, fields_of}
 use Rattle.arrow_builders.specs.MutableArrays.{builder_slots, slots_at, slots_at_below}
-use Rattle.arrow_builders.specs.Nested.{null_slots}
+use Rattle.arrow_flat.specs.Nested.{null_slots}
 use Rattle.arrow_builders.specs.Shapes.{Added, AllGetNulls, nulls_in, nulls_at, shape, shapes_below}
 use Rattle.arrow_builders.specs.declared.structs.DynMutableStructArray.{DynMutableStructArray}
 use Rattle.arrow_builders.specs.declared.array.MutableArray.{MutableArray, Struct, List', LargeList', FixedSizeList', Struct', Row_of-MutableArray, end_of-MutableArray, more_of-MutableArray}

@@ -1,4 +1,4 @@
--- When lists of one length, and records, make arrays.
+-- When fixed-size lists, and records, make arrays.
 use Rattle.std.proofs.Common.{◌≡◌, ap, ◌∙◌, sym, ℕ, ◌+◌, ◌*◌, ◌/◌, ◌%◌, ◌<◌, List, [], ◌∷◌, map, length, Some, refl, arith, subst, All}
 use Rattle.std.proofs.Math.Nat.{mul-mod_left, mul-div_cancel, div-add-mod, mul_comm}
 use Rattle.std.proofs.lemmas.List.{length-map}
@@ -13,9 +13,9 @@ use Rattle.arrow_array.specs.FixedLists.{FixedListFits, list_size}
 use Rattle.arrow_array.specs.Structs.{AreChildren, StructFits, first_len}
 use Rattle.arrow_builders.specs.Fits.{FixedListsFit, RecordsFit}
 
--- ---- lists of one length
+-- ---- fixed-size lists
 
-pub fixed_parts : (t item : DataType) (count n : ℕ) (v : Packed) (P : Type 0) → FixedListsFit t item count n P → length v.truths ≡ count → FixedListFits t item n (Some v)
+pub fixed_parts : (t item : DataType) (count n : ℕ) (v : Packed) (P : Type 0) → FixedListsFit t item count n P → length v.booleans ≡ count → FixedListFits t item n (Some v)
 fixed_parts t item count n v P h l = record {
   filled = h.filled;
   kind = h.kind;
@@ -23,7 +23,7 @@ fixed_parts t item count n v P h l = record {
   validity_fits = l ∙ sym (ap (λ m. m / list_size t) h.whole ∙ mul-div_cancel count h.filled);
 }
 
-pub fixed_fit : (t item : DataType) (count n : ℕ) (v : Packed) (P : Type 0) → P → FixedListFits t item n (Some v) → length v.truths ≡ count → FixedListsFit t item count n P
+pub fixed_fit : (t item : DataType) (count n : ℕ) (v : Packed) (P : Type 0) → P → FixedListFits t item n (Some v) → length v.booleans ≡ count → FixedListsFit t item count n P
 fixed_fit t item count n v P p h l =
     let size : ℕ = list_size t in
     let d : n / size ≡ count = sym h.validity_fits ∙ l in
@@ -61,7 +61,7 @@ first_is n [] p l = absurd (omega (arith, p))
 first_is n (a ∷ children) p l = All-head (λ (slots : List Slot). length slots ≡ n) (array_slots a) (map array_slots children) l
 
 -- parts of arrays of these types and slots
-module _ (t u : DataType) (ts : List DataType) (ss : List (List Slot)) (count : ℕ) (v : Packed) (te : u ≡ t) (l : length v.truths ≡ count) (children : List Array) (e : map array_type children ≡ ts) (d : map array_slots children ≡ ss) where
+module _ (t u : DataType) (ts : List DataType) (ss : List (List Slot)) (count : ℕ) (v : Packed) (te : u ≡ t) (l : length v.booleans ≡ count) (children : List Array) (e : map array_type children ≡ ts) (d : map array_slots children ≡ ss) where
   pub record_parts : (P : Type 0) → RecordsFit t ts count ss P → StructFits u children (Some v)
   record_parts P h =
       let p : 0 < length children = omega (arith, h.filled, ap length e, length-map children array_type) in

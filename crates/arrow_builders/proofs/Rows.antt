@@ -6,13 +6,14 @@ use mathlib.Core.Former.{Count}
 use Rattle.arrow_types.specs.declared.slot.Slot.{Slot}
 use Rattle.arrow_types.specs.declared.types.DataType.{DataType}
 use Rattle.arrow_array.specs.Structs.{record_at}
-use Rattle.arrow_builders.specs.Builders.{slots_where}
+use Rattle.arrow_flat.specs.Builders.{slots_where}
 use Rattle.arrow_builders.specs.Children.{all_nodes, all_slots, fields_of, AllFit}
 use Rattle.arrow_builders.specs.Fits.{ChildrenFit, FitBelow, RecordsFit}
 use Rattle.arrow_builders.specs.MutableArrays.{builder_type, builder_slots, slots_below, nodes, nodes_below, slots_at, slots_at_below, types_below}
-use Rattle.arrow_builders.specs.Nested.{marks_node}
-use Rattle.arrow_builders.specs.Nodes.{Node}
+use Rattle.arrow_flat.specs.Nested.{marks_node}
+use Rattle.arrow_flat.specs.Nodes.{Node}
 use Rattle.arrow_builders.specs.Shapes.{records, field, shape, shapes_below}
+use Rattle.arrow_builders.specs.Tight.{IsTight, TightBelow, AllTight}
 use Rattle.arrow_builders.specs.declared.structs.DynMutableStructArray.{DynMutableStructArray}
 use Rattle.arrow_builders.specs.declared.array.MutableArray.{MutableArray, Struct, Struct', Row_of-MutableArray, end_of-MutableArray, more_of-MutableArray, items-the_row-MutableArray, items_hidden-the_row-MutableArray-0}
 
@@ -44,10 +45,14 @@ fit-row : (n : _) (row : Row_of-MutableArray n) → FitBelow row ≡ AllFit (ite
 fit-row n end_of-MutableArray = refl
 fit-row n (more_of-MutableArray b rest) = ap (λ (P : Type 0). ChildrenFit b × P) (fit-row _ rest)
 
-pub slots-record : (b : DynMutableStructArray) → builder_slots (Struct b) ≡ slots_where b.marks.truths (record_at (map builder_slots b.values.items))
+tight-row : (m : _) (n : ℕ) (row : Row_of-MutableArray m) → TightBelow n row ≡ AllTight n (items-the_row-MutableArray m row)
+tight-row m n end_of-MutableArray = refl
+tight-row m n (more_of-MutableArray b rest) = ap (λ (P : Type 0). (length (builder_slots b) ≡ n) × IsTight b × P) (tight-row _ n rest)
+
+pub slots-record : (b : DynMutableStructArray) → builder_slots (Struct b) ≡ slots_where b.marks.booleans (record_at (map builder_slots b.values.items))
 slots-record b =
     let row = row_of (Struct b) in
-    ap (λ xs. slots_where b.marks.truths (record_at xs)) (slots-row row.0 row.1 ∙ ap (map builder_slots) (items_hidden-the_row-MutableArray-0 b.values))
+    ap (λ xs. slots_where b.marks.booleans (record_at xs)) (slots-row row.0 row.1 ∙ ap (map builder_slots) (items_hidden-the_row-MutableArray-0 b.values))
 
 pub nodes-record : (b : DynMutableStructArray) → nodes (Struct b) ≡ marks_node b.marks ∷ all_nodes b.values.items
 nodes-record b =
@@ -64,24 +69,29 @@ shape-record b =
     let row = row_of (Struct b) in
     ap (records b.marks.data_type) (shapes-row row.0 row.1 ∙ ap (λ xs. fields_of (map shape xs)) (items_hidden-the_row-MutableArray-0 b.values))
 
-pub fit-record : (b : DynMutableStructArray) → ChildrenFit (Struct b) ≡ RecordsFit b.marks.data_type (map builder_type b.values.items) (length b.marks.truths) (map builder_slots b.values.items) (AllFit b.values.items)
+pub fit-record : (b : DynMutableStructArray) → ChildrenFit (Struct b) ≡ RecordsFit b.marks.data_type (map builder_type b.values.items) (length b.marks.booleans) (map builder_slots b.values.items) (AllFit b.values.items)
 fit-record b =
     let row = row_of (Struct b) in
     let same = items_hidden-the_row-MutableArray-0 b.values in
-    let n : ℕ = length b.marks.truths in
+    let n : ℕ = length b.marks.booleans in
     ap (λ ts. RecordsFit b.marks.data_type ts n (slots_below row.1) (FitBelow row.1)) (types-row row.0 row.1 ∙ ap (map builder_type) same)
     ∙ ap (λ ss. RecordsFit b.marks.data_type (map builder_type b.values.items) n ss (FitBelow row.1)) (slots-row row.0 row.1 ∙ ap (map builder_slots) same)
     ∙ ap (λ (P : Type 0). RecordsFit b.marks.data_type (map builder_type b.values.items) n (map builder_slots b.values.items) P) (fit-row row.0 row.1 ∙ ap AllFit same)
+
+pub tight-record : (b : DynMutableStructArray) → IsTight (Struct b) ≡ AllTight (length b.marks.booleans) b.values.items
+tight-record b =
+    let row = row_of (Struct b) in
+    tight-row row.0 (length b.marks.booleans) row.1 ∙ ap (AllTight (length b.marks.booleans)) (items_hidden-the_row-MutableArray-0 b.values)
 
 -- ---- from one builder of records to another
 
 pub shape_same : (b d : DynMutableStructArray) → d.marks.data_type ≡ b.marks.data_type → map shape d.values.items ≡ map shape b.values.items → shape (Struct d) ≡ shape (Struct b)
 shape_same b d t s = shape-record d ∙ rw (t, s) refl ∙ sym (shape-record b)
 
-pub slots_are : (b : DynMutableStructArray) (xs : List Slot) → slots_where b.marks.truths (record_at (map builder_slots b.values.items)) ≡ xs → builder_slots (Struct b) ≡ xs
+pub slots_are : (b : DynMutableStructArray) (xs : List Slot) → slots_where b.marks.booleans (record_at (map builder_slots b.values.items)) ≡ xs → builder_slots (Struct b) ≡ xs
 slots_are b xs e = slots-record b ∙ e
 
-pub slots_same : (b d : DynMutableStructArray) → d.marks.truths ≡ b.marks.truths → map builder_slots d.values.items ≡ map builder_slots b.values.items → builder_slots (Struct d) ≡ builder_slots (Struct b)
+pub slots_same : (b d : DynMutableStructArray) → d.marks.booleans ≡ b.marks.booleans → map builder_slots d.values.items ≡ map builder_slots b.values.items → builder_slots (Struct d) ≡ builder_slots (Struct b)
 slots_same b d t s = slots-record d ∙ rw (t, s) refl ∙ sym (slots-record b)
 
 pub slots_at_same : (b d : DynMutableStructArray) → builder_slots (Struct d) ≡ builder_slots (Struct b) → all_slots d.values.items ≡ all_slots b.values.items → slots_at (Struct d) ≡ slots_at (Struct b)

@@ -5,10 +5,11 @@ use Rattle.std.proofs.lemmas.List.Elements.{All-nil, All-append}
 use Rattle.arrow_builders.specs.Children.{all_nodes, all_slots, fields_of, AllFit}
 use Rattle.arrow_builders.specs.Fits.{ChildrenFit}
 use Rattle.arrow_builders.specs.MutableArrays.{nodes, slots_at}
-use Rattle.arrow_builders.specs.Nodes.{Node}
-use Rattle.arrow_builders.specs.Shapes.{nulls_in, AllTake, AllGetNulls, shape}
+use Rattle.arrow_flat.specs.Nodes.{Node}
+use Rattle.arrow_builders.specs.Shapes.{nulls_in, AllTake, AllGetNulls, AllGetBytes, shape}
 use Rattle.arrow_builders.specs.declared.array.MutableArray.{MutableArray}
 use Rattle.arrow_builders.proofs.Growth.{AllZip-same, AllZip-append, AllTake-append, AllTake-same}
+use Rattle.arrow_builders.proofs.NullBytes.{AllGetBytes-append}
 use Rattle.arrow_builders.proofs.NullsBelow.{AllGetNulls-append}
 use Rattle.arrow_builders.proofs.Sizes.{nulls-fit}
 
@@ -106,6 +107,13 @@ module _ (R : MutableArray → MutableArray → Type 0) where
   Upto-nulls_all n k i (c ∷ cs) [] le h = absurd h
   Upto-nulls_all n k zero (c ∷ cs) (d ∷ ds) le h = absurd (omega arith)
   Upto-nulls_all n k (suc i) (c ∷ cs) (d ∷ ds) le h = AllGetNulls-append (nulls_in n (shape c)) (nulls_in n (fields_of (map shape cs))) (slots_at c) (slots_at d) (all_slots cs) (all_slots ds) (k c d h.0) (Upto-nulls_all n k i cs ds (omega arith) h.1)
+
+  pub Upto-bytes_all : (n : ℕ) → ((c d : MutableArray) → R c d → AllGetBytes (nulls_in n (shape c)) (nodes c) (nodes d)) → (i : ℕ) (cs ds : List MutableArray) → length ds ≤ i → Upto i cs ds → AllGetBytes (nulls_in n (fields_of (map shape cs))) (all_nodes cs) (all_nodes ds)
+  Upto-bytes_all n k i [] [] le h = tt
+  Upto-bytes_all n k i [] (d ∷ ds) le h = absurd h
+  Upto-bytes_all n k i (c ∷ cs) [] le h = absurd h
+  Upto-bytes_all n k zero (c ∷ cs) (d ∷ ds) le h = absurd (omega arith)
+  Upto-bytes_all n k (suc i) (c ∷ cs) (d ∷ ds) le h = AllGetBytes-append (nulls_in n (shape c)) (nulls_in n (fields_of (map shape cs))) (nodes c) (nodes d) (all_nodes cs) (all_nodes ds) (k c d h.0) (Upto-bytes_all n k i cs ds (omega arith) h.1)
 
 -- what less holds of the first
 pub Upto-weaken : (R S : MutableArray → MutableArray → Type 0) → ((c d : MutableArray) → R c d → S c d) → (i : ℕ) (cs ds : List MutableArray) → Upto R i cs ds → Upto S i cs ds

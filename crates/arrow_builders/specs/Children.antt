@@ -3,7 +3,7 @@ use Rattle.std.specs.Prelude.{ℕ, List, [], ◌∷◌, ◌++◌, map}
 use Rattle.arrow_types.specs.declared.slot.Slot.{Slot}
 use Rattle.arrow_builders.specs.Fits.{ChildrenFit}
 use Rattle.arrow_builders.specs.MutableArrays.{nodes, slots_at}
-use Rattle.arrow_builders.specs.Nodes.{Node}
+use Rattle.arrow_flat.specs.Nodes.{Node}
 use Rattle.arrow_builders.specs.Shapes.{Added, Shape, no_field, field, shape, nulls_in}
 use Rattle.arrow_builders.specs.declared.array.MutableArray.{MutableArray}
 

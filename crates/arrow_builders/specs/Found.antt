@@ -1,8 +1,8 @@
 -- What the node of a number holds.
 use Rattle.std.specs.Prelude.{ℕ, ◌-◌, ◌==◌, if◌then◌else◌, Result, Ok, Err, List, [], ◌∷◌}
-use Rattle.arrow_builders.specs.Nodes.{Node}
+use Rattle.arrow_flat.specs.Nodes.{Node}
 use Rattle.arrow_builders.specs.MutableArrays.{lengths_of}
-use Rattle.arrow_builders.specs.declared.lengths.NodeLengths.{NodeLengths}
+use Rattle.arrow_flat.specs.declared.lengths.NodeLengths.{NodeLengths}
 
 -- what the node at a place holds, or how far the place lies past the last node
 abbrev pub found_at : List Node → ℕ → Result NodeLengths ℕ

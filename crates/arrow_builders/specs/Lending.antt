@@ -27,7 +27,7 @@ with_fixed_size_list_values b child = record b { values = record b.values { valu
 abbrev pub with_field : DynMutableStructArray → ℕ → MutableArray → DynMutableStructArray
 with_field b field child = record b { values = with_item b.values field child }
 
--- the builder b ends with the child that stands behind r last
+-- the builder b ends with the child that stands after r last
 abbrev pub LendsListValues : MutBor DynMutableListArray → MutBor MutableArray → Fml
 LendsListValues b r = Lends list.the_row array.the_row b r (with_list_values b.now)
 

@@ -8,11 +8,11 @@ use Rattle.arrow_types.specs.declared.physical.PhysicalType.TheVariants as physi
 use Rattle.arrow_types.specs.declared.physical.PrimitiveType.TheVariants as primitive
 use Rattle.arrow_array.specs.FixedLists.{list_size}
 use Rattle.arrow_array.specs.Structs.{record_at}
-use Rattle.arrow_builders.specs.Nodes.{Node}
-use Rattle.arrow_builders.specs.Builders.{plain_node, content_node, slots_where}
-use Rattle.arrow_builders.specs.Dictionaries.{dictionary_node}
-use Rattle.arrow_builders.specs.Nested.{marks_node, lists_node, lists_from, fixed_list_slot}
-use Rattle.arrow_builders.specs.declared.lengths.NodeLengths.{NodeLengths}
+use Rattle.arrow_flat.specs.Nodes.{Node}
+use Rattle.arrow_flat.specs.Builders.{plain_node, content_node, slots_where}
+use Rattle.arrow_flat.specs.Dictionaries.{dictionary_node}
+use Rattle.arrow_flat.specs.Nested.{marks_node, lists_node, lists_from, fixed_list_slot}
+use Rattle.arrow_flat.specs.declared.lengths.NodeLengths.{NodeLengths}
 use Rattle.arrow_builders.specs.declared.array.MutableArray.{MutableArray, List', LargeList', FixedSizeList', Struct', Row_of-MutableArray, end_of-MutableArray, more_of-MutableArray}
 use Rattle.arrow_builders.specs.declared.array.MutableArray.{Null, Boolean, Int8, Int16, Int32, Int64, UInt8, UInt16, UInt32, UInt64, Int128, MonthDayNano, Utf8, LargeUtf8, Binary, LargeBinary, FixedSizeBinary, Dictionary}
 
@@ -87,8 +87,8 @@ abbrev mutual
   builder_slots (FixedSizeBinary b) = b.slots
   builder_slots (List' lists p child) = lists_from 0 lists.lens (builder_slots child)
   builder_slots (LargeList' lists p child) = lists_from 0 lists.lens (builder_slots child)
-  builder_slots (FixedSizeList' marks p child) = slots_where marks.truths (fixed_list_slot (list_size marks.data_type) (builder_slots child))
-  builder_slots (Struct' marks size row) = slots_where marks.truths (record_at (slots_below row))
+  builder_slots (FixedSizeList' marks p child) = slots_where marks.booleans (fixed_list_slot (list_size marks.data_type) (builder_slots child))
+  builder_slots (Struct' marks size row) = slots_where marks.booleans (record_at (slots_below row))
   builder_slots (Dictionary b) = b.slots
 
   -- the slots of each child

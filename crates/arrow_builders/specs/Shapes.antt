@@ -1,18 +1,20 @@
 -- What a builder of any kind keeps at every call, and what nulls add to its nodes.
-use Rattle.std.specs.Prelude.{◌≡◌, ℕ, ◌*◌, ◌≤◌, List, [], ◌∷◌, ◌++◌}
+use Rattle.std.specs.Prelude.{◌≡◌, ℕ, ◌+◌, ◌*◌, ◌≤◌, List, [], ◌∷◌, ◌++◌}
 use Rattle.arrow_types.specs.declared.slot.Slot.{Slot}
 use Rattle.arrow_types.specs.declared.types.DataType.{DataType}
+use Rattle.arrow_types.specs.declared.types.DataType.TheVariants as types
+use Rattle.arrow_types.specs.declared.types.IntegerType.TheVariants as integer
 use Rattle.arrow_types.specs.declared.physical.PhysicalType.{PhysicalType}
 use Rattle.arrow_types.specs.declared.physical.PhysicalType.TheVariants as physical
 use Rattle.arrow_array.specs.FixedLists.{list_size}
 use Rattle.arrow_array.specs.Parts.{byte_width}
-use Rattle.arrow_builders.specs.Nested.{null_slots}
-use Rattle.arrow_builders.specs.Nodes.{Node, Takes}
+use Rattle.arrow_flat.specs.Nested.{null_slots}
+use Rattle.arrow_flat.specs.Nodes.{Node, Takes}
 use Rattle.arrow_builders.specs.MutableArrays.{builder_type, builder_kind}
 use Rattle.arrow_builders.specs.declared.array.MutableArray.{MutableArray}
 use Rattle.arrow_builders.specs.declared.array.MutableArray.{Dictionary, List', LargeList', FixedSizeList', Struct', Row_of-MutableArray, end_of-MutableArray, more_of-MutableArray}
 
--- a builder without its slots and its room: its kind and its data type, a dictionary's values, and the shapes of its children
+-- a builder without its slots and its capacity: its kind and its data type, a dictionary's values, and the shapes of its children
 pub data Shape : Type 0 where
   flat : PhysicalType → DataType → Shape
   dictionary : DataType → List Slot → Shape
@@ -35,6 +37,23 @@ abbrev mutual
   shapes_below end_of-MutableArray = no_field
   shapes_below (more_of-MutableArray b rest) = field (shape b) (shapes_below rest)
 
+-- the kind of the builders of a shape
+abbrev pub shape_kind : Shape → PhysicalType
+shape_kind (flat kind data_type) = kind
+shape_kind (dictionary data_type items) = physical.Dictionary integer.Int32
+shape_kind (lists kind data_type item) = kind
+shape_kind (fixed_lists data_type item) = physical.FixedSizeList
+shape_kind _ = physical.Struct
+
+-- the data type of the builders of a shape
+abbrev pub shape_type : Shape → DataType
+shape_type (flat kind data_type) = data_type
+shape_type (dictionary data_type items) = data_type
+shape_type (lists kind data_type item) = data_type
+shape_type (fixed_lists data_type item) = data_type
+shape_type (records data_type fields) = data_type
+shape_type _ = types.Null
+
 -- a builder without children
 abbrev pub IsFlat : MutableArray → Type 0
 IsFlat (List' marks p child) = ⊥
@@ -48,12 +67,12 @@ pub record Added : Type 0 where
   pub slots : ℕ
   pub bytes : ℕ
 
--- the content bytes of a null: of byte strings of one length as many as a value's, and else none
+-- the content bytes of a null: of fixed-size binary values as many as a value's, and else none
 abbrev pub null_bytes : PhysicalType → DataType → ℕ
 null_bytes physical.FixedSizeBinary data_type = byte_width data_type
 null_bytes _ data_type = 0
 
--- what n nulls add at each node, in preorder: nothing beneath lists, n nulls beneath records, and beneath lists of one length as many as n lists have items
+-- what n nulls add at each node, in preorder: nothing beneath lists, n nulls beneath records, and beneath fixed-size lists as many as n lists have items
 abbrev pub nulls_in : ℕ → Shape → List Added
 nulls_in n (flat kind data_type) = record { slots = n; bytes = n * null_bytes kind data_type } ∷ []
 nulls_in n (dictionary data_type items) = record { slots = n; bytes = 0 } ∷ []
@@ -72,19 +91,23 @@ AllAdded Adds [] [] [] = Unit {0}
 AllAdded Adds (a ∷ more) (x ∷ xs) (y ∷ ys) = Adds a x y × AllAdded Adds more xs ys
 AllAdded Adds _ _ _ = ⊥
 
--- at each node, at most what is told is added, and no room is lost besides
+-- at each node, at most what is told is added, and no capacity is lost besides
 abbrev pub AllTake : List Added → List Node → List Node → Type 0
 AllTake adds xs ys = AllAdded (λ a x y. Takes a.slots a.bytes x y) adds xs ys
 
--- at each node, as many nulls as are told come behind its slots
+-- at each node, as many nulls as are told come after its slots
 abbrev pub AllGetNulls : List Added → List (List Slot) → List (List Slot) → Type 0
 AllGetNulls adds xs ys = AllAdded (λ a x y. y ≡ x ++ null_slots a.slots) adds xs ys
 
--- a node has room for what is added
+-- at each node, as many content bytes as are told come to those that it had
+abbrev pub AllGetBytes : List Added → List Node → List Node → Type 0
+AllGetBytes adds xs ys = AllAdded (λ a x y. y.bytes ≡ x.bytes + a.bytes) adds xs ys
+
+-- a node has spare capacity for what is added
 pub record FitsIn (a : Added) (x : Node) : Type 0 where
   pub slots : a.slots ≤ x.spare
   pub bytes : a.bytes ≤ x.byte_spare
 
--- a node has room for the content bytes that are added
+-- a node has spare capacity for the content bytes that are added
 abbrev pub BytesFitIn : Added → Node → Type 0
 BytesFitIn a x = a.bytes ≤ x.byte_spare

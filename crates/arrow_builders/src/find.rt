@@ -2,10 +2,10 @@
 
 ghost use Rattle.std.specs.Prelude.{◌≡◌, ◌-◌, ◌==◌, if◌then◌else◌, Ok, Err};
 
-use crate::lengths::NodeLengths;
+use arrow_flat::NodeLengths;
 
 /// What the first node holds where the number is 0, and else the number counted from the node
-/// behind it.
+/// after it.
 pub(crate) fn here_or(here: NodeLengths, node: usize) -> std::result::Result<NodeLengths, usize>
     ensures { result ≡ (if node == 0 then Ok here else Err (node - 1)) }
 {

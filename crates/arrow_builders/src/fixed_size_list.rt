@@ -1,31 +1,31 @@
-//! A builder of lists of one length.
+//! A builder of fixed-size lists.
 
-ghost use Rattle.std.specs.Prelude.{◌≡◌, ◌+◌, ◌*◌, ◌≤◌, ◌++◌, ◌∷◌, [], length, drop, IsOk, IfOk, IfErr, OnOk, OnErr};
+ghost use Rattle.std.specs.Prelude.{◌≡◌, ◌+◌, ◌*◌, ◌≤◌, ◌++◌, ◌∷◌, [], true, length, drop, IsOk, IfOk, IfErr, OnOk, OnErr};
 ghost use Rattle.std.specs.Borrow.{sem};
 ghost use Rattle.std.specs.List.{All, AllZip};
-ghost use Rattle.arrow_lists.specs.declared.error.Error.TheVariants.{OutOfMemory};
-ghost use Rattle.arrow_types.specs.declared.slot.Slot.TheVariants.{Null as NullSlot, Listed};
+ghost use Rattle.arrow_core.specs.declared.error.Error.TheVariants.{OutOfMemory};
+ghost use Rattle.arrow_types.specs.declared.slot.Slot.TheVariants.{List as ListSlot};
 ghost use Rattle.arrow_array.specs.FixedLists.{list_size};
 ghost use Rattle.arrow_array.specs.Parts.{IsRefusalOf};
 ghost use Rattle.arrow_builders.specs.Fits.{ChildrenFit};
 ghost use Rattle.arrow_builders.specs.Found.{found_at};
 ghost use Rattle.arrow_builders.specs.Lending.{LendsFixedSizeListValues};
 ghost use Rattle.arrow_builders.specs.MutableArrays.{builder_type, builder_slots, nodes, slots_at};
-ghost use Rattle.arrow_builders.specs.Nested.{marks_node, null_slots};
-ghost use Rattle.arrow_builders.specs.Nodes.{Takes, Roomier, Emptied, HasRoom, IsEmpty};
-ghost use Rattle.arrow_builders.specs.Shapes.{shape, nulls_at, AllTake, AllGetNulls, FitsIn};
+ghost use Rattle.arrow_flat.specs.Nested.{marks_node};
+ghost use Rattle.arrow_flat.specs.Nodes.{Takes, NoLessSpare, Emptied, HasSpare, IsEmpty};
+ghost use Rattle.arrow_builders.specs.Shapes.{shape, nulls_at, AllTake, AllGetNulls, AllGetBytes, FitsIn};
+ghost use Rattle.arrow_builders.specs.Tight.{IsTight};
 ghost use Rattle.arrow_builders.specs.declared.array.MutableArray.{FixedSizeList};
 
 use crate::array::MutableArray;
 use crate::find::here_or;
-use crate::lengths::NodeLengths;
-use crate::marks::MutableMarks;
 use arrow_array::FixedSizeListArray;
-use arrow_lists::Result;
+use arrow_core::Result;
+use arrow_flat::{MutableMarks, NodeLengths};
 use arrow_types::DataType;
 use std::alloc::Global;
 
-/// A builder of lists of one length: the items of each are as many slots of its child, one list
+/// A builder of fixed-size lists: the items of each are as many slots of its child, one list
 /// after another (Arrow columnar format, "Fixed-Size List Layout").
 ///
 /// A null takes as many of the child's slots as a list.
@@ -36,7 +36,7 @@ pub struct MutableFixedSizeListArray {
     values: Box<MutableArray>,
 }
 
-/// How many items each list of this type has; 0 where it is no type of lists of one length.
+/// How many items each list of this type has; 0 where it is no type of fixed-size lists.
 fn list_size_of(data_type: &DataType) -> usize
     ensures { result ≡ list_size data_type.now }
 {
@@ -60,9 +60,12 @@ impl MutableFixedSizeListArray {
     ) -> Result<MutableFixedSizeListArray>
         requires { list_size data_type ≡ _size }
         ensures data_type { IfOk result (λ b. b.marks.data_type ≡ data_type) }
-        ensures truths { IfOk result (λ b. b.marks.truths ≡ []) }
+        ensures booleans { IfOk result (λ b. b.marks.booleans ≡ []) }
         ensures slots { IfOk result (λ b. builder_slots (FixedSizeList b) ≡ []) }
         ensures values { IfOk result (λ b. b.values.value ≡ values) }
+        ensures tight { IsTight values
+            → builder_slots values ≡ []
+            → IfOk result (λ b. IsTight (FixedSizeList b)) }
         ensures memory { IfErr result (λ e. e ≡ OutOfMemory) }
     {
         let values = Box::new(alloc, values)?;
@@ -84,15 +87,16 @@ impl MutableFixedSizeListArray {
     /// as each list has. `OutOfMemory` changes nothing.
     pub fn try_push_valid(&mut self) -> Result<()>
         requires { length (builder_slots self.old.values.value)
-            ≡ (length self.old.marks.truths + 1) * list_size self.old.marks.data_type }
+            ≡ (length self.old.marks.booleans + 1) * list_size self.old.marks.data_type }
         ensures data_type { self.new.marks.data_type ≡ self.old.marks.data_type }
         ensures values { self.new.values ≡ self.old.values }
+        ensures booleans { OnOk result (self.new.marks.booleans ≡ self.old.marks.booleans ++ true ∷ []) }
         ensures ok { OnOk result (builder_slots (FixedSizeList self.new) ≡ builder_slots (FixedSizeList self.old)
-            ++ Listed (drop (length self.old.marks.truths * list_size self.old.marks.data_type) (builder_slots self.old.values.value)) ∷ []) }
+            ++ ListSlot (drop (length self.old.marks.booleans * list_size self.old.marks.data_type) (builder_slots self.old.values.value)) ∷ []) }
         ensures err { OnErr result (self.new ≡ self.old) }
         ensures memory { IfErr result (λ e. e ≡ OutOfMemory) }
         ensures takes { Takes 1 0 (marks_node self.old.marks) (marks_node self.new.marks) }
-        ensures roomy { 1 ≤ self.old.marks.spare → IsOk result }
+        ensures has_capacity { 1 ≤ self.old.marks.spare → IsOk result }
     {
         self.marks.push(true)?;
         Ok(())
@@ -130,12 +134,11 @@ impl MutableFixedSizeListArray {
     #[cycle(nulls)]
     pub(crate) fn push_null(&mut self) -> Result<()>
         ensures shape { shape (FixedSizeList self.new) ≡ shape (FixedSizeList self.old) }
-        ensures ok { OnOk result (builder_slots (FixedSizeList self.new)
-            ≡ builder_slots (FixedSizeList self.old) ++ NullSlot ∷ []) }
         ensures below { OnOk result (AllGetNulls (nulls_at 1 (FixedSizeList self.old)) (slots_at (FixedSizeList self.old)) (slots_at (FixedSizeList self.new))) }
+        ensures bytes { OnOk result (AllGetBytes (nulls_at 1 (FixedSizeList self.old)) (nodes (FixedSizeList self.old)) (nodes (FixedSizeList self.new))) }
         ensures memory { IfErr result (λ e. e ≡ OutOfMemory) }
         ensures takes { AllTake (nulls_at 1 (FixedSizeList self.old)) (nodes (FixedSizeList self.old)) (nodes (FixedSizeList self.new)) }
-        ensures roomy { AllZip FitsIn (nulls_at 1 (FixedSizeList self.old)) (nodes (FixedSizeList self.old)) → IsOk result }
+        ensures has_capacity { AllZip FitsIn (nulls_at 1 (FixedSizeList self.old)) (nodes (FixedSizeList self.old)) → IsOk result }
     {
         let size = list_size_of(self.marks.data_type());
         push_nulls(&mut self.values, size)?;
@@ -143,30 +146,28 @@ impl MutableFixedSizeListArray {
         Ok(())
     }
 
-    /// Makes room for so many more lists, and so much more in the child.
+    /// Makes spare capacity for so many more lists, and as much in the child.
     #[cycle(reserves)]
     pub(crate) fn reserve_for(&mut self, bytes: usize) -> Result<()>
         ensures shape { shape (FixedSizeList self.new) ≡ shape (FixedSizeList self.old) }
-        ensures slots { builder_slots (FixedSizeList self.new) ≡ builder_slots (FixedSizeList self.old) }
         ensures slots_at { slots_at (FixedSizeList self.new) ≡ slots_at (FixedSizeList self.old) }
-        ensures room { AllZip Roomier (nodes (FixedSizeList self.old)) (nodes (FixedSizeList self.new)) }
-        ensures ok { OnOk result (All (HasRoom bytes) (nodes (FixedSizeList self.new))) }
+        ensures capacity { AllZip NoLessSpare (nodes (FixedSizeList self.old)) (nodes (FixedSizeList self.new)) }
+        ensures ok { OnOk result (All (HasSpare bytes) (nodes (FixedSizeList self.new))) }
         ensures memory { IfErr result (λ e. e ≡ OutOfMemory) }
     {
         self.marks.reserve_for(bytes)?;
-        self.values.reserve_for(bytes)?;
+        self.values.reserve_nodes(bytes)?;
         Ok(())
     }
 
-    /// Drops every slot, those of the child too, and keeps the room.
+    /// Drops every slot, those of the child too, and keeps the capacity.
     #[cycle(clears)]
     pub(crate) fn clear(&mut self)
         ensures shape { shape (FixedSizeList self.new) ≡ shape (FixedSizeList self.old) }
-        ensures slots { builder_slots (FixedSizeList self.new) ≡ [] }
-        ensures room { AllZip Emptied (nodes (FixedSizeList self.old)) (nodes (FixedSizeList self.new)) }
+        ensures capacity { AllZip Emptied (nodes (FixedSizeList self.old)) (nodes (FixedSizeList self.new)) }
     {
         self.marks.clear();
-        self.values.clear();
+        self.values.clear_nodes();
     }
 
     /// The array of the slots. The builder and its child are then empty.
@@ -175,13 +176,12 @@ impl MutableFixedSizeListArray {
         ensures shape { shape (FixedSizeList self.new) ≡ shape (FixedSizeList self.old) }
         ensures array_type { IfOk result (λ a. a.data_type ≡ builder_type (FixedSizeList self.old)) }
         ensures array_slots { IfOk result (λ a. a.slots ≡ builder_slots (FixedSizeList self.old)) }
-        ensures slots { OnOk result (builder_slots (FixedSizeList self.new) ≡ []) }
         ensures emptied { OnOk result (All IsEmpty (nodes (FixedSizeList self.new))) }
         ensures fits { OnOk result (ChildrenFit (FixedSizeList self.old)) }
         ensures err { IfErr result (IsRefusalOf (ChildrenFit (FixedSizeList self.old))) }
     {
         let alloc = self.marks.alloc();
-        let values = self.values.as_box()?;
+        let values = self.values.box_nodes()?;
         let (data_type, validity) = self.marks.take()?;
         FixedSizeListArray::try_new(alloc, data_type, values, Some(validity))
     }
@@ -191,14 +191,14 @@ impl MutableFixedSizeListArray {
 #[cycle(nulls)]
 fn push_nulls(builder: &mut MutableArray, count: usize) -> Result<()>
     ensures shape { shape builder.new ≡ shape builder.old }
-    ensures ok { OnOk result (builder_slots builder.new ≡ builder_slots builder.old ++ null_slots count) }
     ensures below { OnOk result (AllGetNulls (nulls_at count builder.old) (slots_at builder.old) (slots_at builder.new)) }
+    ensures bytes { OnOk result (AllGetBytes (nulls_at count builder.old) (nodes builder.old) (nodes builder.new)) }
     ensures memory { IfErr result (λ e. e ≡ OutOfMemory) }
     ensures takes { AllTake (nulls_at count builder.old) (nodes builder.old) (nodes builder.new) }
-    ensures roomy { AllZip FitsIn (nulls_at count builder.old) (nodes builder.old) → IsOk result }
+    ensures has_capacity { AllZip FitsIn (nulls_at count builder.old) (nodes builder.old) → IsOk result }
 {
     for _ in 0..count {
-        builder.push_null()?;
+        builder.append_null()?;
     }
     Ok(())
 }

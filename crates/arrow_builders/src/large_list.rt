@@ -3,25 +3,25 @@
 ghost use Rattle.std.specs.Prelude.{◌≡◌, ◌<◌, ◌≤◌, ◌++◌, ◌∷◌, [], ◌⊎◌, ◌↔◌, true, length, drop, Err, IsOk, IfOk, IfErr, OnOk, OnErr};
 ghost use Rattle.std.specs.Borrow.{sem};
 ghost use Rattle.std.specs.List.{All, AllZip};
-ghost use Rattle.arrow_lists.specs.declared.error.Error.TheVariants.{OutOfMemory, Overflow};
-ghost use Rattle.arrow_types.specs.Numbers.{last_place};
-ghost use Rattle.arrow_types.specs.declared.slot.Slot.TheVariants.{Null as NullSlot, Listed};
+ghost use Rattle.arrow_core.specs.declared.error.Error.TheVariants.{OutOfMemory, Overflow};
+ghost use Rattle.arrow_types.specs.Numbers.{greatest_offset};
+ghost use Rattle.arrow_types.specs.declared.slot.Slot.TheVariants.{List as ListSlot};
 ghost use Rattle.arrow_array.specs.Parts.{IsRefusalOf};
 ghost use Rattle.arrow_builders.specs.Fits.{ChildrenFit};
 ghost use Rattle.arrow_builders.specs.Found.{found_at};
 ghost use Rattle.arrow_builders.specs.Lending.{LendsLargeListValues};
 ghost use Rattle.arrow_builders.specs.MutableArrays.{builder_type, builder_slots, nodes, slots_at};
-ghost use Rattle.arrow_builders.specs.Nested.{items_of, lists_node};
-ghost use Rattle.arrow_builders.specs.Nodes.{Takes, Roomier, Emptied, HasRoom, IsEmpty};
-ghost use Rattle.arrow_builders.specs.Shapes.{shape, nulls_at, AllTake, AllGetNulls, FitsIn};
+ghost use Rattle.arrow_flat.specs.Nested.{items_of, lists_node};
+ghost use Rattle.arrow_flat.specs.Nodes.{Takes, NoLessSpare, Emptied, HasSpare, IsEmpty};
+ghost use Rattle.arrow_builders.specs.Shapes.{shape, nulls_at, AllTake, AllGetNulls, AllGetBytes, FitsIn};
+ghost use Rattle.arrow_builders.specs.Tight.{IsTight};
 ghost use Rattle.arrow_builders.specs.declared.array.MutableArray.{LargeList};
 
 use crate::array::MutableArray;
 use crate::find::here_or;
-use crate::lengths::NodeLengths;
-use crate::lists::MutableLists;
 use arrow_array::LargeListArray;
-use arrow_lists::Result;
+use arrow_core::Result;
+use arrow_flat::{MutableLists, NodeLengths};
 use arrow_types::DataType;
 use std::alloc::Global;
 
@@ -50,6 +50,9 @@ impl DynMutableLargeListArray {
         ensures lens { IfOk result (λ b. b.lists.lens ≡ []) }
         ensures slots { IfOk result (λ b. builder_slots (LargeList b) ≡ []) }
         ensures values { IfOk result (λ b. b.values.value ≡ values) }
+        ensures tight { IsTight values
+            → builder_slots values ≡ []
+            → IfOk result (λ b. IsTight (LargeList b)) }
         ensures memory { IfErr result (λ e. e ≡ OutOfMemory) }
     {
         let values = Box::new(alloc, values)?;
@@ -73,17 +76,17 @@ impl DynMutableLargeListArray {
         ensures data_type { self.new.lists.data_type ≡ self.old.lists.data_type }
         ensures values { self.new.values ≡ self.old.values }
         ensures ok { OnOk result (builder_slots (LargeList self.new) ≡ builder_slots (LargeList self.old)
-            ++ Listed (drop (items_of self.old.lists.lens) (builder_slots self.old.values.value)) ∷ []) }
+            ++ ListSlot (drop (items_of self.old.lists.lens) (builder_slots self.old.values.value)) ∷ []) }
         ensures end { OnOk result (items_of self.new.lists.lens ≡ length (builder_slots self.old.values.value)) }
         ensures err { OnErr result (self.new ≡ self.old) }
         ensures errors { IfErr result (λ e. (e ≡ Overflow) ⊎ (e ≡ OutOfMemory)) }
         ensures overflow { (result ≡ Err Overflow)
             ↔ ((length (builder_slots self.old.values.value) < items_of self.old.lists.lens)
-            ⊎ (last_place true < length (builder_slots self.old.values.value))) }
+            ⊎ (greatest_offset true < length (builder_slots self.old.values.value))) }
         ensures takes { Takes 1 0 (lists_node self.old.lists) (lists_node self.new.lists) }
-        ensures roomy { 1 ≤ self.old.lists.spare
+        ensures has_capacity { 1 ≤ self.old.lists.spare
             → items_of self.old.lists.lens ≤ length (builder_slots self.old.values.value)
-            → length (builder_slots self.old.values.value) ≤ last_place true
+            → length (builder_slots self.old.values.value) ≤ greatest_offset true
             → IsOk result }
     {
         let end = self.values.len();
@@ -120,41 +123,38 @@ impl DynMutableLargeListArray {
     /// Appends a null, which has no items.
     pub(crate) fn push_null(&mut self) -> Result<()>
         ensures shape { shape (LargeList self.new) ≡ shape (LargeList self.old) }
-        ensures ok { OnOk result (builder_slots (LargeList self.new)
-            ≡ builder_slots (LargeList self.old) ++ NullSlot ∷ []) }
         ensures below { OnOk result (AllGetNulls (nulls_at 1 (LargeList self.old)) (slots_at (LargeList self.old)) (slots_at (LargeList self.new))) }
+        ensures bytes { OnOk result (AllGetBytes (nulls_at 1 (LargeList self.old)) (nodes (LargeList self.old)) (nodes (LargeList self.new))) }
         ensures memory { IfErr result (λ e. e ≡ OutOfMemory) }
         ensures takes { AllTake (nulls_at 1 (LargeList self.old)) (nodes (LargeList self.old)) (nodes (LargeList self.new)) }
-        ensures roomy { AllZip FitsIn (nulls_at 1 (LargeList self.old)) (nodes (LargeList self.old)) → IsOk result }
+        ensures has_capacity { AllZip FitsIn (nulls_at 1 (LargeList self.old)) (nodes (LargeList self.old)) → IsOk result }
     {
         self.lists.push_null()?;
         Ok(())
     }
 
-    /// Makes room for so many more lists, and so much more in the child.
+    /// Makes spare capacity for so many more lists, and as much in the child.
     #[cycle(reserves)]
     pub(crate) fn reserve_for(&mut self, bytes: usize) -> Result<()>
         ensures shape { shape (LargeList self.new) ≡ shape (LargeList self.old) }
-        ensures slots { builder_slots (LargeList self.new) ≡ builder_slots (LargeList self.old) }
         ensures slots_at { slots_at (LargeList self.new) ≡ slots_at (LargeList self.old) }
-        ensures room { AllZip Roomier (nodes (LargeList self.old)) (nodes (LargeList self.new)) }
-        ensures ok { OnOk result (All (HasRoom bytes) (nodes (LargeList self.new))) }
+        ensures capacity { AllZip NoLessSpare (nodes (LargeList self.old)) (nodes (LargeList self.new)) }
+        ensures ok { OnOk result (All (HasSpare bytes) (nodes (LargeList self.new))) }
         ensures memory { IfErr result (λ e. e ≡ OutOfMemory) }
     {
         self.lists.reserve_for(bytes)?;
-        self.values.reserve_for(bytes)?;
+        self.values.reserve_nodes(bytes)?;
         Ok(())
     }
 
-    /// Drops every slot, those of the child too, and keeps the room.
+    /// Drops every slot, those of the child too, and keeps the capacity.
     #[cycle(clears)]
     pub(crate) fn clear(&mut self)
         ensures shape { shape (LargeList self.new) ≡ shape (LargeList self.old) }
-        ensures slots { builder_slots (LargeList self.new) ≡ [] }
-        ensures room { AllZip Emptied (nodes (LargeList self.old)) (nodes (LargeList self.new)) }
+        ensures capacity { AllZip Emptied (nodes (LargeList self.old)) (nodes (LargeList self.new)) }
     {
         self.lists.clear();
-        self.values.clear();
+        self.values.clear_nodes();
     }
 
     /// The array of the slots. The builder and its child are then empty.
@@ -163,13 +163,12 @@ impl DynMutableLargeListArray {
         ensures shape { shape (LargeList self.new) ≡ shape (LargeList self.old) }
         ensures array_type { IfOk result (λ a. a.data_type ≡ builder_type (LargeList self.old)) }
         ensures array_slots { IfOk result (λ a. a.slots ≡ builder_slots (LargeList self.old)) }
-        ensures slots { OnOk result (builder_slots (LargeList self.new) ≡ []) }
         ensures emptied { OnOk result (All IsEmpty (nodes (LargeList self.new))) }
         ensures fits { OnOk result (ChildrenFit (LargeList self.old)) }
         ensures err { IfErr result (IsRefusalOf (ChildrenFit (LargeList self.old))) }
     {
         let alloc = self.lists.alloc();
-        let values = self.values.as_box()?;
+        let values = self.values.box_nodes()?;
         let (data_type, offsets, validity) = self.lists.take()?;
         LargeListArray::try_new(alloc, data_type, offsets, values, Some(validity))
     }

@@ -3,25 +3,25 @@
 ghost use Rattle.std.specs.Prelude.{◌≡◌, ◌<◌, ◌≤◌, ◌++◌, ◌∷◌, [], ◌⊎◌, ◌↔◌, false, length, drop, Err, IsOk, IfOk, IfErr, OnOk, OnErr};
 ghost use Rattle.std.specs.Borrow.{sem};
 ghost use Rattle.std.specs.List.{All, AllZip};
-ghost use Rattle.arrow_lists.specs.declared.error.Error.TheVariants.{OutOfMemory, Overflow};
-ghost use Rattle.arrow_types.specs.Numbers.{last_place};
-ghost use Rattle.arrow_types.specs.declared.slot.Slot.TheVariants.{Null as NullSlot, Listed};
+ghost use Rattle.arrow_core.specs.declared.error.Error.TheVariants.{OutOfMemory, Overflow};
+ghost use Rattle.arrow_types.specs.Numbers.{greatest_offset};
+ghost use Rattle.arrow_types.specs.declared.slot.Slot.TheVariants.{List as ListSlot};
 ghost use Rattle.arrow_array.specs.Parts.{IsRefusalOf};
 ghost use Rattle.arrow_builders.specs.Fits.{ChildrenFit};
 ghost use Rattle.arrow_builders.specs.Found.{found_at};
 ghost use Rattle.arrow_builders.specs.Lending.{LendsListValues};
 ghost use Rattle.arrow_builders.specs.MutableArrays.{builder_type, builder_slots, nodes, slots_at};
-ghost use Rattle.arrow_builders.specs.Nested.{items_of, lists_node};
-ghost use Rattle.arrow_builders.specs.Nodes.{Takes, Roomier, Emptied, HasRoom, IsEmpty};
-ghost use Rattle.arrow_builders.specs.Shapes.{shape, nulls_at, AllTake, AllGetNulls, FitsIn};
+ghost use Rattle.arrow_flat.specs.Nested.{items_of, lists_node};
+ghost use Rattle.arrow_flat.specs.Nodes.{Takes, NoLessSpare, Emptied, HasSpare, IsEmpty};
+ghost use Rattle.arrow_builders.specs.Shapes.{shape, nulls_at, AllTake, AllGetNulls, AllGetBytes, FitsIn};
+ghost use Rattle.arrow_builders.specs.Tight.{IsTight};
 ghost use Rattle.arrow_builders.specs.declared.array.MutableArray.{List};
 
 use crate::array::MutableArray;
 use crate::find::here_or;
-use crate::lengths::NodeLengths;
-use crate::lists::MutableLists;
 use arrow_array::ListArray;
-use arrow_lists::Result;
+use arrow_core::Result;
+use arrow_flat::{MutableLists, NodeLengths};
 use arrow_types::DataType;
 use std::alloc::Global;
 
@@ -50,6 +50,9 @@ impl DynMutableListArray {
         ensures lens { IfOk result (λ b. b.lists.lens ≡ []) }
         ensures slots { IfOk result (λ b. builder_slots (List b) ≡ []) }
         ensures values { IfOk result (λ b. b.values.value ≡ values) }
+        ensures tight { IsTight values
+            → builder_slots values ≡ []
+            → IfOk result (λ b. IsTight (List b)) }
         ensures memory { IfErr result (λ e. e ≡ OutOfMemory) }
     {
         let values = Box::new(alloc, values)?;
@@ -73,17 +76,17 @@ impl DynMutableListArray {
         ensures data_type { self.new.lists.data_type ≡ self.old.lists.data_type }
         ensures values { self.new.values ≡ self.old.values }
         ensures ok { OnOk result (builder_slots (List self.new) ≡ builder_slots (List self.old)
-            ++ Listed (drop (items_of self.old.lists.lens) (builder_slots self.old.values.value)) ∷ []) }
+            ++ ListSlot (drop (items_of self.old.lists.lens) (builder_slots self.old.values.value)) ∷ []) }
         ensures end { OnOk result (items_of self.new.lists.lens ≡ length (builder_slots self.old.values.value)) }
         ensures err { OnErr result (self.new ≡ self.old) }
         ensures errors { IfErr result (λ e. (e ≡ Overflow) ⊎ (e ≡ OutOfMemory)) }
         ensures overflow { (result ≡ Err Overflow)
             ↔ ((length (builder_slots self.old.values.value) < items_of self.old.lists.lens)
-            ⊎ (last_place false < length (builder_slots self.old.values.value))) }
+            ⊎ (greatest_offset false < length (builder_slots self.old.values.value))) }
         ensures takes { Takes 1 0 (lists_node self.old.lists) (lists_node self.new.lists) }
-        ensures roomy { 1 ≤ self.old.lists.spare
+        ensures has_capacity { 1 ≤ self.old.lists.spare
             → items_of self.old.lists.lens ≤ length (builder_slots self.old.values.value)
-            → length (builder_slots self.old.values.value) ≤ last_place false
+            → length (builder_slots self.old.values.value) ≤ greatest_offset false
             → IsOk result }
     {
         let end = self.values.len();
@@ -120,41 +123,38 @@ impl DynMutableListArray {
     /// Appends a null, which has no items.
     pub(crate) fn push_null(&mut self) -> Result<()>
         ensures shape { shape (List self.new) ≡ shape (List self.old) }
-        ensures ok { OnOk result (builder_slots (List self.new)
-            ≡ builder_slots (List self.old) ++ NullSlot ∷ []) }
         ensures below { OnOk result (AllGetNulls (nulls_at 1 (List self.old)) (slots_at (List self.old)) (slots_at (List self.new))) }
+        ensures bytes { OnOk result (AllGetBytes (nulls_at 1 (List self.old)) (nodes (List self.old)) (nodes (List self.new))) }
         ensures memory { IfErr result (λ e. e ≡ OutOfMemory) }
         ensures takes { AllTake (nulls_at 1 (List self.old)) (nodes (List self.old)) (nodes (List self.new)) }
-        ensures roomy { AllZip FitsIn (nulls_at 1 (List self.old)) (nodes (List self.old)) → IsOk result }
+        ensures has_capacity { AllZip FitsIn (nulls_at 1 (List self.old)) (nodes (List self.old)) → IsOk result }
     {
         self.lists.push_null()?;
         Ok(())
     }
 
-    /// Makes room for so many more lists, and so much more in the child.
+    /// Makes spare capacity for so many more lists, and as much in the child.
     #[cycle(reserves)]
     pub(crate) fn reserve_for(&mut self, bytes: usize) -> Result<()>
         ensures shape { shape (List self.new) ≡ shape (List self.old) }
-        ensures slots { builder_slots (List self.new) ≡ builder_slots (List self.old) }
         ensures slots_at { slots_at (List self.new) ≡ slots_at (List self.old) }
-        ensures room { AllZip Roomier (nodes (List self.old)) (nodes (List self.new)) }
-        ensures ok { OnOk result (All (HasRoom bytes) (nodes (List self.new))) }
+        ensures capacity { AllZip NoLessSpare (nodes (List self.old)) (nodes (List self.new)) }
+        ensures ok { OnOk result (All (HasSpare bytes) (nodes (List self.new))) }
         ensures memory { IfErr result (λ e. e ≡ OutOfMemory) }
     {
         self.lists.reserve_for(bytes)?;
-        self.values.reserve_for(bytes)?;
+        self.values.reserve_nodes(bytes)?;
         Ok(())
     }
 
-    /// Drops every slot, those of the child too, and keeps the room.
+    /// Drops every slot, those of the child too, and keeps the capacity.
     #[cycle(clears)]
     pub(crate) fn clear(&mut self)
         ensures shape { shape (List self.new) ≡ shape (List self.old) }
-        ensures slots { builder_slots (List self.new) ≡ [] }
-        ensures room { AllZip Emptied (nodes (List self.old)) (nodes (List self.new)) }
+        ensures capacity { AllZip Emptied (nodes (List self.old)) (nodes (List self.new)) }
     {
         self.lists.clear();
-        self.values.clear();
+        self.values.clear_nodes();
     }
 
     /// The array of the slots. The builder and its child are then empty.
@@ -163,13 +163,12 @@ impl DynMutableListArray {
         ensures shape { shape (List self.new) ≡ shape (List self.old) }
         ensures array_type { IfOk result (λ a. a.data_type ≡ builder_type (List self.old)) }
         ensures array_slots { IfOk result (λ a. a.slots ≡ builder_slots (List self.old)) }
-        ensures slots { OnOk result (builder_slots (List self.new) ≡ []) }
         ensures emptied { OnOk result (All IsEmpty (nodes (List self.new))) }
         ensures fits { OnOk result (ChildrenFit (List self.old)) }
         ensures err { IfErr result (IsRefusalOf (ChildrenFit (List self.old))) }
     {
         let alloc = self.lists.alloc();
-        let values = self.values.as_box()?;
+        let values = self.values.box_nodes()?;
         let (data_type, offsets, validity) = self.lists.take()?;
         ListArray::try_new(alloc, data_type, offsets, values, Some(validity))
     }

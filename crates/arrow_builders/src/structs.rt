@@ -1,9 +1,9 @@
-//! A builder of records.
+//! A builder of structs.
 
-ghost use Rattle.std.specs.Prelude.{◌≡◌, ◌-◌, ◌<◌, ◌≤◌, ◌++◌, ◌∷◌, [], length, map, get_or, vec_len, IsOk, IfOk, IfErr, OnOk, OnErr};
+ghost use Rattle.std.specs.Prelude.{◌≡◌, ◌-◌, ◌<◌, ◌≤◌, ◌++◌, ◌∷◌, [], true, length, map, get_or, vec_len, IsOk, IfOk, IfErr, OnOk, OnErr};
 ghost use Rattle.std.specs.Borrow.{sem};
 ghost use Rattle.std.specs.List.{All, AllZip};
-ghost use Rattle.arrow_lists.specs.declared.error.Error.TheVariants.{OutOfMemory};
+ghost use Rattle.arrow_core.specs.declared.error.Error.TheVariants.{OutOfMemory};
 ghost use Rattle.arrow_types.specs.declared.slot.Slot.TheVariants.{Null as NullSlot};
 ghost use Rattle.arrow_array.specs.Arrays.{array_type, array_slots};
 ghost use Rattle.arrow_array.specs.Parts.{IsRefusalOf};
@@ -13,24 +13,24 @@ ghost use Rattle.arrow_builders.specs.Fits.{ChildrenFit};
 ghost use Rattle.arrow_builders.specs.Found.{found_at};
 ghost use Rattle.arrow_builders.specs.Lending.{LendsField};
 ghost use Rattle.arrow_builders.specs.MutableArrays.{builder_type, builder_slots, nodes, slots_at};
-ghost use Rattle.arrow_builders.specs.Nested.{marks_node};
-ghost use Rattle.arrow_builders.specs.Nodes.{Takes, Roomier, Emptied, HasRoom, IsEmpty};
-ghost use Rattle.arrow_builders.specs.Shapes.{shape, nulls_at, AllTake, AllGetNulls, FitsIn};
+ghost use Rattle.arrow_flat.specs.Nested.{marks_node};
+ghost use Rattle.arrow_flat.specs.Nodes.{Takes, NoLessSpare, Emptied, HasSpare, IsEmpty};
+ghost use Rattle.arrow_builders.specs.Shapes.{shape, nulls_at, AllTake, AllGetNulls, AllGetBytes, FitsIn};
+ghost use Rattle.arrow_builders.specs.Tight.{IsTight, AllTight};
 ghost use Rattle.arrow_builders.specs.declared.array.MutableArray.{Struct};
 
 use crate::array::MutableArray;
 use crate::find::here_or;
-use crate::lengths::NodeLengths;
-use crate::marks::MutableMarks;
 use arrow_array::{Array, StructArray};
-use arrow_lists::Result;
+use arrow_core::Result;
+use arrow_flat::{MutableMarks, NodeLengths};
 use arrow_types::DataType;
 use std::alloc::Global;
 
-/// A builder of records: the fields of each are the slots of its children at its place
+/// A builder of structs: the fields of each are the slots of its children at its index
 /// (Arrow columnar format, "Struct Layout").
 ///
-/// Beneath a null record each child takes a null.
+/// Beneath a null struct each child takes a null.
 #[cycle(builders)]
 #[derive(Drop)]
 pub struct DynMutableStructArray {
@@ -39,9 +39,9 @@ pub struct DynMutableStructArray {
 }
 
 impl DynMutableStructArray {
-    /// An empty builder of records of the slots that `values` take, one for each field.
+    /// An empty builder of structs of the slots that `values` take, one for each field.
     ///
-    /// Where there is no child, or the type isn't that of records of their types in order,
+    /// Where there is no child, or the type isn't that of structs of their types in order,
     /// `as_box` refuses. `OutOfMemory` alone.
     pub fn new(
         alloc: Global,
@@ -49,9 +49,10 @@ impl DynMutableStructArray {
         data_type: DataType,
     ) -> Result<DynMutableStructArray>
         ensures data_type { IfOk result (λ b. b.marks.data_type ≡ data_type) }
-        ensures truths { IfOk result (λ b. b.marks.truths ≡ []) }
+        ensures booleans { IfOk result (λ b. b.marks.booleans ≡ []) }
         ensures slots { IfOk result (λ b. builder_slots (Struct b) ≡ []) }
         ensures values { IfOk result (λ b. b.values ≡ values) }
+        ensures tight { AllTight 0 values.items → IfOk result (λ b. IsTight (Struct b)) }
         ensures memory { IfErr result (λ e. e ≡ OutOfMemory) }
     {
         Ok(DynMutableStructArray {
@@ -69,16 +70,17 @@ impl DynMutableStructArray {
         &mut self.values[field]
     }
 
-    /// Appends the record of the children's slots at its place. `OutOfMemory` changes nothing.
+    /// Appends the struct of the children's slots at its index. `OutOfMemory` changes nothing.
     pub fn try_push_valid(&mut self) -> Result<()>
         ensures data_type { self.new.marks.data_type ≡ self.old.marks.data_type }
         ensures values { self.new.values ≡ self.old.values }
+        ensures booleans { OnOk result (self.new.marks.booleans ≡ self.old.marks.booleans ++ true ∷ []) }
         ensures ok { OnOk result (builder_slots (Struct self.new) ≡ builder_slots (Struct self.old)
-            ++ record_at (map builder_slots self.old.values.items) (length self.old.marks.truths) ∷ []) }
+            ++ record_at (map builder_slots self.old.values.items) (length self.old.marks.booleans) ∷ []) }
         ensures err { OnErr result (self.new ≡ self.old) }
         ensures memory { IfErr result (λ e. e ≡ OutOfMemory) }
         ensures takes { Takes 1 0 (marks_node self.old.marks) (marks_node self.new.marks) }
-        ensures roomy { 1 ≤ self.old.marks.spare → IsOk result }
+        ensures has_capacity { 1 ≤ self.old.marks.spare → IsOk result }
     {
         self.marks.push(true)?;
         Ok(())
@@ -116,26 +118,24 @@ impl DynMutableStructArray {
     #[cycle(nulls)]
     pub(crate) fn push_null(&mut self) -> Result<()>
         ensures shape { shape (Struct self.new) ≡ shape (Struct self.old) }
-        ensures ok { OnOk result (builder_slots (Struct self.new)
-            ≡ builder_slots (Struct self.old) ++ NullSlot ∷ []) }
         ensures below { OnOk result (AllGetNulls (nulls_at 1 (Struct self.old)) (slots_at (Struct self.old)) (slots_at (Struct self.new))) }
+        ensures bytes { OnOk result (AllGetBytes (nulls_at 1 (Struct self.old)) (nodes (Struct self.old)) (nodes (Struct self.new))) }
         ensures memory { IfErr result (λ e. e ≡ OutOfMemory) }
         ensures takes { AllTake (nulls_at 1 (Struct self.old)) (nodes (Struct self.old)) (nodes (Struct self.new)) }
-        ensures roomy { AllZip FitsIn (nulls_at 1 (Struct self.old)) (nodes (Struct self.old)) → IsOk result }
+        ensures has_capacity { AllZip FitsIn (nulls_at 1 (Struct self.old)) (nodes (Struct self.old)) → IsOk result }
     {
         push_null_all(&mut self.values)?;
         self.marks.push(false)?;
         Ok(())
     }
 
-    /// Makes room for so many more records, and so much more in each child.
+    /// Makes spare capacity for so many more structs, and as much in each child.
     #[cycle(reserves)]
     pub(crate) fn reserve_for(&mut self, bytes: usize) -> Result<()>
         ensures shape { shape (Struct self.new) ≡ shape (Struct self.old) }
-        ensures slots { builder_slots (Struct self.new) ≡ builder_slots (Struct self.old) }
         ensures slots_at { slots_at (Struct self.new) ≡ slots_at (Struct self.old) }
-        ensures room { AllZip Roomier (nodes (Struct self.old)) (nodes (Struct self.new)) }
-        ensures ok { OnOk result (All (HasRoom bytes) (nodes (Struct self.new))) }
+        ensures capacity { AllZip NoLessSpare (nodes (Struct self.old)) (nodes (Struct self.new)) }
+        ensures ok { OnOk result (All (HasSpare bytes) (nodes (Struct self.new))) }
         ensures memory { IfErr result (λ e. e ≡ OutOfMemory) }
     {
         self.marks.reserve_for(bytes)?;
@@ -143,12 +143,11 @@ impl DynMutableStructArray {
         Ok(())
     }
 
-    /// Drops every slot, those of the children too, and keeps the room.
+    /// Drops every slot, those of the children too, and keeps the capacity.
     #[cycle(clears)]
     pub(crate) fn clear(&mut self)
         ensures shape { shape (Struct self.new) ≡ shape (Struct self.old) }
-        ensures slots { builder_slots (Struct self.new) ≡ [] }
-        ensures room { AllZip Emptied (nodes (Struct self.old)) (nodes (Struct self.new)) }
+        ensures capacity { AllZip Emptied (nodes (Struct self.old)) (nodes (Struct self.new)) }
     {
         self.marks.clear();
         clear_all(&mut self.values);
@@ -160,7 +159,6 @@ impl DynMutableStructArray {
         ensures shape { shape (Struct self.new) ≡ shape (Struct self.old) }
         ensures array_type { IfOk result (λ a. a.data_type ≡ builder_type (Struct self.old)) }
         ensures array_slots { IfOk result (λ a. a.slots ≡ builder_slots (Struct self.old)) }
-        ensures slots { OnOk result (builder_slots (Struct self.new) ≡ []) }
         ensures emptied { OnOk result (All IsEmpty (nodes (Struct self.new))) }
         ensures fits { OnOk result (ChildrenFit (Struct self.old)) }
         ensures err { IfErr result (IsRefusalOf (ChildrenFit (Struct self.old))) }
@@ -194,40 +192,41 @@ fn push_null_all(children: &mut [MutableArray]) -> Result<()>
     ensures ok { OnOk result (map builder_slots children.new
         ≡ map (λ b. builder_slots b ++ NullSlot ∷ []) children.old) }
     ensures below { OnOk result (AllGetNulls (all_nulls 1 children.old) (all_slots children.old) (all_slots children.new)) }
+    ensures bytes { OnOk result (AllGetBytes (all_nulls 1 children.old) (all_nodes children.old) (all_nodes children.new)) }
     ensures memory { IfErr result (λ e. e ≡ OutOfMemory) }
     ensures takes { AllTake (all_nulls 1 children.old) (all_nodes children.old) (all_nodes children.new) }
-    ensures roomy { AllZip FitsIn (all_nulls 1 children.old) (all_nodes children.old) → IsOk result }
+    ensures has_capacity { AllZip FitsIn (all_nulls 1 children.old) (all_nodes children.old) → IsOk result }
 {
     for i in 0..children.len() {
-        children[i].push_null()?;
+        children[i].append_null()?;
     }
     Ok(())
 }
 
-/// Makes room in each child.
+/// Makes spare capacity in each child.
 #[cycle(reserves)]
 fn reserve_all(children: &mut [MutableArray], bytes: usize) -> Result<()>
     ensures shapes { map shape children.new ≡ map shape children.old }
     ensures slots { map builder_slots children.new ≡ map builder_slots children.old }
     ensures slots_at { all_slots children.new ≡ all_slots children.old }
-    ensures room { AllZip Roomier (all_nodes children.old) (all_nodes children.new) }
-    ensures ok { OnOk result (All (HasRoom bytes) (all_nodes children.new)) }
+    ensures capacity { AllZip NoLessSpare (all_nodes children.old) (all_nodes children.new) }
+    ensures ok { OnOk result (All (HasSpare bytes) (all_nodes children.new)) }
     ensures memory { IfErr result (λ e. e ≡ OutOfMemory) }
 {
     for i in 0..children.len() {
-        children[i].reserve_for(bytes)?;
+        children[i].reserve_nodes(bytes)?;
     }
     Ok(())
 }
 
-/// Drops every slot of each child and keeps the room.
+/// Drops every slot of each child and keeps the capacity.
 #[cycle(clears)]
 fn clear_all(children: &mut [MutableArray])
     ensures shapes { map shape children.new ≡ map shape children.old }
-    ensures room { AllZip Emptied (all_nodes children.old) (all_nodes children.new) }
+    ensures capacity { AllZip Emptied (all_nodes children.old) (all_nodes children.new) }
 {
     for i in 0..children.len() {
-        children[i].clear();
+        children[i].clear_nodes();
     }
 }
 
@@ -243,7 +242,7 @@ fn box_all(alloc: Global, children: &mut [MutableArray]) -> Result<Vec<Array>>
 {
     let mut arrays = Vec::with_capacity(alloc, children.len())?;
     for i in 0..children.len() {
-        let array = children[i].as_box()?;
+        let array = children[i].box_nodes()?;
         arrays.push(array)?;
     }
     Ok(arrays)

@@ -1,3 +1,4 @@
+//! What a slot of an array holds.
 ghost use Rattle.std.specs.Prelude.{◌≡◌, ◌<◌, ◌≤◌, length};
 ghost use Rattle.arrow_types.specs.declared.types.DataType.{size-DataType};
 ghost use Rattle.arrow_array.specs.Arrays.{array_type, array_slots};
@@ -12,20 +13,20 @@ use arrow_types::MonthsDaysNs;
 pub enum Cell<'a> {
     /// Nothing.
     Null,
-    /// A truth value.
-    Truth(bool),
-    /// A whole number.
-    Whole(i128),
-    /// A length of time by the calendar, which is a record of its three numbers.
+    /// A boolean.
+    Boolean(bool),
+    /// An integer.
+    Integer(i128),
+    /// An interval, whose slot is a struct of its three integers.
     Interval(MonthsDaysNs),
-    /// A text.
-    Words(&'a str),
+    /// A UTF-8 string.
+    String(&'a str),
     /// Bytes.
-    Octets(&'a [u8]),
+    Binary(&'a [u8]),
     /// A list: the slots of the part.
-    Listed(Part<'a>),
-    /// A record: the slots of these arrays at the place.
-    Fields(&'a [Array], usize),
+    List(Part<'a>),
+    /// A struct: the slots of these arrays at the index.
+    Struct(&'a [Array], usize),
 }
 
 /// What slot `i` of the array holds.
@@ -44,28 +45,28 @@ pub fn cell_at(array: &Array, i: usize) -> Cell<'_>
             let _held = array.is_valid(i);
             Cell::Null
         }
-        Array::Boolean(array) => Cell::Truth(array.value(i)),
-        Array::Int8(array) => Cell::Whole(array.value(i) as i128),
-        Array::Int16(array) => Cell::Whole(array.value(i) as i128),
-        Array::Int32(array) => Cell::Whole(array.value(i) as i128),
-        Array::Int64(array) => Cell::Whole(array.value(i) as i128),
-        Array::UInt8(array) => Cell::Whole(array.value(i) as i128),
-        Array::UInt16(array) => Cell::Whole(array.value(i) as i128),
-        Array::UInt32(array) => Cell::Whole(array.value(i) as i128),
-        Array::UInt64(array) => Cell::Whole(array.value(i) as i128),
-        Array::Int128(array) => Cell::Whole(array.value(i)),
+        Array::Boolean(array) => Cell::Boolean(array.value(i)),
+        Array::Int8(array) => Cell::Integer(array.value(i) as i128),
+        Array::Int16(array) => Cell::Integer(array.value(i) as i128),
+        Array::Int32(array) => Cell::Integer(array.value(i) as i128),
+        Array::Int64(array) => Cell::Integer(array.value(i) as i128),
+        Array::UInt8(array) => Cell::Integer(array.value(i) as i128),
+        Array::UInt16(array) => Cell::Integer(array.value(i) as i128),
+        Array::UInt32(array) => Cell::Integer(array.value(i) as i128),
+        Array::UInt64(array) => Cell::Integer(array.value(i) as i128),
+        Array::Int128(array) => Cell::Integer(array.value(i)),
         Array::MonthDayNano(array) => Cell::Interval(array.value(i)),
-        Array::Utf8(array) => Cell::Words(array.value(i)),
-        Array::LargeUtf8(array) => Cell::Words(array.value(i)),
-        Array::Binary(array) => Cell::Octets(array.value(i)),
-        Array::LargeBinary(array) => Cell::Octets(array.value(i)),
-        Array::FixedSizeBinary(array) => Cell::Octets(array.value(i)),
-        Array::List(array) => Cell::Listed(array.value(i)),
-        Array::LargeList(array) => Cell::Listed(array.value(i)),
-        Array::FixedSizeList(array) => Cell::Listed(array.value(i)),
-        Array::Struct(array) => Cell::Fields(array.values(), i),
-        Array::Dictionary(array) => match array.keys().place(i) {
-            Some(place) => cell_at(array.values(), place),
+        Array::Utf8(array) => Cell::String(array.value(i)),
+        Array::LargeUtf8(array) => Cell::String(array.value(i)),
+        Array::Binary(array) => Cell::Binary(array.value(i)),
+        Array::LargeBinary(array) => Cell::Binary(array.value(i)),
+        Array::FixedSizeBinary(array) => Cell::Binary(array.value(i)),
+        Array::List(array) => Cell::List(array.value(i)),
+        Array::LargeList(array) => Cell::List(array.value(i)),
+        Array::FixedSizeList(array) => Cell::List(array.value(i)),
+        Array::Struct(array) => Cell::Struct(array.values(), i),
+        Array::Dictionary(array) => match array.keys().index(i) {
+            Some(index) => cell_at(array.values(), index),
             None => Cell::Null,
         },
     }

@@ -1,41 +1,43 @@
+//! Whether two arrays are equal.
 ghost use Rattle.std.specs.Prelude.{◌≡◌, ◌+◌, ◌<◌, ◌↔◌, IsTrue, length, map};
-ghost use Rattle.arrow_types.specs.declared.slot.Slot.TheVariants.{Whole};
+ghost use Rattle.arrow_types.specs.declared.slot.Slot.TheVariants.{Integer as IntegerSlot};
 ghost use Rattle.arrow_array.specs.Arrays.{array_type, array_slots};
 ghost use Rattle.arrow_array.specs.Lent.{IsPart, part_slots};
 ghost use Rattle.arrow_array.specs.Slots.{slot_at};
-ghost use Rattle.arrow_array.specs.Structs.{HaveRoom, record_at};
+ghost use Rattle.arrow_array.specs.Structs.{HaveSlots, record_at};
 ghost use Rattle.arrow_columns.specs.Cells.{cell_slot, interval_slot, CellFits};
 
 use crate::cell::{Cell, cell_at};
 use arrow_array::{Array, Part};
 use arrow_types::MonthsDaysNs;
 
-/// Whether slot `i` of the array is the whole number.
-fn is_whole(array: &Array, i: usize, number: i128) -> bool
+/// Whether slot `i` of the array is the integer.
+fn is_integer(array: &Array, i: usize, number: i128) -> bool
     requires { i < length (array_slots array.now) }
-    ensures { IsTrue result ↔ (slot_at (array_slots array.now) i ≡ Whole number) }
+    ensures { IsTrue result ↔ (slot_at (array_slots array.now) i ≡ IntegerSlot number) }
 {
     match cell_at(array, i) {
-        Cell::Whole(found) => found == number,
+        Cell::Integer(found) => found == number,
         _ => false,
     }
 }
 
-/// Whether the record of the slots at place `i` is that of the interval's three numbers.
+/// Whether the struct of the slots at index `i` is that of the interval's three integers.
 fn is_interval(children: &[Array], i: usize, interval: MonthsDaysNs) -> bool
-    requires { HaveRoom (i + 1) children.now }
-    ensures { IsTrue result ↔ (record_at (map array_slots children.now) i ≡ interval_slot interval) }
+    requires { HaveSlots (i + 1) children.now }
+    ensures { IsTrue result
+        ↔ (record_at (map array_slots children.now) i ≡ interval_slot interval) }
 {
     if children.len() != 3 {
         return false;
     }
-    if !is_whole(&children[0], i, interval.months as i128) {
+    if !is_integer(&children[0], i, interval.months as i128) {
         return false;
     }
-    if !is_whole(&children[1], i, interval.days as i128) {
+    if !is_integer(&children[1], i, interval.days as i128) {
         return false;
     }
-    is_whole(&children[2], i, interval.ns as i128)
+    is_integer(&children[2], i, interval.ns as i128)
 }
 
 /// Whether two cells hold the same.
@@ -47,33 +49,33 @@ fn same_cells(left: &Cell<'_>, right: &Cell<'_>) -> bool
 {
     match left {
         Cell::Null => matches!(right, Cell::Null),
-        Cell::Truth(truth) => match right {
-            Cell::Truth(truth_2) => *truth == *truth_2,
+        Cell::Boolean(boolean) => match right {
+            Cell::Boolean(boolean_2) => *boolean == *boolean_2,
             _ => false,
         },
-        Cell::Whole(number) => match right {
-            Cell::Whole(number_2) => *number == *number_2,
+        Cell::Integer(number) => match right {
+            Cell::Integer(number_2) => *number == *number_2,
             _ => false,
         },
         Cell::Interval(interval) => match right {
             Cell::Interval(interval_2) => *interval == *interval_2,
-            Cell::Fields(children, i) => is_interval(children, *i, *interval),
+            Cell::Struct(children, i) => is_interval(children, *i, *interval),
             _ => false,
         },
-        Cell::Words(text) => match right {
-            Cell::Words(text_2) => *text == *text_2,
+        Cell::String(string) => match right {
+            Cell::String(string_2) => *string == *string_2,
             _ => false,
         },
-        Cell::Octets(bytes) => match right {
-            Cell::Octets(bytes_2) => *bytes == *bytes_2,
+        Cell::Binary(bytes) => match right {
+            Cell::Binary(bytes_2) => *bytes == *bytes_2,
             _ => false,
         },
-        Cell::Listed(part) => match right {
-            Cell::Listed(part_2) => same_parts(part, part_2),
+        Cell::List(part) => match right {
+            Cell::List(part_2) => same_parts(part, part_2),
             _ => false,
         },
-        Cell::Fields(children, i) => match right {
-            Cell::Fields(children_2, j) => same_records(children, *i, children_2, *j),
+        Cell::Struct(children, i) => match right {
+            Cell::Struct(children_2, j) => same_structs(children, *i, children_2, *j),
             Cell::Interval(interval) => is_interval(children, *i, *interval),
             _ => false,
         },
@@ -99,12 +101,13 @@ fn same_parts(left: &Part<'_>, right: &Part<'_>) -> bool
     true
 }
 
-/// Whether the record of the slots at place `i` is that of the others at place `j`.
+/// Whether the struct of the slots at index `i` is that of the others at index `j`.
 #[cycle(same)]
-fn same_records(left: &[Array], i: usize, right: &[Array], j: usize) -> bool
-    requires left { HaveRoom (i + 1) left.now }
-    requires right { HaveRoom (j + 1) right.now }
-    ensures { IsTrue result ↔ (record_at (map array_slots left.now) i ≡ record_at (map array_slots right.now) j) }
+fn same_structs(left: &[Array], i: usize, right: &[Array], j: usize) -> bool
+    requires left { HaveSlots (i + 1) left.now }
+    requires right { HaveSlots (j + 1) right.now }
+    ensures { IsTrue result
+        ↔ (record_at (map array_slots left.now) i ≡ record_at (map array_slots right.now) j) }
 {
     if left.len() != right.len() {
         return false;
@@ -122,7 +125,8 @@ fn same_records(left: &[Array], i: usize, right: &[Array], j: usize) -> bool
 fn same_slot(left: &Array, i: usize, right: &Array, j: usize) -> bool
     requires left { i < length (array_slots left.now) }
     requires right { j < length (array_slots right.now) }
-    ensures { IsTrue result ↔ (slot_at (array_slots left.now) i ≡ slot_at (array_slots right.now) j) }
+    ensures { IsTrue result
+        ↔ (slot_at (array_slots left.now) i ≡ slot_at (array_slots right.now) j) }
 {
     let left = cell_at(left, i);
     let right = cell_at(right, j);
@@ -149,7 +153,9 @@ fn same_slots(left: &Array, right: &Array) -> bool
 /// Whether two arrays have the same data type and the same slots. What their buffers hold beneath
 /// nulls plays no part. It takes no memory.
 pub fn equal(lhs: &Array, rhs: &Array) -> bool
-    ensures { IsTrue result ↔ ((array_type lhs.now ≡ array_type rhs.now) × (array_slots lhs.now ≡ array_slots rhs.now)) }
+    ensures { IsTrue result
+        ↔ ((array_type lhs.now ≡ array_type rhs.now)
+        × (array_slots lhs.now ≡ array_slots rhs.now)) }
 {
     if !lhs.data_type().is_same(rhs.data_type()) {
         return false;

@@ -14,6 +14,3 @@ pub use arrow_array::{
 };
 pub use cell::{Cell, cell_at};
 pub use equality::equal;
-
-#[cfg(test)]
-mod tests;

@@ -1,1 +1,2 @@
 pub mod Beneath
+pub mod EqualTypes

@@ -1,3 +1,4 @@
 pub mod Layouts
 pub mod Moments
+pub mod Natives
 pub mod Numbers

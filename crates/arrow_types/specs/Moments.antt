@@ -1,4 +1,4 @@
--- Lengths of time are equal exactly where their three parts are.
+-- Intervals are equal exactly where their three parts are.
 use mathlib.Core.Path.{ap}
 use Rattle.std.specs.Prelude.{◌≡◌, ◌&&◌}
 use Rattle.std.specs.Ordering.{int_eq}

@@ -1,4 +1,4 @@
--- The whole numbers that a native value stands for, and the places that an offset names.
+-- The integers that a native value stands for, and the indexes that an offset names.
 use Rattle.std.specs.Prelude.{◌≡◌, ℕ, Bool, true, false, ℤ, pos, negsuc, List, [], ◌∷◌, map}
 use Rattle.std.specs.List.{All}
 use Rattle.arrow_types.specs.declared.slot.Slot.{Slot}
@@ -10,20 +10,20 @@ AreZeros = All (λ n. n ≡ pos 0)
 
 -- the slot of a value that stands for these numbers: the number, or a record of several
 abbrev pub slot_of_numbers : List ℤ → Slot
-slot_of_numbers (n ∷ []) = slot.Whole n
-slot_of_numbers ns = slot.Fields (map slot.Whole ns)
+slot_of_numbers (n ∷ []) = slot.Integer n
+slot_of_numbers ns = slot.Struct (map slot.Integer ns)
 
--- an offset that names no place
+-- an offset that names no index
 abbrev pub IsNegative : ℤ → Type 0
 IsNegative (pos n) = ⊥
 IsNegative (negsuc n) = Unit {0}
 
--- an offset that names a place
-abbrev pub IsPlace : ℤ → Type 0
-IsPlace (pos n) = Unit {0}
-IsPlace (negsuc n) = ⊥
+-- an offset that names an index
+abbrev pub IsIndex : ℤ → Type 0
+IsIndex (pos n) = Unit {0}
+IsIndex (negsuc n) = ⊥
 
--- the last place that an offset of 32 bits, and one of 64 bits, can name
-abbrev pub last_place : Bool → ℕ
-last_place false = 2147483647
-last_place true = 9223372036854775807
+-- the last index that an offset of 32 bits, and one of 64 bits, can name
+abbrev pub greatest_offset : Bool → ℕ
+greatest_offset false = 2147483647
+greatest_offset true = 9223372036854775807

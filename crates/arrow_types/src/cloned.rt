@@ -1,15 +1,16 @@
 //! Copies of types, fields and schemas, which equal what they copy.
-ghost use Rattle.std.specs.Prelude.{◌≡◌, IfOk, IfErr};
+ghost use Rattle.std.specs.Prelude.{◌≡◌, IfOk};
+ghost use Rattle.arrow_core.specs.Errors.{OnlyOutOfMemory};
 
 use crate::types::{DataType, Field, Schema};
-use arrow_lists::{Box, Error, Items, Result, Text};
+use arrow_core::{Box, Items, Result, Text};
 use std::alloc::Global;
 
 impl DataType {
     /// A copy of this type.
     pub fn try_clone(&self, alloc: Global) -> Result<DataType>
         ensures copy { IfOk result (λ copied. copied ≡ self.now) }
-        ensures memory { IfErr result (λ e. e ≡ Error.OutOfMemory) }
+        ensures memory { OnlyOutOfMemory result }
     {
         clone_type(self, alloc)
     }
@@ -19,7 +20,7 @@ impl Field {
     /// A copy of this field.
     pub fn try_clone(&self, alloc: Global) -> Result<Field>
         ensures copy { IfOk result (λ copied. copied ≡ self.now) }
-        ensures memory { IfErr result (λ e. e ≡ Error.OutOfMemory) }
+        ensures memory { OnlyOutOfMemory result }
     {
         clone_field(self, alloc)
     }
@@ -29,7 +30,7 @@ impl Schema {
     /// A copy of this schema.
     pub fn try_clone(&self, alloc: Global) -> Result<Schema>
         ensures copy { IfOk result (λ copied. copied ≡ self.now) }
-        ensures memory { IfErr result (λ e. e ≡ Error.OutOfMemory) }
+        ensures memory { OnlyOutOfMemory result }
     {
         Ok(Schema {
             fields: clone_fields(&self.fields, alloc)?,
@@ -40,7 +41,7 @@ impl Schema {
 
 fn clone_text(text: &Option<Text>, alloc: Global) -> Result<Option<Text>>
     ensures copy { IfOk result (λ copied. copied ≡ text.now) }
-    ensures memory { IfErr result (λ e. e ≡ Error.OutOfMemory) }
+    ensures memory { OnlyOutOfMemory result }
 {
     match text {
         Some(text) => Ok(Some(text.try_clone(alloc)?)),
@@ -50,7 +51,7 @@ fn clone_text(text: &Option<Text>, alloc: Global) -> Result<Option<Text>>
 
 fn clone_type_ids(ids: &Option<Items<i32>>, alloc: Global) -> Result<Option<Items<i32>>>
     ensures copy { IfOk result (λ copied. copied ≡ ids.now) }
-    ensures memory { IfErr result (λ e. e ≡ Error.OutOfMemory) }
+    ensures memory { OnlyOutOfMemory result }
 {
     match ids {
         Some(ids) => Ok(Some(Items::try_from_slice(alloc, ids.as_slice())?)),
@@ -61,7 +62,7 @@ fn clone_type_ids(ids: &Option<Items<i32>>, alloc: Global) -> Result<Option<Item
 #[cycle(cloned)]
 fn clone_boxed_field(boxed: &Box<Field>, alloc: Global) -> Result<Box<Field>>
     ensures copy { IfOk result (λ copied. copied ≡ boxed.now) }
-    ensures memory { IfErr result (λ e. e ≡ Error.OutOfMemory) }
+    ensures memory { OnlyOutOfMemory result }
 {
     let field = clone_field(boxed.get(), alloc)?;
     Box::new(alloc, field)
@@ -70,7 +71,7 @@ fn clone_boxed_field(boxed: &Box<Field>, alloc: Global) -> Result<Box<Field>>
 #[cycle(cloned)]
 fn clone_boxed_type(boxed: &Box<DataType>, alloc: Global) -> Result<Box<DataType>>
     ensures copy { IfOk result (λ copied. copied ≡ boxed.now) }
-    ensures memory { IfErr result (λ e. e ≡ Error.OutOfMemory) }
+    ensures memory { OnlyOutOfMemory result }
 {
     let inner = clone_type(boxed.get(), alloc)?;
     Box::new(alloc, inner)
@@ -79,7 +80,7 @@ fn clone_boxed_type(boxed: &Box<DataType>, alloc: Global) -> Result<Box<DataType
 #[cycle(cloned)]
 fn clone_fields(fields: &Items<Field>, alloc: Global) -> Result<Items<Field>>
     ensures copy { IfOk result (λ copied. copied ≡ fields.now) }
-    ensures memory { IfErr result (λ e. e ≡ Error.OutOfMemory) }
+    ensures memory { OnlyOutOfMemory result }
 {
     let mut copies = Vec::new(alloc);
     for field in fields.as_slice() {
@@ -92,7 +93,7 @@ fn clone_fields(fields: &Items<Field>, alloc: Global) -> Result<Items<Field>>
 #[cycle(cloned)]
 fn clone_field(field: &Field, alloc: Global) -> Result<Field>
     ensures copy { IfOk result (λ copied. copied ≡ field.now) }
-    ensures memory { IfErr result (λ e. e ≡ Error.OutOfMemory) }
+    ensures memory { OnlyOutOfMemory result }
 {
     Ok(Field {
         name: field.name.try_clone(alloc)?,
@@ -105,7 +106,7 @@ fn clone_field(field: &Field, alloc: Global) -> Result<Field>
 #[cycle(cloned)]
 fn clone_type(data_type: &DataType, alloc: Global) -> Result<DataType>
     ensures copy { IfOk result (λ copied. copied ≡ data_type.now) }
-    ensures memory { IfErr result (λ e. e ≡ Error.OutOfMemory) }
+    ensures memory { OnlyOutOfMemory result }
 {
     Ok(match data_type {
         DataType::Null => DataType::Null,

@@ -2,16 +2,15 @@
 #![tactic(auto)]
 
 mod cloned;
+mod equality;
 mod months_days_ns;
 mod native;
 mod offset;
 mod physical;
-mod same;
 mod slot;
-#[cfg(test)]
-mod tests;
 mod types;
 
+pub use equality::equality_law;
 pub use months_days_ns::MonthsDaysNs;
 pub use native::NativeType;
 pub use offset::Offset;

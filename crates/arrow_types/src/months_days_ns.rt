@@ -1,12 +1,12 @@
-//! Lengths of time by the calendar.
+//! Intervals.
 ghost use Rattle.std.specs.Prelude.{[], ◌∷◌};
 
 use crate::native::NativeType;
 use crate::physical::PrimitiveType;
 
-/// A length of time in months, days and nanoseconds, none of which is a fixed number of the next.
+/// An interval of months, days and nanoseconds, none of which is a fixed number of the next.
 /// The three parts may differ in sign.
-#[derive(Clone, Copy, PartialEq, Eq, PartialOrd, Ord, Hash, Debug)]
+#[derive(Clone, Copy, PartialEq, Eq, Debug)]
 pub struct MonthsDaysNs {
     /// Whole months.
     pub months: i32,
@@ -20,15 +20,15 @@ impl NativeType for MonthsDaysNs {
     ghost use Rattle.std.proofs.Common.{rules};
     ghost use Rattle.arrow_types.specs.declared.slot.Slot.TheVariants as slot;
     ghost use Rattle.arrow_types.specs.Moments.{equal_parts};
-    ghost use Rattle.arrow_types.specs.declared.physical.PrimitiveType.TheVariants.{MonthDayNano};
+    ghost use Rattle.arrow_types.specs.Natives.{layout, of_interval};
 
-    ghost PRIMITIVE = { MonthDayNano };
+    ghost PRIMITIVE = { layout of_interval };
 
     const PRIMITIVE: PrimitiveType = PrimitiveType::MonthDayNano;
 
     ghost numbers = { λ x. x.months ∷ x.days ∷ x.ns ∷ [] };
 
-    ghost native_slot = { λ x. slot.Fields (slot.Whole x.months ∷ slot.Whole x.days ∷ slot.Whole x.ns ∷ []) };
+    ghost native_slot = { λ x. slot.Struct (slot.Integer x.months ∷ slot.Integer x.days ∷ slot.Integer x.ns ∷ []) };
 
     fn zero() -> MonthsDaysNs {
         MonthsDaysNs {

@@ -6,7 +6,7 @@ ghost use Rattle.arrow_types.specs.Numbers.{AreZeros, slot_of_numbers};
 
 use crate::physical::PrimitiveType;
 
-/// A value that a primitive column keeps as it is: one whole number, or a few in a fixed order.
+/// A value that a primitive column keeps as it is: one integer, or a few in a fixed order.
 ///
 /// Two values are equal exactly where the numbers that they stand for are.
 pub trait NativeType: Copy + Eq + Drop {
@@ -15,7 +15,7 @@ pub trait NativeType: Copy + Eq + Drop {
     /// How a column of these values is laid out.
     const PRIMITIVE: PrimitiveType;
 
-    // the whole numbers that a value stands for
+    // the integers that a value stands for
     ghost numbers: { Self → List ℤ };
 
     // what a column that holds the value shows there
@@ -38,15 +38,15 @@ pub trait NativeType: Copy + Eq + Drop {
 impl NativeType for i8 {
     ghost use Rattle.std.proofs.Common.{rules};
     ghost use Rattle.arrow_types.specs.declared.slot.Slot.TheVariants as slot;
-    ghost use Rattle.arrow_types.specs.declared.physical.PrimitiveType.TheVariants.{Int8};
+    ghost use Rattle.arrow_types.specs.Natives.{layout, of_i8};
 
-    ghost PRIMITIVE = { Int8 };
+    ghost PRIMITIVE = { layout of_i8 };
 
     const PRIMITIVE: PrimitiveType = PrimitiveType::Int8;
 
     ghost numbers = { λ x. x ∷ [] };
 
-    ghost native_slot = { λ x. slot.Whole x };
+    ghost native_slot = { λ x. slot.Integer x };
 
     fn zero() -> i8 {
         0
@@ -62,15 +62,15 @@ impl NativeType for i8 {
 impl NativeType for i16 {
     ghost use Rattle.std.proofs.Common.{rules};
     ghost use Rattle.arrow_types.specs.declared.slot.Slot.TheVariants as slot;
-    ghost use Rattle.arrow_types.specs.declared.physical.PrimitiveType.TheVariants.{Int16};
+    ghost use Rattle.arrow_types.specs.Natives.{layout, of_i16};
 
-    ghost PRIMITIVE = { Int16 };
+    ghost PRIMITIVE = { layout of_i16 };
 
     const PRIMITIVE: PrimitiveType = PrimitiveType::Int16;
 
     ghost numbers = { λ x. x ∷ [] };
 
-    ghost native_slot = { λ x. slot.Whole x };
+    ghost native_slot = { λ x. slot.Integer x };
 
     fn zero() -> i16 {
         0
@@ -86,15 +86,15 @@ impl NativeType for i16 {
 impl NativeType for i32 {
     ghost use Rattle.std.proofs.Common.{rules};
     ghost use Rattle.arrow_types.specs.declared.slot.Slot.TheVariants as slot;
-    ghost use Rattle.arrow_types.specs.declared.physical.PrimitiveType.TheVariants.{Int32};
+    ghost use Rattle.arrow_types.specs.Natives.{layout, of_i32};
 
-    ghost PRIMITIVE = { Int32 };
+    ghost PRIMITIVE = { layout of_i32 };
 
     const PRIMITIVE: PrimitiveType = PrimitiveType::Int32;
 
     ghost numbers = { λ x. x ∷ [] };
 
-    ghost native_slot = { λ x. slot.Whole x };
+    ghost native_slot = { λ x. slot.Integer x };
 
     fn zero() -> i32 {
         0
@@ -110,15 +110,15 @@ impl NativeType for i32 {
 impl NativeType for i64 {
     ghost use Rattle.std.proofs.Common.{rules};
     ghost use Rattle.arrow_types.specs.declared.slot.Slot.TheVariants as slot;
-    ghost use Rattle.arrow_types.specs.declared.physical.PrimitiveType.TheVariants.{Int64};
+    ghost use Rattle.arrow_types.specs.Natives.{layout, of_i64};
 
-    ghost PRIMITIVE = { Int64 };
+    ghost PRIMITIVE = { layout of_i64 };
 
     const PRIMITIVE: PrimitiveType = PrimitiveType::Int64;
 
     ghost numbers = { λ x. x ∷ [] };
 
-    ghost native_slot = { λ x. slot.Whole x };
+    ghost native_slot = { λ x. slot.Integer x };
 
     fn zero() -> i64 {
         0
@@ -134,15 +134,15 @@ impl NativeType for i64 {
 impl NativeType for i128 {
     ghost use Rattle.std.proofs.Common.{rules};
     ghost use Rattle.arrow_types.specs.declared.slot.Slot.TheVariants as slot;
-    ghost use Rattle.arrow_types.specs.declared.physical.PrimitiveType.TheVariants.{Int128};
+    ghost use Rattle.arrow_types.specs.Natives.{layout, of_i128};
 
-    ghost PRIMITIVE = { Int128 };
+    ghost PRIMITIVE = { layout of_i128 };
 
     const PRIMITIVE: PrimitiveType = PrimitiveType::Int128;
 
     ghost numbers = { λ x. x ∷ [] };
 
-    ghost native_slot = { λ x. slot.Whole x };
+    ghost native_slot = { λ x. slot.Integer x };
 
     fn zero() -> i128 {
         0
@@ -158,15 +158,15 @@ impl NativeType for i128 {
 impl NativeType for u8 {
     ghost use Rattle.std.proofs.Common.{rules};
     ghost use Rattle.arrow_types.specs.declared.slot.Slot.TheVariants as slot;
-    ghost use Rattle.arrow_types.specs.declared.physical.PrimitiveType.TheVariants.{UInt8};
+    ghost use Rattle.arrow_types.specs.Natives.{layout, of_u8};
 
-    ghost PRIMITIVE = { UInt8 };
+    ghost PRIMITIVE = { layout of_u8 };
 
     const PRIMITIVE: PrimitiveType = PrimitiveType::UInt8;
 
     ghost numbers = { λ x. pos x ∷ [] };
 
-    ghost native_slot = { λ x. slot.Whole (pos x) };
+    ghost native_slot = { λ x. slot.Integer (pos x) };
 
     fn zero() -> u8 {
         0
@@ -182,15 +182,15 @@ impl NativeType for u8 {
 impl NativeType for u16 {
     ghost use Rattle.std.proofs.Common.{rules};
     ghost use Rattle.arrow_types.specs.declared.slot.Slot.TheVariants as slot;
-    ghost use Rattle.arrow_types.specs.declared.physical.PrimitiveType.TheVariants.{UInt16};
+    ghost use Rattle.arrow_types.specs.Natives.{layout, of_u16};
 
-    ghost PRIMITIVE = { UInt16 };
+    ghost PRIMITIVE = { layout of_u16 };
 
     const PRIMITIVE: PrimitiveType = PrimitiveType::UInt16;
 
     ghost numbers = { λ x. pos x ∷ [] };
 
-    ghost native_slot = { λ x. slot.Whole (pos x) };
+    ghost native_slot = { λ x. slot.Integer (pos x) };
 
     fn zero() -> u16 {
         0
@@ -206,15 +206,15 @@ impl NativeType for u16 {
 impl NativeType for u32 {
     ghost use Rattle.std.proofs.Common.{rules};
     ghost use Rattle.arrow_types.specs.declared.slot.Slot.TheVariants as slot;
-    ghost use Rattle.arrow_types.specs.declared.physical.PrimitiveType.TheVariants.{UInt32};
+    ghost use Rattle.arrow_types.specs.Natives.{layout, of_u32};
 
-    ghost PRIMITIVE = { UInt32 };
+    ghost PRIMITIVE = { layout of_u32 };
 
     const PRIMITIVE: PrimitiveType = PrimitiveType::UInt32;
 
     ghost numbers = { λ x. pos x ∷ [] };
 
-    ghost native_slot = { λ x. slot.Whole (pos x) };
+    ghost native_slot = { λ x. slot.Integer (pos x) };
 
     fn zero() -> u32 {
         0
@@ -230,15 +230,15 @@ impl NativeType for u32 {
 impl NativeType for u64 {
     ghost use Rattle.std.proofs.Common.{rules};
     ghost use Rattle.arrow_types.specs.declared.slot.Slot.TheVariants as slot;
-    ghost use Rattle.arrow_types.specs.declared.physical.PrimitiveType.TheVariants.{UInt64};
+    ghost use Rattle.arrow_types.specs.Natives.{layout, of_u64};
 
-    ghost PRIMITIVE = { UInt64 };
+    ghost PRIMITIVE = { layout of_u64 };
 
     const PRIMITIVE: PrimitiveType = PrimitiveType::UInt64;
 
     ghost numbers = { λ x. pos x ∷ [] };
 
-    ghost native_slot = { λ x. slot.Whole (pos x) };
+    ghost native_slot = { λ x. slot.Integer (pos x) };
 
     fn zero() -> u64 {
         0

@@ -1,6 +1,6 @@
 //! The offsets that cut a column into parts.
 ghost use Rattle.std.specs.Prelude.{◌≡◌, ℤ, pos, [], ◌∷◌, Bool, false, true, ◌↔◌, ◌≤◌, IsSome, IfSome, MatchOption};
-ghost use Rattle.arrow_types.specs.Numbers.{IsNegative, IsPlace, last_place};
+ghost use Rattle.arrow_types.specs.Numbers.{IsNegative, IsIndex, greatest_offset};
 
 use crate::native::NativeType;
 
@@ -13,25 +13,26 @@ pub trait Offset: NativeType {
     const IS_LARGE: bool;
 
     // the number
-    ghost place: { Self → ℤ };
+    ghost number: { Self → ℤ };
 
     /// The same number. It must not be negative.
     fn to_usize(&self) -> usize
-        requires { IsPlace (place self.now) }
-        ensures { place self.now ≡ pos result };
+        requires { IsIndex (number self.now) }
+        ensures { number self.now ≡ pos result };
 
     /// The same number, or `None` where it is negative.
     fn checked_to_usize(&self) -> Option<usize>
-        ensures { MatchOption result (IsNegative (place self.now)) (λ n. place self.now ≡ pos n) };
+        ensures { MatchOption result (IsNegative (number self.now))
+            (λ n. number self.now ≡ pos n) };
 
     /// The same number, or `None` where it is past the greatest offset: 2^31 - 1 in 32 bits and
     /// 2^63 - 1 in 64 bits.
     fn from_usize(value: usize) -> Option<Self>
-        ensures fits { IsSome result ↔ (value ≤ last_place IS_LARGE) }
-        ensures same { IfSome result (λ o. place o ≡ pos value) };
+        ensures fits { IsSome result ↔ (value ≤ greatest_offset IS_LARGE) }
+        ensures same { IfSome result (λ o. number o ≡ pos value) };
 
     // the number is the one that the value stands for
-    ghost is_number: { (x : Self) → Self.numbers x ≡ place x ∷ [] };
+    ghost is_number: { (x : Self) → Self.numbers x ≡ number x ∷ [] };
 }
 
 impl Offset for i32 {
@@ -41,7 +42,7 @@ impl Offset for i32 {
 
     const IS_LARGE: bool = false;
 
-    ghost place = { λ x. x };
+    ghost number = { λ x. x };
 
     fn to_usize(&self) -> usize {
         *self as usize
@@ -73,7 +74,7 @@ impl Offset for i64 {
 
     const IS_LARGE: bool = true;
 
-    ghost place = { λ x. x };
+    ghost number = { λ x. x };
 
     fn to_usize(&self) -> usize {
         *self as usize

@@ -3,7 +3,7 @@
 use crate::types::{DataType, IntegerType, IntervalUnit};
 
 /// How a primitive value lies in memory (Arrow columnar format, "Fixed-size Primitive Layout").
-#[derive(Clone, Copy, PartialEq, Eq, PartialOrd, Ord, Hash, Debug)]
+#[derive(Clone, Copy, PartialEq, Eq, Debug)]
 pub enum PrimitiveType {
     /// A signed number of 8 bits.
     Int8,
@@ -17,13 +17,13 @@ pub enum PrimitiveType {
     Int128,
     /// A signed number of 256 bits.
     Int256,
-    /// A number of 8 bits without a sign.
+    /// An unsigned number of 8 bits.
     UInt8,
-    /// A number of 16 bits without a sign.
+    /// An unsigned number of 16 bits.
     UInt16,
-    /// A number of 32 bits without a sign.
+    /// An unsigned number of 32 bits.
     UInt32,
-    /// A number of 64 bits without a sign.
+    /// An unsigned number of 64 bits.
     UInt64,
     /// A float of 16 bits.
     Float16,
@@ -38,7 +38,7 @@ pub enum PrimitiveType {
 }
 
 /// How the values of a column lie in memory (Arrow columnar format, "Physical Memory Layout").
-#[derive(Clone, Copy, PartialEq, Eq, PartialOrd, Ord, Hash, Debug)]
+#[derive(Clone, Copy, PartialEq, Eq, Debug)]
 pub enum PhysicalType {
     /// No bytes: each value is null.
     Null,
@@ -48,17 +48,17 @@ pub enum PhysicalType {
     Primitive(PrimitiveType),
     /// Bytes of any length, with offsets of 32 bits.
     Binary,
-    /// Bytes of one length.
+    /// Bytes of a fixed size.
     FixedSizeBinary,
     /// Bytes of any length, with offsets of 64 bits.
     LargeBinary,
-    /// UTF-8 texts, with offsets of 32 bits.
+    /// UTF-8 strings, with offsets of 32 bits.
     Utf8,
-    /// UTF-8 texts, with offsets of 64 bits.
+    /// UTF-8 strings, with offsets of 64 bits.
     LargeUtf8,
     /// Lists of any length, with offsets of 32 bits.
     List,
-    /// Lists of one length.
+    /// Fixed-size lists.
     FixedSizeList,
     /// Lists of any length, with offsets of 64 bits.
     LargeList,
@@ -68,7 +68,7 @@ pub enum PhysicalType {
     Union,
     /// Lists of pairs of a key and a value.
     Map,
-    /// Places, of this integer type, in a column of distinct values.
+    /// Indexes, of this integer type, into a column of distinct values.
     Dictionary(IntegerType),
 }
 

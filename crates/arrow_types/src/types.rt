@@ -1,5 +1,5 @@
 //! The types of columns (Arrow columnar format, "Data Types" and `Schema.fbs`).
-use arrow_lists::{Box, Items, Metadata, Text};
+use arrow_core::{Box, Items, Metadata, Text};
 use std::alloc::Global;
 
 /// What a time, a timestamp or a duration counts.
@@ -15,7 +15,7 @@ pub enum TimeUnit {
     Nanosecond,
 }
 
-/// What an interval by the calendar counts.
+/// What an interval counts.
 #[derive(Clone, Copy, PartialEq, Eq, PartialOrd, Ord, Hash, Debug)]
 pub enum IntervalUnit {
     /// Months.
@@ -46,26 +46,26 @@ pub enum IntegerType {
     Int32,
     /// A signed number of 64 bits.
     Int64,
-    /// A number of 8 bits without a sign.
+    /// An unsigned number of 8 bits.
     UInt8,
-    /// A number of 16 bits without a sign.
+    /// An unsigned number of 16 bits.
     UInt16,
-    /// A number of 32 bits without a sign.
+    /// An unsigned number of 32 bits.
     UInt32,
-    /// A number of 64 bits without a sign.
+    /// An unsigned number of 64 bits.
     UInt64,
 }
 
 /// The logical type of a column.
 ///
-/// Types are ordered by their place in this list, then by what is in them. Equality, order and hash
-/// agree.
+/// Types are ordered by their position in this list, then by what is in them. Equality, order and
+/// hash agree.
 #[cycle(types)]
 #[derive(Drop, PartialEq, Eq, PartialOrd, Ord, Hash)]
 pub enum DataType {
     /// Only nulls.
     Null,
-    /// Truth values.
+    /// Booleans.
     Boolean,
     /// Signed numbers of 8 bits.
     Int8,
@@ -75,13 +75,13 @@ pub enum DataType {
     Int32,
     /// Signed numbers of 64 bits.
     Int64,
-    /// Numbers of 8 bits without a sign.
+    /// Unsigned numbers of 8 bits.
     UInt8,
-    /// Numbers of 16 bits without a sign.
+    /// Unsigned numbers of 16 bits.
     UInt16,
-    /// Numbers of 32 bits without a sign.
+    /// Unsigned numbers of 32 bits.
     UInt32,
-    /// Numbers of 64 bits without a sign.
+    /// Unsigned numbers of 64 bits.
     UInt64,
     /// Floats of 16 bits.
     Float16,
@@ -100,9 +100,9 @@ pub enum DataType {
     Time32(TimeUnit),
     /// Counts of microseconds or nanoseconds since midnight, in 64 bits.
     Time64(TimeUnit),
-    /// Lengths of time as a count of the unit, in 64 bits.
+    /// Lengths of time as counts of the unit, in 64 bits.
     Duration(TimeUnit),
-    /// Lengths of time by the calendar.
+    /// Intervals.
     Interval(IntervalUnit),
     /// Bytes of any length, with offsets of 32 bits.
     Binary,
@@ -110,9 +110,9 @@ pub enum DataType {
     FixedSizeBinary(usize),
     /// Bytes of any length, with offsets of 64 bits.
     LargeBinary,
-    /// UTF-8 texts, with offsets of 32 bits.
+    /// UTF-8 strings, with offsets of 32 bits.
     Utf8,
-    /// UTF-8 texts, with offsets of 64 bits.
+    /// UTF-8 strings, with offsets of 64 bits.
     LargeUtf8,
     /// Lists of the field, with offsets of 32 bits.
     List(Box<Field>),
@@ -125,9 +125,9 @@ pub enum DataType {
     /// Lists of the field, which is a record of a key and a value, and whether the keys are sorted.
     Map(Box<Field>, bool),
     /// Values of any one of the fields, the number that stands for each field where it isn't its
-    /// place, and how the children lie.
+    /// index, and how the children lie.
     Union(Items<Field>, Option<Items<i32>>, UnionMode),
-    /// Places in a column of distinct values: the type of the places, the type of the values, and
+    /// Indexes into a column of distinct values: the type of the indexes, the type of the values, and
     /// whether the values are sorted.
     Dictionary(IntegerType, Box<DataType>, bool),
     /// Numbers of 128 bits with so many decimal digits, so many of them after the point.
@@ -166,7 +166,8 @@ impl Field {
 
     /// A field without metadata.
     pub fn new(alloc: Global, name: Text, data_type: DataType, is_nullable: bool) -> Field
-        ensures { result ≡ record { name = name; data_type = data_type; is_nullable = is_nullable; metadata = [] } }
+        ensures { result
+            ≡ record { name = name; data_type = data_type; is_nullable = is_nullable; metadata = [] } }
     {
         Field {
             name,

@@ -1,15 +1,7 @@
-//! Avro: schemas, blocks of a file, and the bytes that a reader takes from the front.
+//! Avro object container files: schemas, blocks, and the numbers and bytes that they are made of.
 #![tactic(auto)]
 
-mod block;
-mod cursor;
-mod number;
-mod schema;
-
-pub use block::Block;
-pub use cursor::{Cursor, SliceCursor};
-pub use number::{next_number, zigzag_i64};
-pub use schema::{
-    AvroField, BytesLogical, Enum, Fixed, FixedLogical, IntLogical, LongLogical, Record, Schema,
-    Schema as AvroSchema, StringLogical,
+pub use avro_schema::{
+    AvroField, AvroSchema, Block, BytesLogical, Cursor, Enum, Fixed, FixedLogical, IntLogical,
+    LongLogical, Record, Schema, SliceCursor, StringLogical, next_number, zigzag_i64,
 };

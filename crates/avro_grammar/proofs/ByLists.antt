@@ -4,18 +4,18 @@ use Rattle.std.specs.List.{AllByRecursion}
 use Rattle.std.proofs.lemmas.List.Elements.{All-from_recursion, recursion_from_All}
 use Rattle.arrow_types.specs.declared.slot.Slot.{Slot}
 use Rattle.arrow_types.specs.declared.slot.Slot.TheVariants as slot
-use Rattle.avro_file.specs.declared.schema.AvroField.{AvroField}
-use Rattle.avro_file.specs.declared.schema.Record.{Record as TheRecord, Record', out-Record, Row_of-AvroField, end_of-AvroField, more_of-AvroField, items-the_row-AvroField, items_shown-the_row-AvroField-2}
-use Rattle.avro_file.specs.declared.schema.Schema.{Schema, Array, Union, Record}
-use Rattle.avro_file.specs.declared.schema.Schema.TheBlock.{shape-the_row-Schema-0, hidden-the_row-Schema-0, shape-the_row-Schema-1, hidden-the_row-Schema-1}
-use Rattle.avro_file.specs.declared.schema.Schema.TheViews.{outs-struct-Record}
-use Rattle.avro_file.specs.Number.{Number}
+use Rattle.avro_schema.specs.declared.schema.AvroField.{AvroField}
+use Rattle.avro_schema.specs.declared.schema.Record.{Record as TheRecord, Record', out-Record, Row_of-AvroField, end_of-AvroField, more_of-AvroField, items-the_row-AvroField, items_shown-the_row-AvroField-2}
+use Rattle.avro_schema.specs.declared.schema.Schema.{Schema, Array, Union, Record}
+use Rattle.avro_schema.specs.declared.schema.Schema.TheBlock.{shape-the_row-Schema-0, hidden-the_row-Schema-0, shape-the_row-Schema-1, hidden-the_row-Schema-1}
+use Rattle.avro_schema.specs.declared.schema.Schema.TheViews.{outs-struct-Record}
+use Rattle.avro_schema.specs.Number.{Number}
 use Rattle.avro_grammar.specs.Parts.{Then, Meaning, Measured, Blocks}
-use Rattle.avro_grammar.specs.Spells.{Any, Spells, SpellsMember, SpellsRecord, SpellsFields}
-use Rattle.avro_grammar.specs.Steps.{Passed, seen_only, both, StepsBlocks, Steps, StepsMember, StepsRecord, StepsFields}
+use Rattle.avro_grammar.specs.Encodes.{Any, Encodes, EncodesMember, EncodesRecord, EncodesFields}
+use Rattle.avro_grammar.specs.Skips.{Passed, seen_only, both, SkipsBlocks, Skips, SkipsMember, SkipsRecord, SkipsFields}
 use Rattle.avro_grammar.specs.Broken.{BrokenBlocks, Broken, BrokenMember, BrokenRecord, BrokenFields}
-use Rattle.avro_grammar.specs.Carried.{Carried, CarriedMembers, CarriedRecord, CarriedFields, HasFields}
-use Rattle.avro_grammar.specs.Listed.{SpellsMemberOf, SpellsFieldsOf, SpellsUnionOf, StepsMemberOf, StepsFieldsOf, StepsUnionOf, BrokenMemberOf, BrokenFieldsOf, BrokenUnionOf, CarriedFieldsOf}
+use Rattle.avro_grammar.specs.Carried.{Carried, CarriedRecord, CarriedFields, HasFields}
+use Rattle.avro_grammar.specs.Listed.{EncodesMemberOf, EncodesFieldsOf, EncodesUnionOf, SkipsMemberOf, SkipsFieldsOf, SkipsUnionOf, BrokenMemberOf, BrokenFieldsOf, BrokenUnionOf, CarriedMembersOf, CarriedFieldsOf}
 
 pub moved : {A B : Type 0} → A ≡ B → A → B
 moved e = subst (λ T. T) e
@@ -24,68 +24,68 @@ pub both_ways : {A B : Type 0} → A ≡ B → A ↔ B
 both_ways e = (moved e, moved (sym e))
 
 -- the fields of a record are the items of its row
-abbrev row_fields : TheRecord → List AvroField
+abbrev pub row_fields : TheRecord → List AvroField
 row_fields (Record' name namespace doc shape fields) = items-the_row-AvroField _ fields
 
-fields_are : (r : TheRecord) → row_fields r ≡ (out-Record r).fields
+pub fields_are : (r : TheRecord) → row_fields r ≡ (out-Record r).fields
 fields_are (Record' name namespace doc shape fields) =
     sym (ap (λ o. o.fields) (outs-struct-Record name namespace doc shape fields) ∙ items_shown-the_row-AvroField-2 shape fields)
 
--- ---- spelled
+-- ---- encoded
 
-pub spells_array : (item : Schema) → Spells (Array item) ≡ Meaning (Blocks (Spells item)) Any slot.Listed
+pub encodes_array : (item : Schema) → Encodes (Array item) ≡ Meaning (Blocks (Encodes item)) Any slot.List
 unfolding shape-the_row-Schema-0 hidden-the_row-Schema-0 denote.Hole.Carrier.hidden
-spells_array item = refl
+encodes_array item = refl
 
-spells_member : (members : List Schema) (k : ℕ) → SpellsMember (hidden-the_row-Schema-1 members) k ≡ SpellsMemberOf members k
+encodes_member : (members : List Schema) (k : ℕ) → EncodesMember (hidden-the_row-Schema-1 members) k ≡ EncodesMemberOf members k
 unfolding shape-the_row-Schema-1 hidden-the_row-Schema-1 denote.Hole.Carrier.hidden
-spells_member [] k = refl
-spells_member (s ∷ members) zero = refl
-spells_member (s ∷ members) (suc k) = spells_member members k
+encodes_member [] k = refl
+encodes_member (s ∷ members) zero = refl
+encodes_member (s ∷ members) (suc k) = encodes_member members k
 
-pub spells_union : (members : List Schema) → Spells (Union members) ≡ SpellsUnionOf members
+pub encodes_union : (members : List Schema) → Encodes (Union members) ≡ EncodesUnionOf members
 unfolding shape-the_row-Schema-1 hidden-the_row-Schema-1 denote.Hole.Carrier.hidden
-spells_union members = λ i. Then Number (λ v back y. (k : ℕ) × (v ≡ pos k) × (k < 2) × spells_member members k i back y)
+encodes_union members = λ i. Then Number (λ v back y. (k : ℕ) × (v ≡ pos k) × (k < 2) × encodes_member members k i back y)
 
-spells_fields : {m : _} (row : Row_of-AvroField m) → SpellsFields row ≡ SpellsFieldsOf (items-the_row-AvroField _ row)
-spells_fields end_of-AvroField = refl
-spells_fields (more_of-AvroField name doc s rest) = λ i bytes xs. Then (Spells s) (λ x back ys. (more : List Slot) × (ys ≡ x ∷ more) × spells_fields rest i back more) bytes xs
+encodes_fields : {m : _} (row : Row_of-AvroField m) → EncodesFields row ≡ EncodesFieldsOf (items-the_row-AvroField _ row)
+encodes_fields end_of-AvroField = refl
+encodes_fields (more_of-AvroField name doc s rest) = λ i bytes xs. Then (Encodes s) (λ x back ys. (more : List Slot) × (ys ≡ x ∷ more) × encodes_fields rest i back more) bytes xs
 
-spells_row : (r : TheRecord) → SpellsRecord r ≡ SpellsFieldsOf (row_fields r)
-spells_row (Record' name namespace doc shape fields) = spells_fields fields
+encodes_row : (r : TheRecord) → EncodesRecord r ≡ EncodesFieldsOf (row_fields r)
+encodes_row (Record' name namespace doc shape fields) = encodes_fields fields
 
-pub spells_record : (r : TheRecord) → Spells (Record r) ≡ Meaning (SpellsFieldsOf (out-Record r).fields) Any slot.Fields
-spells_record r = λ i. Meaning ((spells_row r ∙ ap SpellsFieldsOf (fields_are r)) i) Any slot.Fields
+pub encodes_record : (r : TheRecord) → Encodes (Record r) ≡ Meaning (EncodesFieldsOf (out-Record r).fields) Any slot.Struct
+encodes_record r = λ i. Meaning ((encodes_row r ∙ ap EncodesFieldsOf (fields_are r)) i) Any slot.Struct
 
--- ---- stepped over
+-- ---- skipped
 
-pub steps_array : (item : Schema) → Steps (Array item) ≡ StepsBlocks (Steps item)
+pub skips_array : (item : Schema) → Skips (Array item) ≡ SkipsBlocks (Skips item)
 unfolding shape-the_row-Schema-0 hidden-the_row-Schema-0 denote.Hole.Carrier.hidden
-steps_array item = refl
+skips_array item = refl
 
-steps_member : (members : List Schema) (k : ℕ) → StepsMember (hidden-the_row-Schema-1 members) k ≡ StepsMemberOf members k
+skips_member : (members : List Schema) (k : ℕ) → SkipsMember (hidden-the_row-Schema-1 members) k ≡ SkipsMemberOf members k
 unfolding shape-the_row-Schema-1 hidden-the_row-Schema-1 denote.Hole.Carrier.hidden
-steps_member [] k = refl
-steps_member (s ∷ members) zero = refl
-steps_member (s ∷ members) (suc k) = steps_member members k
+skips_member [] k = refl
+skips_member (s ∷ members) zero = refl
+skips_member (s ∷ members) (suc k) = skips_member members k
 
-pub steps_union : (members : List Schema) → Steps (Union members) ≡ StepsUnionOf members
+pub skips_union : (members : List Schema) → Skips (Union members) ≡ SkipsUnionOf members
 unfolding shape-the_row-Schema-1 hidden-the_row-Schema-1 denote.Hole.Carrier.hidden
-steps_union members = λ i. Then (Measured Number) (λ v back z. (k : ℕ) × (v.0 ≡ pos k) × (k < 2) × (p : Passed) × (z ≡ both (seen_only v.1) p) × steps_member members k i back p)
+skips_union members = λ i. Then (Measured Number) (λ v back z. (k : ℕ) × (v.0 ≡ pos k) × (k < 2) × (p : Passed) × (z ≡ both (seen_only v.1) p) × skips_member members k i back p)
 
-steps_fields : {m : _} (row : Row_of-AvroField m) → StepsFields row ≡ StepsFieldsOf (items-the_row-AvroField _ row)
-steps_fields end_of-AvroField = refl
-steps_fields (more_of-AvroField name doc s rest) = λ i bytes y. Then (Steps s) (λ p back z. (more : Passed) × (z ≡ both p more) × steps_fields rest i back more) bytes y
+skips_fields : {m : _} (row : Row_of-AvroField m) → SkipsFields row ≡ SkipsFieldsOf (items-the_row-AvroField _ row)
+skips_fields end_of-AvroField = refl
+skips_fields (more_of-AvroField name doc s rest) = λ i bytes y. Then (Skips s) (λ p back z. (more : Passed) × (z ≡ both p more) × skips_fields rest i back more) bytes y
 
-steps_row : (r : TheRecord) → StepsRecord r ≡ StepsFieldsOf (row_fields r)
-steps_row (Record' name namespace doc shape fields) = steps_fields fields
+skips_row : (r : TheRecord) → SkipsRecord r ≡ SkipsFieldsOf (row_fields r)
+skips_row (Record' name namespace doc shape fields) = skips_fields fields
 
-pub steps_record : (r : TheRecord) → Steps (Record r) ≡ StepsFieldsOf (out-Record r).fields
-steps_record r = steps_row r ∙ ap StepsFieldsOf (fields_are r)
+pub skips_record : (r : TheRecord) → Skips (Record r) ≡ SkipsFieldsOf (out-Record r).fields
+skips_record r = skips_row r ∙ ap SkipsFieldsOf (fields_are r)
 
 -- ---- broken
 
-pub broken_array : (item : Schema) → Broken (Array item) ≡ BrokenBlocks (Steps item) (Broken item)
+pub broken_array : (item : Schema) → Broken (Array item) ≡ BrokenBlocks (Skips item) (Broken item)
 unfolding shape-the_row-Schema-0 hidden-the_row-Schema-0 denote.Hole.Carrier.hidden
 broken_array item = refl
 
@@ -97,11 +97,11 @@ broken_member (s ∷ members) (suc k) = broken_member members k
 
 pub broken_union : (members : List Schema) → Broken (Union members) ≡ BrokenUnionOf members
 unfolding shape-the_row-Schema-1 hidden-the_row-Schema-1 denote.Hole.Carrier.hidden
-broken_union members = λ i bytes. (front back : List ℕ) × (bytes ≡ front ++ back) × (k : ℕ) × (k < 2) × Number front (pos k) × broken_member members k i back
+broken_union members = λ i bytes. (prefix back : List ℕ) × (bytes ≡ prefix ++ back) × (k : ℕ) × (k < 2) × Number prefix (pos k) × broken_member members k i back
 
 broken_fields : {m : _} (row : Row_of-AvroField m) → BrokenFields row ≡ BrokenFieldsOf (items-the_row-AvroField _ row)
 broken_fields end_of-AvroField = refl
-broken_fields (more_of-AvroField name doc s rest) = λ i bytes. Broken s bytes ⊎ ((front back : List ℕ) × (bytes ≡ front ++ back) × (p : Passed) × Steps s front p × broken_fields rest i back)
+broken_fields (more_of-AvroField name doc s rest) = λ i bytes. Broken s bytes ⊎ ((prefix back : List ℕ) × (bytes ≡ prefix ++ back) × (p : Passed) × Skips s prefix p × broken_fields rest i back)
 
 broken_row : (r : TheRecord) → BrokenRecord r ≡ BrokenFieldsOf (row_fields r)
 broken_row (Record' name namespace doc shape fields) = broken_fields fields
@@ -115,7 +115,7 @@ pub carried_array : (item : Schema) → Carried (Array item) ≡ Carried item
 unfolding shape-the_row-Schema-0 hidden-the_row-Schema-0 denote.Hole.Carrier.hidden
 carried_array item = refl
 
-pub carried_union : (members : List Schema) → Carried (Union members) ≡ CarriedMembers members
+pub carried_union : (members : List Schema) → Carried (Union members) ≡ CarriedMembersOf members
 unfolding shape-the_row-Schema-1 hidden-the_row-Schema-1 denote.Hole.Carrier.hidden
 carried_union [] = refl
 carried_union (s ∷ []) = refl

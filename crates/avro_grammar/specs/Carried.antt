@@ -1,13 +1,13 @@
 -- The schemas whose values this library carries: all but a null by itself, maps, other unions than of null
 -- and one type that is no union, fixed types of no bytes, durations of another size than 12 bytes, and
 -- records of no fields.
-use Rattle.std.specs.Prelude.{◌≡◌, ℕ, ◌≤◌, List, [], ◌∷◌, Option, Some, ◌⊎◌, All}
-use Rattle.avro_file.specs.declared.schema.AvroField.{AvroField}
-use Rattle.avro_file.specs.declared.schema.Schema.{Schema, Null, Boolean, Int, Long, Float, Double, Bytes, String, Record, Enum, Array', Map', Union', Fixed, Row_of-Schema, end_of-Schema, more_of-Schema}
-use Rattle.avro_file.specs.declared.schema.Record.{Record as TheRecord, Record', Row_of-AvroField, end_of-AvroField, more_of-AvroField}
-use Rattle.avro_file.specs.declared.schema.FixedLogical.{FixedLogical}
-use Rattle.avro_file.specs.declared.schema.FixedLogical.TheVariants as fixed_logical
-use Rattle.avro_grammar.specs.Spells.{IsNull}
+use Rattle.std.specs.Prelude.{◌≡◌, ℕ, ◌≤◌, List, Option, Some, ◌⊎◌, All}
+use Rattle.avro_schema.specs.declared.schema.AvroField.{AvroField}
+use Rattle.avro_schema.specs.declared.schema.Schema.{Schema, Null, Boolean, Int, Long, Float, Double, Bytes, String, Record, Enum, Array', Map', Union', Fixed, Row_of-Schema, end_of-Schema, more_of-Schema}
+use Rattle.avro_schema.specs.declared.schema.Record.{Record as TheRecord, Record', Row_of-AvroField, end_of-AvroField, more_of-AvroField}
+use Rattle.avro_schema.specs.declared.schema.FixedLogical.{FixedLogical}
+use Rattle.avro_schema.specs.declared.schema.FixedLogical.TheVariants as fixed_logical
+use Rattle.avro_grammar.specs.Encodes.{IsNull}
 
 abbrev pub IsNoUnion : Schema → Type 0
 IsNoUnion (Union' shape members) = ⊥
@@ -54,10 +54,6 @@ abbrev mutual
   CarriedFields end_of-AvroField = Unit {0}
   CarriedFields (more_of-AvroField name doc s rest) = Carried s × CarriedFields rest
 
--- the same of members and of fields as lists
-abbrev pub CarriedMembers : List Schema → Type 0
-CarriedMembers (s ∷ t ∷ []) = (IsNull s × Carried t × IsNoUnion t) ⊎ (Carried s × IsNoUnion s × IsNull t)
-CarriedMembers _ = ⊥
-
+-- each of the fields is carried
 abbrev pub CarriedList : List AvroField → Type 0
 CarriedList = All (λ f. Carried f.schema)

@@ -1,23 +1,23 @@
--- How bytes fall into parts. A `Grammar A` says which bytes spell which values of A.
+-- How bytes fall into parts. A `Grammar A` says which bytes encode which values of A.
 use Rattle.std.specs.Prelude.{◌≡◌, ℕ, zero, suc, ◌^◌, ◌<◌, ℤ, pos, negsuc, List, [], ◌∷◌, ◌++◌, length}
-use Rattle.avro_file.specs.Number.{Number}
+use Rattle.avro_schema.specs.Number.{Number}
 
 abbrev pub Grammar : Type 0 → Type 1
 Grammar A = List ℕ → A → Type 0
 
--- bytes of P, and behind them bytes of what Q says of their value
+-- bytes of P, and after them bytes of what Q says of their value
 pub record Then {A B : Type 0} (P : Grammar A) (Q : A → Grammar B) (bytes : List ℕ) (y : B) : Type 0 where
-  pub front : List ℕ
+  pub prefix : List ℕ
   pub back : List ℕ
-  pub joined : bytes ≡ front ++ back
+  pub joined : bytes ≡ prefix ++ back
   pub value : A
-  pub first : P front value
+  pub first : P prefix value
   pub second : Q value back y
 
 -- bytes of P whose value meets R, which stand for f of it
 pub record Meaning {A B : Type 0} (P : Grammar A) (R : A → Type 0) (f : A → B) (bytes : List ℕ) (y : B) : Type 0 where
   pub value : A
-  pub spelled : P bytes value
+  pub encoded : P bytes value
   pub allowed : R value
   pub means : y ≡ f value
 
@@ -33,13 +33,14 @@ Raw n bytes x = (length bytes ≡ n) × (x ≡ bytes)
 abbrev pub Sized : Grammar (List ℕ)
 Sized = Then Number (λ n back y. (n ≡ pos (length back)) × (y ≡ back))
 
--- n spellings of P, one after another
+-- n encodings of P, one after another
 abbrev pub Many : {A : Type 0} → Grammar A → ℕ → Grammar (List A)
 Many P zero bytes xs = (bytes ≡ []) × (xs ≡ [])
 Many {A} P (suc n) bytes xs = Then P (λ x back ys. (more : List A) × (ys ≡ x ∷ more) × Many P n back more) bytes xs
 
--- the items of an array's block, behind its count c: c items where c is above 0; where it is below,
--- -c items behind their length in bytes (Avro 1.11, "Arrays")
+-- the items of an array's block, after its count c: c items where c is above 0; where it is below,
+-- -c items after their length in bytes (Avro 1.11, "Arrays"), which has to be exact: the standard leaves open
+-- what a false one means. No block has the count -2 ^ 63.
 abbrev pub BlockOf : {A : Type 0} → Grammar A → ℤ → Grammar (List A)
 BlockOf P (pos zero) bytes xs = ⊥
 BlockOf P (pos (suc n)) bytes xs = (suc n < 2 ^ 63) × Many P (suc n) bytes xs
@@ -49,4 +50,4 @@ BlockOf P (negsuc n) bytes xs =
 -- an array: blocks, and then the number 0
 pub data Blocks {A : Type 0} (P : List ℕ → A → Type 0) : List ℕ → List A → Type 0 where
   last : {bytes : List ℕ} → Number bytes (pos 0) → Blocks P bytes []
-  block : (front items rest : List ℕ) (count : ℤ) (xs ys : List A) → Number front count → BlockOf P count items xs → Blocks P rest ys → Blocks P (front ++ (items ++ rest)) (xs ++ ys)
+  block : (prefix items rest : List ℕ) (count : ℤ) (xs ys : List A) → Number prefix count → BlockOf P count items xs → Blocks P rest ys → Blocks P (prefix ++ (items ++ rest)) (xs ++ ys)

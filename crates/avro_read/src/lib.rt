@@ -1,22 +1,7 @@
-//! Avro blocks into columns: the schema of the columns, the builders, and the decoder.
+//! Reading Avro: the schema of the columns of a record, the builders, and blocks into columns.
 #![tactic(auto)]
 
-mod blocks;
-mod carried;
-mod decode;
-mod fault;
-mod laws;
-mod nested;
-mod rows;
-mod schema;
-#[cfg(test)]
-mod schema_tests;
-mod skip;
-#[cfg(test)]
-mod tests;
-mod texts;
-
-pub use blocks::{deserialize, deserialize_into};
-pub use laws::{reserved_room_stays, valid_blocks_are_read};
-pub use nested::make_builders;
-pub use schema::infer_schema;
+pub use avro_decode::{
+    deserialize, deserialize_into, infer_schema, make_builders, reserved_capacity_stays,
+    valid_blocks_are_read,
+};

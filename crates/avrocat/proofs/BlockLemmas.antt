@@ -3,12 +3,13 @@ use Rattle.std.proofs.Common.{◌≡◌, ℕ, suc, Bool, true, false, List, [], 
 use Rattle.arrow_types.specs.declared.types.Field.{Field}
 use Rattle.arrow_array.specs.declared.array.Array.{Array}
 use Rattle.arrow_array.specs.Arrays.{array_type, array_slots}
-use Rattle.avro_file.specs.declared.schema.AvroField.{AvroField}
-use Rattle.avro_reading.specs.ValidBlock.{kept}
-use Rattle.avro_read.specs.Columns.{AreColumns}
-use Rattle.avro_read.specs.Today.{kept_types}
+use Rattle.avro_schema.specs.declared.schema.AvroField.{AvroField}
+use Rattle.avro_grammar.specs.ValidBlock.{kept}
+use Rattle.avro_decode.specs.Columns.{AreColumns}
+use Rattle.avro_decode.specs.Supported.{kept_types}
 use Rattle.avrocat.specs.Shown.{shown}
-use Rattle.avrocat.specs.Blocks.{ShowsBlock}
+use Rattle.avrocat.specs.declared.command.BlockWords.{BlockWords}
+use Rattle.avrocat.specs.Blocks.{IsValid, ShowsBlock}
 
 mapped : {A B : Type 0} (f : A → B) (xs : List A) → length (map f xs) ≡ length xs
 mapped f [] = refl
@@ -33,13 +34,15 @@ pub a_name_each : (fields : List Field) (avro_fields : List AvroField) (keeps : 
 a_name_each fields avro_fields keeps arrays chunk names now same types is lent told =
     ap length (lent ∙ told) ∙ mapped (λ f. f.name) (kept avro_fields keeps) ∙ sym (a_column_each fields avro_fields keeps chunk same types) ∙ ap length (sym is)
 
-pub block_shown : (rows : ℕ) (fields : List Field) (avro_fields : List AvroField) (keeps : List Bool) (bytes text before : List ℕ) (arrays chunk : List Array) (names now : List (List ℕ))
-    → length fields ≡ length avro_fields → map array_type chunk ≡ kept_types fields keeps → AreColumns rows avro_fields keeps bytes (map array_slots chunk)
-    → arrays ≡ chunk → now ≡ names → names ≡ map (λ f. f.name) (kept avro_fields keeps) → before ≡ [] → text ≡ before ++ shown now (map array_slots arrays)
-    → ShowsBlock rows avro_fields keeps bytes text
-block_shown rows fields avro_fields keeps bytes text before arrays chunk names now same types read is lent told none written = record {
+pub block_shown : (block : BlockWords) (fields : List Field) (bytes text before : List ℕ) (arrays chunk : List Array) (names now : List (List ℕ))
+    → IsValid block bytes → length fields ≡ length block.avro_fields → map array_type chunk ≡ kept_types fields block.projection
+    → AreColumns block.rows block.avro_fields block.projection bytes (map array_slots chunk)
+    → arrays ≡ chunk → now ≡ names → names ≡ map (λ f. f.name) (kept block.avro_fields block.projection) → before ≡ [] → text ≡ before ++ shown now (map array_slots arrays)
+    → ShowsBlock block bytes text
+block_shown block fields bytes text before arrays chunk names now valid same types read is lent told none written = record {
+  valid = valid;
   columns = map array_slots chunk;
   read = read;
-  each = mapped array_slots chunk ∙ a_column_each fields avro_fields keeps chunk same types;
+  each = mapped array_slots chunk ∙ a_column_each fields block.avro_fields block.projection chunk same types;
   lines = written ∙ (λ i. none i ++ shown ((lent ∙ told) i) (map array_slots (is i)));
 }

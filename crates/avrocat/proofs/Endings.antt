@@ -1,27 +1,29 @@
 -- How a command ends, and what its status tells.
-use Rattle.std.proofs.Common.{◌≡◌, ◌∙◌, ◌⊎◌, inl, inr, ℕ, ◌<◌, ◌≤◌, ◌++◌, Bool, None, Some, Option, Result, Ok, Err, IfErr, MatchResult, List, [], length, refl, sym, ap, subst, arith, length-append}
+use Rattle.std.proofs.Common.{◌≡◌, ◌∙◌, ◌⊎◌, inl, inr, ℕ, ◌<◌, ◌≤◌, ◌++◌, Bool, None, Some, Option, Result, Ok, Err, IfErr, OnOk, MatchResult, List, [], length, refl, sym, ap, subst, arith, length-append}
 use Rattle.std.proofs.lemmas.List.{append-nil}
+use Rattle.std.proofs.lemmas.Option.{same_Some}
 use Rattle.std.specs.Io.KnownBytes.{Keeps}
-use Rattle.arrow_lists.specs.declared.error.Error.{Error}
-use Rattle.arrow_lists.specs.declared.error.Error.TheVariants.{InvalidArgumentError, NotYetImplemented, ExternalFormat, OutOfSpec, Overflow, LimitExceeded, ReadFault, WriteFault, OutOfMemory}
-use Rattle.arrow_lists.specs.declared.error.Reason.TheVariants as reason
-use Rattle.arrow_lists.specs.Errors.{status_of}
-use Rattle.arrow_types.specs.declared.types.Field.{Field}
-use Rattle.avro_file.specs.declared.schema.AvroField.{AvroField}
+use Rattle.arrow_core.specs.declared.error.Error.{Error}
+use Rattle.arrow_core.specs.declared.error.Error.TheVariants.{InvalidArgumentError, NotYetImplemented, ExternalFormat, OutOfSpec, Overflow, LimitExceeded, ReadFault, WriteFault, OutOfMemory}
+use Rattle.arrow_core.specs.declared.error.Reason.TheVariants as reason
+use Rattle.arrow_core.specs.Errors.{status_of}
 use Rattle.avro_grammar.proofs.RowLaws.{rows_have}
-use Rattle.avro_reading.specs.ValidBlock.{ValidBlock}
+use Rattle.avrocat.specs.declared.command.BlockWords.{BlockWords}
+use Rattle.avrocat.specs.declared.command.Command.{Command}
+use Rattle.avrocat.specs.declared.command.Command.TheVariants.{Block}
+use Rattle.avrocat.specs.Blocks.{IsValid, BlockDone}
 use Rattle.avrocat.specs.Changes.{Change, Failed}
-use Rattle.avrocat.specs.Input.{byte_limit, TakesAll, PassesLimit}
+use Rattle.avrocat.specs.Commands.{Stands, IsUsage, Done, Fails, CanBeDone, Due, IsCause, Refused}
+use Rattle.avrocat.specs.Input.{byte_limit, TakesAll, PassesLimit, Tells, TellsTooMany}
 use Rattle.avrocat.specs.Note.{error_note, Notes}
-use Rattle.avrocat.specs.Refusals.{NotShown, BlockFails, CommandFails, Refused, CanBeShown}
-use Rattle.avrocat.specs.Words.{IsBlock}
-use Rattle.avrocat.proofs.OneMeaning.{one_block}
+use Rattle.avrocat.specs.Refusals.{IsWrong, CannotBeShown, BlockFails, CanBeShown, BlockDue}
+use Rattle.avrocat.proofs.OneMeaning.{one_command}
 
 pub keeps_same : (told : Option (List ℕ)) → Keeps told told
 keeps_same None = tt
 keeps_same (Some bytes) = refl
 
--- ---- a block that can be shown has no cause to fail
+-- ---- what is taken of a source that tells its bytes
 
 no_more : (bytes taken left : List ℕ) → bytes ≡ taken ++ left → length taken ≤ length bytes
 no_more bytes taken left is = omega (arith, ap length is, length-append taken left)
@@ -45,51 +47,208 @@ takes_told (Some held) (Some rest) bytes taken told all =
     let same : held ≡ bytes = cc in
     sym (append_none taken rest all.whole) ∙ sym all.taken ∙ same
 
-no_reason : (rows : ℕ) (avro_fields : List AvroField) (keeps : List Bool) (bytes : List ℕ) (fields : List Field) → ValidBlock rows bytes fields avro_fields keeps → (e : Error) → NotShown rows avro_fields keeps bytes e → e ≡ OutOfMemory
-no_reason rows avro_fields keeps bytes fields v (NotYetImplemented reason.NoField) h = absurd (omega (arith, ap length h, v.columns.some, v.columns.lengths.0))
-no_reason rows avro_fields keeps bytes fields v (NotYetImplemented reason.NotCarried) h = absurd (h v.columns.carried)
-no_reason rows avro_fields keeps bytes fields v (ExternalFormat reason.Rows) h =
-    absurd (omega (arith, h.1, rows_have rows avro_fields keeps bytes v.table (omega (arith, v.columns.some, v.columns.lengths.0)) v.columns.carried v.rows))
-no_reason rows avro_fields keeps bytes fields v (ExternalFormat reason.BlockBytes) h = absurd (h.2 v.table v.rows)
-no_reason rows avro_fields keeps bytes fields v OutOfMemory h = refl
-no_reason rows avro_fields keeps bytes fields v _ h = absurd h
+tells_one : (source : Change) (bytes other : List ℕ) → source.bytes ≡ Some bytes → source.bytes ≡ Some other → bytes ≡ other
+tells_one source bytes other p q = same_Some bytes other (sym p ∙ q)
 
-module _ (words : List (List ℕ)) (source sink : Change) (can : CanBeShown words source.bytes) (steady : Failed source → ⊥) (open_ended : Failed sink → ⊥) where
-  block_stands : (e : Error) → BlockFails source sink can.rows can.avro_fields can.projection e → e ≡ OutOfMemory
-  block_stands (ReadFault None) h = absurd (steady h)
-  block_stands LimitExceeded h = absurd (within_told source.bytes source.bytes_after can.bytes can.told can.within h)
-  block_stands WriteFault h = absurd (open_ended h.failed)
-  block_stands OutOfMemory h = refl
-  block_stands (ReadFault (Some line)) h = absurd h.2
-  block_stands (InvalidArgumentError r) h = absurd h.2
-  block_stands (OutOfSpec r) h = absurd h.2
-  block_stands Overflow h = absurd h.2
-  block_stands (NotYetImplemented r) h = of_bytes (NotYetImplemented r) h.0 h.1 h.2
+-- ---- one thing at most is wrong with a block, and nothing with a valid one
+
+valid_is_right : (block : BlockWords) (bytes : List ℕ) → IsValid block bytes → (e : Error) → IsWrong block bytes e → ⊥
+valid_is_right block bytes v (NotYetImplemented reason.NoField) h = omega (arith, ap length h, v.valid.columns.some, v.valid.columns.lengths.0)
+valid_is_right block bytes v (NotYetImplemented reason.NotCarried) h = h.1 v.supported
+valid_is_right block bytes v (ExternalFormat reason.Rows) h =
+    omega (arith, h.1, rows_have block.rows block.avro_fields block.projection bytes v.valid.table (omega (arith, v.valid.columns.some, v.valid.columns.lengths.0)) v.valid.columns.carried v.valid.rows)
+valid_is_right block bytes v (ExternalFormat reason.BlockBytes) h = h.2 v.valid.table v.valid.rows
+valid_is_right block bytes v _ h = h
+
+one_wrong : (block : BlockWords) (bytes : List ℕ) (one other : Error) → IsWrong block bytes one → IsWrong block bytes other → one ≡ other
+one_wrong block bytes (NotYetImplemented reason.NoField) (NotYetImplemented reason.NoField) h d = refl
+one_wrong block bytes (NotYetImplemented reason.NoField) (NotYetImplemented reason.NotCarried) h d = absurd (omega (arith, ap length h, d.0))
+one_wrong block bytes (NotYetImplemented reason.NoField) (ExternalFormat reason.Rows) h d = absurd (omega (arith, ap length h, d.0.0))
+one_wrong block bytes (NotYetImplemented reason.NoField) (ExternalFormat reason.BlockBytes) h d = absurd (omega (arith, ap length h, d.0.0))
+one_wrong block bytes (NotYetImplemented reason.NoField) _ h d = absurd d
+one_wrong block bytes (NotYetImplemented reason.NotCarried) (NotYetImplemented reason.NoField) h d = absurd (omega (arith, ap length d, h.0))
+one_wrong block bytes (NotYetImplemented reason.NotCarried) (NotYetImplemented reason.NotCarried) h d = refl
+one_wrong block bytes (NotYetImplemented reason.NotCarried) (ExternalFormat reason.Rows) h d = absurd (h.1 d.0.1)
+one_wrong block bytes (NotYetImplemented reason.NotCarried) (ExternalFormat reason.BlockBytes) h d = absurd (h.1 d.0.1)
+one_wrong block bytes (NotYetImplemented reason.NotCarried) _ h d = absurd d
+one_wrong block bytes (ExternalFormat reason.Rows) (NotYetImplemented reason.NoField) h d = absurd (omega (arith, ap length d, h.0.0))
+one_wrong block bytes (ExternalFormat reason.Rows) (NotYetImplemented reason.NotCarried) h d = absurd (d.1 h.0.1)
+one_wrong block bytes (ExternalFormat reason.Rows) (ExternalFormat reason.Rows) h d = refl
+one_wrong block bytes (ExternalFormat reason.Rows) (ExternalFormat reason.BlockBytes) h d = absurd (omega (arith, h.1, d.1))
+one_wrong block bytes (ExternalFormat reason.Rows) _ h d = absurd d
+one_wrong block bytes (ExternalFormat reason.BlockBytes) (NotYetImplemented reason.NoField) h d = absurd (omega (arith, ap length d, h.0.0))
+one_wrong block bytes (ExternalFormat reason.BlockBytes) (NotYetImplemented reason.NotCarried) h d = absurd (d.1 h.0.1)
+one_wrong block bytes (ExternalFormat reason.BlockBytes) (ExternalFormat reason.Rows) h d = absurd (omega (arith, h.1, d.1))
+one_wrong block bytes (ExternalFormat reason.BlockBytes) (ExternalFormat reason.BlockBytes) h d = refl
+one_wrong block bytes (ExternalFormat reason.BlockBytes) _ h d = absurd d
+one_wrong block bytes _ other h d = absurd h
+
+-- ---- what is due
+
+-- too many bytes, or bytes within the limit of which the error is right
+abbrev Because : BlockWords → Change → Error → Type 0
+Because block source e = ((e ≡ LimitExceeded) × TellsTooMany source) ⊎ ((bytes : List ℕ) × Tells source bytes × IsWrong block bytes e)
+
+because : (block : BlockWords) (source : Change) (e : Error) → BlockDue block source e → Because block source e
+because block source (InvalidArgumentError r) h = inr h
+because block source (NotYetImplemented r) h = inr h
+because block source (ExternalFormat r) h = inr h
+because block source (OutOfSpec r) h = inr h
+because block source Overflow h = inr h
+because block source LimitExceeded h = inl (refl, h)
+because block source (ReadFault line) h = inr h
+because block source WriteFault h = inr h
+because block source OutOfMemory h = inr h
+
+not_both : (source : Change) (bytes : List ℕ) → TellsTooMany source → Tells source bytes → ⊥
+not_both source bytes many tells = omega (arith, many.beyond, tells.within, ap length (tells_one source many.bytes bytes many.told tells.told))
+
+one_because : (block : BlockWords) (source : Change) (one other : Error) → Because block source one → Because block source other → one ≡ other
+one_because block source one other (inl h) (inl d) = h.0 ∙ sym d.0
+one_because block source one other (inl h) (inr (bytes, tells, d)) = absurd (not_both source bytes h.1 tells)
+one_because block source one other (inr (bytes, tells, h)) (inl d) = absurd (not_both source bytes d.1 tells)
+one_because block source one other (inr (bytes, tells, h)) (inr (others, told, d)) =
+    one_wrong block bytes one other h (subst (λ z. IsWrong block z other) (sym (tells_one source bytes others tells.told told.told)) d)
+
+pub one_due : (command : Command) (source : Change) (one other : Error) → Due command source one → Due command source other → one ≡ other
+one_due (Block block) source one other h d = one_because block source one other (because block source one h) (because block source other d)
+
+right_because : (block : BlockWords) (source : Change) (e : Error) → CanBeShown block source → Because block source e → ⊥
+right_because block source e (bytes, tells, valid) (inl h) = not_both source bytes h.1 tells
+right_because block source e (bytes, tells, valid) (inr (others, told, h)) =
+    valid_is_right block bytes valid e (subst (λ z. IsWrong block z e) (sym (tells_one source bytes others tells.told told.told)) h)
+
+pub none_due : (command : Command) (source : Change) (e : Error) → CanBeDone command source → Due command source e → ⊥
+none_due (Block block) source e can h = right_because block source e can (because block source e h)
+
+-- ---- how a block ends, against what is due
+
+-- the source is steady, and tells its bytes
+abbrev Steady : Change → Type 0
+Steady source = (Failed source → ⊥) × ((bytes : List ℕ) × (source.bytes ≡ Some bytes))
+
+-- of such a source only what is due comes, out of memory aside
+told_wrong : (block : BlockWords) (source : Change) (e : Error) → Steady source → CannotBeShown block source e → (e ≡ OutOfMemory) ⊎ BlockDue block source e
+told_wrong block source (ReadFault None) s h = absurd (s.0 h)
+told_wrong block source LimitExceeded (steady, (bytes, told)) h = inr (record { bytes = bytes; told = told; beyond = beyond; steady = steady })
+  where
+    passed : (left left_after : Option (List ℕ)) → left ≡ Some bytes → PassesLimit left left_after → byte_limit < length bytes
+    passed None left_after e p = absurd cc
+    passed (Some held) None e (taken, many, c) = absurd c
+    passed (Some held) (Some rest) e (taken, many, c) = let same : held ≡ bytes = cc in omega (arith, no_more held taken rest c, ap length same, many)
+
+    beyond : byte_limit < length bytes
+    beyond = passed source.bytes source.bytes_after told h
+told_wrong block source OutOfMemory s h = inl refl
+told_wrong block source (ReadFault (Some line)) s h = absurd h.2
+told_wrong block source (InvalidArgumentError r) s h = absurd h.2
+told_wrong block source (OutOfSpec r) s h = absurd h.2
+told_wrong block source Overflow s h = absurd h.2
+told_wrong block source WriteFault s h = absurd h.2
+told_wrong block source (NotYetImplemented r) (steady, (bytes, told)) (taken, all, h) =
+    let same = takes_told source.bytes source.bytes_after bytes taken told all in
+    inr (taken, record { told = told ∙ ap Some (sym same); within = all.within; steady = steady }, h)
+told_wrong block source (ExternalFormat r) (steady, (bytes, told)) (taken, all, h) =
+    let same = takes_told source.bytes source.bytes_after bytes taken told all in
+    inr (taken, record { told = told ∙ ap Some (sym same); within = all.within; steady = steady }, h)
+
+-- what was shown of such a source can be shown
+told_right : (block : BlockWords) (source : Change) (bytes : List ℕ) → Steady source → TakesAll source.bytes source.bytes_after bytes → IsValid block bytes → CanBeShown block source
+told_right block source bytes (steady, (told_bytes, told)) all valid =
+    let same = takes_told source.bytes source.bytes_after told_bytes bytes told all in
+    (bytes, record { told = told ∙ ap Some (sym same); within = all.within; steady = steady }, valid)
+
+-- a failed block had no memory, or its error was due, or its sink failed on what can be shown
+abbrev Ending : BlockWords → Change → Change → Error → Type 0
+Ending block source sink e = ((e ≡ OutOfMemory) ⊎ BlockDue block source e) ⊎ (Failed sink × CanBeShown block source)
+
+ending : (block : BlockWords) (source sink : Change) (e : Error) → Steady source → BlockFails block source sink e → Ending block source sink e
+ending block source sink WriteFault s h = inr (h.failed, told_right block source h.bytes s h.read h.shows.valid)
+ending block source sink (InvalidArgumentError r) s h = inl (told_wrong block source (InvalidArgumentError r) s h.1)
+ending block source sink (NotYetImplemented r) s h = inl (told_wrong block source (NotYetImplemented r) s h.1)
+ending block source sink (ExternalFormat r) s h = inl (told_wrong block source (ExternalFormat r) s h.1)
+ending block source sink (OutOfSpec r) s h = inl (told_wrong block source (OutOfSpec r) s h.1)
+ending block source sink Overflow s h = inl (told_wrong block source Overflow s h.1)
+ending block source sink LimitExceeded s h = inl (told_wrong block source LimitExceeded s h.1)
+ending block source sink (ReadFault line) s h = inl (told_wrong block source (ReadFault line) s h.1)
+ending block source sink OutOfMemory s h = inl (inl refl)
+
+steady_can : (block : BlockWords) (source : Change) → CanBeShown block source → Steady source
+steady_can block source (bytes, tells, valid) = (tells.steady, (bytes, tells.told))
+
+steady_because : (block : BlockWords) (source : Change) (e : Error) → Because block source e → Steady source
+steady_because block source e (inl h) = (h.1.steady, (h.1.bytes, h.1.told))
+steady_because block source e (inr (bytes, tells, h)) = (tells.steady, (bytes, tells.told))
+
+-- ---- of every command
+
+fails_in_memory : (command : Command) (source sink : Change) (e : Error) → CanBeDone command source → (Failed sink → ⊥) → Fails command source sink e → e ≡ OutOfMemory
+fails_in_memory (Block block) source sink e can open_ended h = from (ending block source sink e (steady_can block source can) h)
+  where
+    from : Ending block source sink e → e ≡ OutOfMemory
+    from (inl (inl is)) = is
+    from (inl (inr due)) = absurd (none_due (Block block) source e can due)
+    from (inr broken) = absurd (open_ended broken.0)
+
+fails_as_due : (command : Command) (source sink : Change) (e due : Error) → Due command source due → Fails command source sink e → (e ≡ OutOfMemory) ⊎ (e ≡ due)
+fails_as_due (Block block) source sink e due h fails = from (ending block source sink e (steady_because block source due (because block source due h)) fails)
+  where
+    from : Ending block source sink e → (e ≡ OutOfMemory) ⊎ (e ≡ due)
+    from (inl (inl is)) = inl is
+    from (inl (inr d)) = inr (one_due (Block block) source e due d h)
+    from (inr broken) = absurd (none_due (Block block) source due broken.1 h)
+
+done_not_due : (command : Command) (source sink : Change) (due : Error) → Due command source due → Done command source sink → ⊥
+done_not_due (Block block) source sink due h done =
+    none_due (Block block) source due (told_right block source done.bytes (steady_because block source due (because block source due h)) done.read done.shows.valid) h
+
+status_above : (e : Error) → 1 < status_of e
+status_above (InvalidArgumentError r) = omega arith
+status_above (NotYetImplemented r) = omega arith
+status_above (ExternalFormat r) = omega arith
+status_above (OutOfSpec r) = omega arith
+status_above Overflow = omega arith
+status_above LimitExceeded = omega arith
+status_above (ReadFault line) = omega arith
+status_above WriteFault = omega arith
+status_above OutOfMemory = omega arith
+
+-- what the status tells that concludes the answer of a command
+abbrev Told : ℕ → Change → Result Unit Error → Type 0
+Told status note answer = MatchResult answer (λ _. (status ≡ 0) × Keeps note.bytes note.bytes_after) (λ e. (status ≡ status_of e) × Notes note (error_note e))
+
+module _ (status : ℕ) (words : List (List ℕ)) (source sink note : Change) (command : Command) (stands : Stands words command) where
+  pub is_done : (answer : Result Unit Error) → Told status note answer → OnOk answer (Done command source sink) → status ≡ 0
+      → (c : Command) × Stands words c × Done c source sink
+  is_done (Ok _) told done is = (command, stands, done)
+  is_done (Err e) told done is = absurd (omega (arith, status_above e, told.0, is))
+
+  pub is_silent : (answer : Result Unit Error) → Told status note answer → status ≡ 0 → Keeps note.bytes note.bytes_after
+  is_silent (Ok _) told is = told.1
+  is_silent (Err e) told is = absurd (omega (arith, status_above e, told.0, is))
+
+  pub not_one : (answer : Result Unit Error) → Told status note answer → status ≡ 1 → ⊥
+  not_one (Ok _) told is = omega (arith, told.0, is)
+  not_one (Err e) told is = omega (arith, status_above e, told.0, is)
+
+  pub is_refused : (answer : Result Unit Error) → Told status note answer → IfErr answer (Fails command source sink) → 1 < status → Refused status words source sink note
+  is_refused (Ok _) told fails more = absurd (omega (arith, told.0, more))
+  is_refused (Err e) told fails more = record { error = e; is = told.0; cause = inr (command, stands, fails); noted = told.1 }
+
+  pub is_complete : (answer : Result Unit Error) → Told status note answer → IfErr answer (Fails command source sink)
+      → (c : Command) → Stands words c → CanBeDone c source → (Failed sink → ⊥) → (status ≡ 0) ⊎ (status ≡ 10)
+  is_complete (Ok _) told fails c asked can open_ended = inl told.0
+  is_complete (Err e) told fails c asked can open_ended =
+      let same = one_command words command c stands asked in
+      inr (told.0 ∙ ap status_of (fails_in_memory c source sink e can open_ended (subst (λ z. Fails z source sink e) same fails)))
+
+  pub is_due : (answer : Result Unit Error) → Told status note answer → OnOk answer (Done command source sink) → IfErr answer (Fails command source sink)
+      → (c : Command) (e : Error) → Stands words c → Due c source e → (status ≡ status_of e) ⊎ (status ≡ 10)
+  is_due (Ok _) told done fails c e asked due =
+      let same = one_command words command c stands asked in
+      absurd (done_not_due c source sink e due (subst (λ z. Done z source sink) same done))
+  is_due (Err d) told done fails c e asked due = from (fails_as_due c source sink d e due (subst (λ z. Fails z source sink d) (one_command words command c stands asked) fails))
     where
-      of_bytes : (e : Error) (bytes : List ℕ) → TakesAll source.bytes source.bytes_after bytes → NotShown can.rows can.avro_fields can.projection bytes e → e ≡ OutOfMemory
-      of_bytes e bytes all h = no_reason can.rows can.avro_fields can.projection can.bytes can.fields can.valid e (subst (λ z. NotShown can.rows can.avro_fields can.projection z e) (takes_told source.bytes source.bytes_after can.bytes bytes can.told all) h)
-  block_stands (ExternalFormat r) h =
-      no_reason can.rows can.avro_fields can.projection can.bytes can.fields can.valid (ExternalFormat r) (subst (λ z. NotShown can.rows can.avro_fields can.projection z (ExternalFormat r)) (takes_told source.bytes source.bytes_after can.bytes h.0 can.told h.1) h.2)
-
-  stands : (e : Error) → CommandFails words source sink e → e ≡ OutOfMemory
-  stands e (inl h) = h
-  stands e (inr (rows, fields, projection, asked, h)) =
-      let same = one_block words rows can.rows fields can.avro_fields projection can.projection asked can.asked in
-      block_stands e (subst (λ p. BlockFails source sink can.rows can.avro_fields p e) same.projection_same
-      (subst (λ f. BlockFails source sink can.rows f projection e) same.fields_same
-      (subst (λ n. BlockFails source sink n fields projection e) same.rows_same h)))
-
--- ---- how a block ends
-
--- what the status that concludes a block's answer tells
-module _ (status : ℕ) (words : List (List ℕ)) (source sink note : Change) (rows : ℕ) (fields : List AvroField) (projection : List Bool) where
-  pub block_refused : (answer : Result Unit Error) → MatchResult answer (λ _. (status ≡ 0) × Keeps note.bytes note.bytes_after) (λ e. (status ≡ status_of e) × Notes note (error_note e))
-      → IfErr answer (BlockFails source sink rows fields projection) → IsBlock words rows fields projection → 1 < status → Refused status words source sink note
-  block_refused (Ok _) told fails asked more = absurd (omega (arith, told.0, more))
-  block_refused (Err e) told fails asked more = record { error = e; is = told.0; cause = inr (rows, fields, projection, asked, fails); noted = told.1 }
-
-  pub block_complete : (answer : Result Unit Error) → MatchResult answer (λ _. (status ≡ 0) × Keeps note.bytes note.bytes_after) (λ e. (status ≡ status_of e) × Notes note (error_note e))
-      → IfErr answer (BlockFails source sink rows fields projection) → IsBlock words rows fields projection
-      → CanBeShown words source.bytes → (Failed source → ⊥) → (Failed sink → ⊥) → (status ≡ 0) ⊎ (status ≡ 10)
-  block_complete (Ok _) told fails asked can steady open_ended = inl told.0
-  block_complete (Err e) told fails asked can steady open_ended = inr (told.0 ∙ ap status_of (stands words source sink can steady open_ended e (inr (rows, fields, projection, asked, fails))))
+      from : (d ≡ OutOfMemory) ⊎ (d ≡ e) → (status ≡ status_of e) ⊎ (status ≡ 10)
+      from (inl is) = inr (told.0 ∙ ap status_of is)
+      from (inr is) = inl (told.0 ∙ ap status_of is)

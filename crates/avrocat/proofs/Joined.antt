@@ -20,7 +20,7 @@ next (x ∷ y ∷ ys) (suc (suc m)) h =
     rw outer (append_assoc (slot_text x ++ (44 ∷ before)) (codes ",") text ∙ append_assoc (slot_text x) (44 ∷ before) (44 ∷ text)
     ∙ ap (λ z. slot_text x ++ (44 ∷ z)) (sym (append_assoc before (codes ",") text) ∙ further))
 
--- What follows a text and the slots before place i: a comma where one is wanted, and slot i.
+-- What follows a text and the slots before index i: a comma where one is wanted, and slot i.
 pub joined_more : (text slots_before with_comma with_slot : List ℕ) (xs : List Slot) (i : ℕ) → i < length xs
     → slots_before ≡ text ++ joined (map slot_text (take i xs))
     → with_comma ≡ slots_before ++ (if i == 0 then [] else codes ",")

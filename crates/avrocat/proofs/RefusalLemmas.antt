@@ -1,19 +1,22 @@
 -- From the refusals of the parts to those of a block.
-use Rattle.std.proofs.Common.{◌≡◌, ◌≢◌, ◌∙◌, ◌⊎◌, inl, inr, ◌↔◌, ℕ, suc, ◌≤◌, Bool, None, Result, Ok, Err, IfErr, OnErr, List, [], ◌∷◌, length, refl, sym, ap, subst, arith}
+use Rattle.std.proofs.Common.{◌≡◌, ◌∙◌, ◌⊎◌, inl, inr, ℕ, zero, suc, ◌<◌, ◌≤◌, Bool, None, Some, Result, Ok, Err, IfErr, OnErr, List, [], ◌∷◌, length, refl, sym, ap, subst, arith}
 use Rattle.std.specs.List.{AllZip}
-use Rattle.arrow_lists.specs.declared.error.Error.{Error}
-use Rattle.arrow_lists.specs.declared.error.Error.TheVariants.{InvalidArgumentError, NotYetImplemented, ExternalFormat, OutOfSpec, Overflow, LimitExceeded, ReadFault, WriteFault, OutOfMemory}
-use Rattle.arrow_lists.specs.declared.error.Reason.TheVariants as reason
+use Rattle.std.specs.Io.KnownBytes.{Keeps}
+use Rattle.arrow_core.specs.declared.error.Error.{Error}
+use Rattle.arrow_core.specs.declared.error.Error.TheVariants.{InvalidArgumentError, NotYetImplemented, ExternalFormat, OutOfSpec, Overflow, LimitExceeded, ReadFault, WriteFault, OutOfMemory}
+use Rattle.arrow_core.specs.declared.error.Reason.TheVariants as reason
 use Rattle.arrow_types.specs.declared.types.Field.{Field}
-use Rattle.avro_file.specs.declared.schema.AvroField.{AvroField}
-use Rattle.avro_grammar.specs.Carried.{CarriedList}
-use Rattle.avro_read.specs.Today.{AllCarriedToday, FitToday}
-use Rattle.avro_read.specs.Refusals.{BelongTogether, FieldsRefused, BytesRefused, BlockRefused}
+use Rattle.avro_schema.specs.declared.schema.AvroField.{AvroField}
+use Rattle.avro_grammar.specs.Inferred.{own_doc, inferred_columns}
+use Rattle.avro_decode.specs.Supported.{AllSupported, AllTyped}
+use Rattle.avro_decode.specs.Refusals.{BelongTogether, FieldsRefused, BytesRefused, BlockRefused}
 use Rattle.arrow_base.specs.Outside.{AppendsPrefix}
+use Rattle.avrocat.specs.declared.command.BlockWords.{BlockWords}
 use Rattle.avrocat.specs.Blocks.{ShowsBlock}
 use Rattle.avrocat.specs.Changes.{Change, Failed}
 use Rattle.avrocat.specs.Input.{byte_limit, TakesAll, NotRead}
-use Rattle.avrocat.specs.Refusals.{NotShown, BlockFails}
+use Rattle.avrocat.specs.Refusals.{IsWrong, CannotBeShown, BlockFails}
+use Rattle.avrocat.proofs.ColumnLemmas.{columns_fit}
 
 zip_length : {A B : Type 0} (R : A → B → Type 0) (xs : List A) (ys : List B) → AllZip R xs ys → length xs ≡ length ys
 zip_length R [] [] h = refl
@@ -25,62 +28,72 @@ none_left : {A B : Type 0} (xs : List A) (ys : List B) → length xs ≡ length 
 none_left xs [] same none = refl
 none_left xs (y ∷ ys) same none = absurd (omega (arith, same, ap length none))
 
--- What `deserialize` tells of columns that fit, in the words of a block.
-module _ (rows : ℕ) (fields : List Field) (avro_fields : List AvroField) (keeps : List Bool) (bytes : List ℕ)
-    (same : length avro_fields ≡ length keeps) (fit : FitToday fields avro_fields) (alike : CarriedList avro_fields ↔ AllCarriedToday avro_fields) (few : length bytes ≤ byte_limit) where
-  each : length fields ≡ length avro_fields
-  each = zip_length _ fields avro_fields fit
+-- where a schema isn't carried, there is a field
+some_field : (fields : List AvroField) → (AllSupported fields → ⊥) → 0 < length fields
+some_field [] none = absurd (none (λ k d lt. absurd (omega (arith, lt))))
+some_field (f ∷ fs) none = omega arith
 
-  by_fields : (e : Error) → FieldsRefused fields avro_fields keeps e → NotShown rows avro_fields keeps bytes e
+-- What `deserialize` tells of columns that the schemas have, in the words of a block.
+module _ (block : BlockWords) (fields : List Field) (bytes : List ℕ)
+    (same : length block.avro_fields ≡ length block.projection) (typed : inferred_columns block.avro_fields ≡ Some fields) (few : length bytes ≤ byte_limit) where
+  fit : AllTyped fields block.avro_fields
+  fit = columns_fit own_doc block.avro_fields fields typed
+
+  each : length fields ≡ length block.avro_fields
+  each = zip_length _ fields block.avro_fields fit
+
+  by_fields : (e : Error) → FieldsRefused fields block.avro_fields block.projection e → (e ≡ OutOfMemory) ⊎ IsWrong block bytes e
   by_fields (InvalidArgumentError reason.Lengths) h = absurd (h (each, each ∙ same))
-  by_fields (NotYetImplemented reason.NoField) h = none_left fields avro_fields each h.1
-  by_fields (NotYetImplemented reason.NotCarried) h = λ c. h.2 (alike.0 c)
+  by_fields (NotYetImplemented reason.NoField) h = inr (none_left fields block.avro_fields each h.1)
+  by_fields (NotYetImplemented reason.NotCarried) h = inr (omega (arith, h.1, each), h.2)
   by_fields (InvalidArgumentError reason.FieldType) h = absurd (h.3 fit)
-  by_fields OutOfMemory h = tt
+  by_fields OutOfMemory h = inl refl
   by_fields _ h = absurd h
 
-  by_bytes : (e : Error) → BelongTogether fields avro_fields keeps → BytesRefused rows avro_fields keeps bytes e → NotShown rows avro_fields keeps bytes e
+  by_bytes : (e : Error) → BelongTogether fields block.avro_fields block.projection → BytesRefused block.rows block.avro_fields block.projection bytes e → (e ≡ OutOfMemory) ⊎ IsWrong block bytes e
   by_bytes Overflow b h = absurd (omega (arith, h, few))
-  by_bytes (ExternalFormat reason.Rows) b h = ((omega (arith, b.some, each), alike.1 b.carried), h.1)
-  by_bytes (ExternalFormat reason.BlockBytes) b h = ((omega (arith, b.some, each), alike.1 b.carried), h.0.1, h.1)
-  by_bytes OutOfMemory b h = tt
+  by_bytes (ExternalFormat reason.Rows) b h = inr ((omega (arith, b.some, each), b.supported), h.1)
+  by_bytes (ExternalFormat reason.BlockBytes) b h = inr ((omega (arith, b.some, each), b.supported), h.0.1, h.1)
+  by_bytes OutOfMemory b h = inl refl
   by_bytes _ b h = absurd h
 
-  pub not_shown : (e : Error) → BlockRefused fields rows avro_fields keeps bytes e → NotShown rows avro_fields keeps bytes e
-  not_shown e (inl h) = by_fields e h
-  not_shown e (inr h) = by_bytes e h.0 h.1
+  pub is_wrong : (e : Error) → BlockRefused fields block.rows block.avro_fields block.projection bytes e → (e ≡ OutOfMemory) ⊎ IsWrong block bytes e
+  is_wrong e (inl h) = by_fields e h
+  is_wrong e (inr h) = by_bytes e h.0 h.1
 
 -- a schema without a column is not carried
-pub no_column : (rows : ℕ) (avro_fields now : List AvroField) (keeps : List Bool) (bytes : List ℕ) (e : Error) → now ≡ avro_fields → CarriedList avro_fields ↔ AllCarriedToday avro_fields
-    → (e ≡ OutOfMemory) ⊎ ((e ≡ NotYetImplemented reason.NotCarried) × (AllCarriedToday now → ⊥)) → NotShown rows avro_fields keeps bytes e
-no_column rows avro_fields now keeps bytes e lent alike (inl h) = subst (NotShown rows avro_fields keeps bytes) (sym h) tt
-no_column rows avro_fields now keeps bytes e lent alike (inr h) = subst (NotShown rows avro_fields keeps bytes) (sym h.0) (λ c. h.1 (subst AllCarriedToday (sym lent) (alike.0 c)))
+pub no_column : (block : BlockWords) (now : List AvroField) (bytes : List ℕ) (e : Error) → now ≡ block.avro_fields
+    → (e ≡ OutOfMemory) ⊎ ((e ≡ NotYetImplemented reason.NotCarried) × (AllSupported now → ⊥)) → (e ≡ OutOfMemory) ⊎ IsWrong block bytes e
+no_column block now bytes e lent (inl h) = inl h
+no_column block now bytes e lent (inr h) =
+    let none : AllSupported block.avro_fields → ⊥ = λ all. h.1 (subst AllSupported (sym lent) all) in
+    inr (subst (IsWrong block bytes) (sym h.0) (some_field block.avro_fields none, none))
 
-module _ (source sink : Change) (rows : ℕ) (fields : List AvroField) (keeps : List Bool) where
-  pub not_read : (e : Error) → NotRead source e → BlockFails source sink rows fields keeps e
-  not_read (ReadFault None) h = h
-  not_read LimitExceeded h = h
-  not_read OutOfMemory h = tt
-  not_read _ h = absurd h
+-- the same of lists that are those of the block
+pub of_block : {X : Type 0} (block : BlockWords) (fields : List AvroField) (keeps : List Bool) (bytes given : List ℕ) (answer : Result X Error)
+    → fields ≡ block.avro_fields → keeps ≡ block.projection → given ≡ bytes
+    → IfErr answer (λ e. (e ≡ OutOfMemory) ⊎ IsWrong (record { rows = block.rows; avro_fields = fields; projection = keeps }) given e)
+    → IfErr answer (λ e. (e ≡ OutOfMemory) ⊎ IsWrong block bytes e)
+of_block block fields keeps bytes given answer same_fields same_keeps same_bytes h =
+    subst (λ (p : BlockWords × List ℕ). IfErr answer (λ e. (e ≡ OutOfMemory) ⊎ IsWrong p.0 p.1 e))
+    (λ i. (record { rows = block.rows; avro_fields = same_fields i; projection = same_keeps i }, same_bytes i)) h
 
-  pub by_what_was_read : (e : Error) (bytes : List ℕ) → TakesAll source.bytes source.bytes_after bytes → NotShown rows fields keeps bytes e → BlockFails source sink rows fields keeps e
-  by_what_was_read (InvalidArgumentError r) bytes all h = absurd h
-  by_what_was_read (NotYetImplemented r) bytes all h = (bytes, all, h)
-  by_what_was_read (ExternalFormat r) bytes all h = (bytes, all, h)
-  by_what_was_read (OutOfSpec r) bytes all h = absurd h
-  by_what_was_read Overflow bytes all h = absurd h
-  by_what_was_read LimitExceeded bytes all h = absurd h
-  by_what_was_read (ReadFault line) bytes all h = absurd h
-  by_what_was_read WriteFault bytes all h = absurd h
-  by_what_was_read OutOfMemory bytes all h = tt
+module _ (block : BlockWords) (source sink : Change) where
+  pub not_read : (e : Error) → Keeps sink.bytes sink.bytes_after → NotRead source e → BlockFails block source sink e
+  not_read (ReadFault None) keeps h = (keeps, h)
+  not_read LimitExceeded keeps h = (keeps, h)
+  not_read OutOfMemory keeps h = (keeps, tt)
+  not_read _ keeps h = absurd h
 
-  pub write_fails : (answer : Result Unit Error) (bytes text : List ℕ) → TakesAll source.bytes source.bytes_after bytes → ShowsBlock rows fields keeps bytes text
-      → IfErr answer (λ e. e ≡ WriteFault) → OnErr answer (AppendsPrefix sink.bytes sink.bytes_after text) → OnErr answer (Failed sink) → IfErr answer (BlockFails source sink rows fields keeps)
+  pub by_what_was_read : (e : Error) (bytes : List ℕ) → Keeps sink.bytes sink.bytes_after → TakesAll source.bytes source.bytes_after bytes → (e ≡ OutOfMemory) ⊎ IsWrong block bytes e
+      → BlockFails block source sink e
+  by_what_was_read e bytes keeps all (inl h) = subst (BlockFails block source sink) (sym h) (keeps, tt)
+  by_what_was_read (NotYetImplemented r) bytes keeps all (inr h) = (keeps, (bytes, all, h))
+  by_what_was_read (ExternalFormat r) bytes keeps all (inr h) = (keeps, (bytes, all, h))
+  by_what_was_read _ bytes keeps all (inr h) = absurd h
+
+  pub write_fails : (answer : Result Unit Error) (bytes text : List ℕ) → TakesAll source.bytes source.bytes_after bytes → ShowsBlock block bytes text
+      → IfErr answer (λ e. e ≡ WriteFault) → OnErr answer (AppendsPrefix sink.bytes sink.bytes_after text) → OnErr answer (Failed sink) → IfErr answer (BlockFails block source sink)
   write_fails (Ok _) bytes text all shows only prefix cause = tt
   write_fails (Err e) bytes text all shows only prefix cause =
-      subst (BlockFails source sink rows fields keeps) (sym only) (record { bytes = bytes; text = text; read = all; shows = shows; prefix = prefix; failed = cause })
-
--- only a write fails behind what was read
-pub other_than_write : (answer : Result Unit Error) (P : Type 0) → IfErr answer (λ e. e ≡ WriteFault) → IfErr answer (λ e. e ≢ WriteFault → P)
-other_than_write (Ok _) P only = tt
-other_than_write (Err e) P only = λ other. absurd (other only)
+      subst (BlockFails block source sink) (sym only) (record { bytes = bytes; text = text; read = all; shows = shows; prefix = prefix; failed = cause })

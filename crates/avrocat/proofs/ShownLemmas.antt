@@ -14,7 +14,7 @@ next (m ∷ names) (c ∷ columns) (suc i) n a lt same =
     append_assoc (line_of m (array_slots c)) (shown (take i names) (map array_slots (take i columns))) (line_of (get_or names i n) (array_slots (get_or columns i a)))
     ∙ ap (λ z. line_of m (array_slots c) ++ z) (next names columns i n a (omega arith) (omega arith))
 
--- What follows a text and the lines before place i: line i.
+-- What follows a text and the lines before index i: line i.
 pub lines_more : (text before now : List ℕ) (names : List (List ℕ)) (columns : List Array) (i : ℕ) (n : List ℕ) (a : Array) → i < length names → length names ≡ length columns
     → before ≡ text ++ shown (take i names) (map array_slots (take i columns))
     → now ≡ before ++ line_of (get_or names i n) (array_slots (get_or columns i a))

@@ -7,7 +7,7 @@ use mathlib.Core.Former.{Count}
 use mir.Syntax.{w32, w64}
 use mir.Val.{SFits, of_z, to_z}
 use Rattle.std.proofs.lemmas.Int.{ints}
-use Rattle.arrow_types.specs.declared.slot.Slot.{Slot, Listed', Fields', Row_of-Slot, end_of-Slot, more_of-Slot, items-the_row-Slot, items_hidden-the_row-Slot-0}
+use Rattle.arrow_types.specs.declared.slot.Slot.{Slot, List' as ListSlot', Struct' as StructSlot', Row_of-Slot, end_of-Slot, more_of-Slot, items-the_row-Slot, items_hidden-the_row-Slot-0}
 use Rattle.arrow_types.specs.declared.slot.Slot.TheVariants as slot
 use Rattle.arrow_array.specs.declared.array.Array.{Array}
 use Rattle.arrow_array.specs.Arrays.{array_slots}
@@ -15,11 +15,11 @@ use Rattle.arrow_array.specs.Slots.{slot_at}
 use Rattle.avrocat.specs.Shown.{hexadecimal, joined, slot_text, slot_texts}
 
 abbrev listed_row : Slot → (n : Count) × Row_of-Slot n
-listed_row (Listed' _ row) = (_, row)
+listed_row (ListSlot' _ row) = (_, row)
 listed_row _ = (_, end_of-Slot)
 
 abbrev fields_row : Slot → (n : Count) × Row_of-Slot n
-fields_row (Fields' _ row) = (_, row)
+fields_row (StructSlot' _ row) = (_, row)
 fields_row _ = (_, end_of-Slot)
 
 texts-row : (n : _) (row : Row_of-Slot n) → slot_texts row ≡ map slot_text (items-the_row-Slot n row)
@@ -27,25 +27,25 @@ texts-row n end_of-Slot = refl
 texts-row n (more_of-Slot x rest) = ap (λ (ts : List (List ℕ)). slot_text x ∷ ts) (texts-row _ rest)
 
 -- the text of a list
-pub listed_text : (xs : List Slot) → slot_text (slot.Listed xs) ≡ codes "[" ++ (joined (map slot_text xs) ++ codes "]")
+pub listed_text : (xs : List Slot) → slot_text (slot.List xs) ≡ codes "[" ++ (joined (map slot_text xs) ++ codes "]")
 listed_text xs =
-    let row = listed_row (slot.Listed xs) in
+    let row = listed_row (slot.List xs) in
     ap (λ ts. codes "[" ++ (joined ts ++ codes "]")) (texts-row row.0 row.1 ∙ ap (map slot_text) (items_hidden-the_row-Slot-0 xs))
 
 -- the text of a record
-pub fields_text : (xs : List Slot) → slot_text (slot.Fields xs) ≡ codes "{" ++ (joined (map slot_text xs) ++ codes "}")
+pub fields_text : (xs : List Slot) → slot_text (slot.Struct xs) ≡ codes "{" ++ (joined (map slot_text xs) ++ codes "}")
 fields_text xs =
-    let row = fields_row (slot.Fields xs) in
+    let row = fields_row (slot.Struct xs) in
     ap (λ ts. codes "{" ++ (joined ts ++ codes "}")) (texts-row row.0 row.1 ∙ ap (map slot_text) (items_hidden-the_row-Slot-0 xs))
 
 -- what follows a text, a bracket and the slots: the other bracket, and so the text of the list
-pub list_done : (old before now : List ℕ) (xs : List Slot) → before ≡ (old ++ codes "[") ++ joined (map slot_text xs) → now ≡ before ++ codes "]" → now ≡ old ++ slot_text (slot.Listed xs)
+pub list_done : (old before now : List ℕ) (xs : List Slot) → before ≡ (old ++ codes "[") ++ joined (map slot_text xs) → now ≡ before ++ codes "]" → now ≡ old ++ slot_text (slot.List xs)
 list_done old before now xs e d =
     let J : List ℕ = joined (map slot_text xs) in
     let grouped : ((old ++ codes "[") ++ J) ++ codes "]" ≡ old ++ (codes "[" ++ (J ++ codes "]")) = append_assoc (old ++ codes "[") J (codes "]") ∙ append_assoc old (codes "[") (J ++ codes "]") in
     d ∙ ap (λ z. z ++ codes "]") e ∙ grouped ∙ ap (λ z. old ++ z) (sym (listed_text xs))
 
-pub record_done : (old before now : List ℕ) (xs : List Slot) → before ≡ (old ++ codes "{") ++ joined (map slot_text xs) → now ≡ before ++ codes "}" → now ≡ old ++ slot_text (slot.Fields xs)
+pub record_done : (old before now : List ℕ) (xs : List Slot) → before ≡ (old ++ codes "{") ++ joined (map slot_text xs) → now ≡ before ++ codes "}" → now ≡ old ++ slot_text (slot.Struct xs)
 record_done old before now xs e d =
     let J : List ℕ = joined (map slot_text xs) in
     let grouped : ((old ++ codes "{") ++ J) ++ codes "}" ≡ old ++ (codes "{" ++ (J ++ codes "}")) = append_assoc (old ++ codes "{") J (codes "}") ∙ append_assoc old (codes "{") (J ++ codes "}") in
@@ -73,18 +73,18 @@ next [] i b l e = absurd (omega (arith, l))
 next (x ∷ bytes) zero b l e = let d : b ≡ x = e in rw d (sym (append-nil (hexadecimal x)))
 next (x ∷ bytes) (suc i) b l e = append_assoc (hexadecimal x) (flat_map hexadecimal (take i bytes)) (hexadecimal b) ∙ ap (λ z. hexadecimal x ++ z) (next bytes i b (omega (arith, l)) e)
 
--- what follows a text and the bytes before place i: byte i
-pub octets_more : (text before now bytes : List ℕ) (i b : ℕ) → i < length bytes → b ≡ slice_index_or bytes i b
+-- what follows a text and the bytes before index i: byte i
+pub binary_more : (text before now bytes : List ℕ) (i b : ℕ) → i < length bytes → b ≡ slice_index_or bytes i b
     → before ≡ text ++ flat_map hexadecimal (take i bytes) → now ≡ before ++ hexadecimal b → now ≡ text ++ flat_map hexadecimal (take (i + 1) bytes)
-octets_more text before now bytes i b l e h d =
+binary_more text before now bytes i b l e h d =
     d ∙ ap (λ z. z ++ hexadecimal b) h ∙ append_assoc text (flat_map hexadecimal (take i bytes)) (hexadecimal b) ∙ ap (λ z. text ++ z) (rw add-one (next bytes i b l e))
 
 -- three numbers with commas between them, between braces
 pub numbers_done : (old t u v w x y now : List ℕ) (a b c : ℤ) → t ≡ old ++ codes "{" → u ≡ t ++ signed_decimal a → v ≡ u ++ codes "," → w ≡ v ++ signed_decimal b → x ≡ w ++ codes "," → y ≡ x ++ signed_decimal c
-    → now ≡ y ++ codes "}" → now ≡ old ++ slot_text (slot.Fields (slot.Whole a ∷ slot.Whole b ∷ slot.Whole c ∷ []))
+    → now ≡ y ++ codes "}" → now ≡ old ++ slot_text (slot.Struct (slot.Integer a ∷ slot.Integer b ∷ slot.Integer c ∷ []))
 numbers_done old t u v w x y now a b c d e f g h i j =
     j ∙ ap (λ z. z ++ codes "}") (i ∙ ap (λ z. z ++ signed_decimal c) (h ∙ ap (λ z. z ++ codes ",") (g ∙ ap (λ z. z ++ signed_decimal b) (f ∙ ap (λ z. z ++ codes ",") (e ∙ ap (λ z. z ++ signed_decimal a) d)))))
-    ∙ three_done old (signed_decimal a) (signed_decimal b) (signed_decimal c) ∙ ap (λ z. old ++ z) (sym (fields_text (slot.Whole a ∷ slot.Whole b ∷ slot.Whole c ∷ [])))
+    ∙ three_done old (signed_decimal a) (signed_decimal b) (signed_decimal c) ∙ ap (λ z. old ++ z) (sym (fields_text (slot.Integer a ∷ slot.Integer b ∷ slot.Integer c ∷ [])))
 
 -- a number of 32 bits, and one of 64, as a call is given it
 pub given_32 : (z : ℤ) → SFits w32 z → to_z w32 (of_z w32 z) ≡ z

@@ -4,9 +4,9 @@ use Rattle.std.specs.Io.KnownBytes.{Appends}
 use Rattle.std.specs.Fmt.{decimal}
 use Rattle.std.specs.Prelude.{codes}
 use Rattle.arrow_base.specs.Outside.{AppendsPrefix}
-use Rattle.arrow_lists.specs.declared.error.Error.{Error}
-use Rattle.arrow_lists.specs.declared.error.Error.TheVariants.{ReadFault}
-use Rattle.arrow_lists.specs.Errors.{error_name}
+use Rattle.arrow_core.specs.declared.error.Error.{Error}
+use Rattle.arrow_core.specs.declared.error.Error.TheVariants.{ReadFault}
+use Rattle.arrow_core.specs.Errors.{error_name}
 use Rattle.avrocat.specs.Note.{note_line, error_note}
 
 pub appends_both : (old then new : Option (List ℕ)) (a b : List ℕ) → Appends old then a → Appends then new b → Appends old new (a ++ b)

@@ -1,31 +1,37 @@
 -- What is shown of a block.
-use Rattle.std.specs.Prelude.{◌≡◌, ℕ, List, length, map, Bool, Option}
+use Rattle.std.specs.Prelude.{◌≡◌, ℕ, List, length, map, Some}
 use Rattle.std.specs.Io.KnownBytes.{Appends}
 use Rattle.arrow_types.specs.declared.slot.Slot.{Slot}
-use Rattle.avro_file.specs.declared.schema.AvroField.{AvroField}
-use Rattle.avro_reading.specs.ValidBlock.{kept}
-use Rattle.avro_read.specs.Columns.{AreColumns}
+use Rattle.arrow_types.specs.declared.types.Field.{Field}
+use Rattle.avro_grammar.specs.Inferred.{inferred_columns}
+use Rattle.avro_grammar.specs.ValidBlock.{kept, ValidBlock}
+use Rattle.avro_decode.specs.Columns.{AreColumns}
+use Rattle.avro_decode.specs.Supported.{AllSupported}
+use Rattle.avrocat.specs.declared.command.BlockWords.{BlockWords}
+use Rattle.avrocat.specs.Changes.{Change}
 use Rattle.avrocat.specs.Input.{TakesAll}
 use Rattle.avrocat.specs.Shown.{shown}
-use Rattle.avrocat.specs.Words.{IsBlock}
 
--- the bytes are so many rows of the fields, and the text is the lines of the columns of the kept ones
-pub record ShowsBlock (rows : ℕ) (fields : List AvroField) (projection : List Bool) (bytes text : List ℕ) : Type 0 where
+-- the bytes are valid for the rows and fields, under the types that the fields' schemas have
+pub record IsValid (block : BlockWords) (bytes : List ℕ) : Type 0 where
+  pub fields : List Field
+  pub typed : inferred_columns block.avro_fields ≡ Some fields
+  pub supported : AllSupported block.avro_fields
+  pub valid : ValidBlock block.rows bytes fields block.avro_fields block.projection
+
+-- and the text is the lines of the columns of the kept fields
+pub record ShowsBlock (block : BlockWords) (bytes text : List ℕ) : Type 0 where
+  pub valid : IsValid block bytes
   pub columns : List (List Slot)
-  pub read : AreColumns rows fields projection bytes columns
-  pub each : length columns ≡ length (kept fields projection)
-  pub lines : text ≡ shown (map (λ f. f.name) (kept fields projection)) columns
+  pub read : AreColumns block.rows block.avro_fields block.projection bytes columns
+  pub each : length columns ≡ length (kept block.avro_fields block.projection)
+  pub lines : text ≡ shown (map (λ f. f.name) (kept block.avro_fields block.projection)) columns
 
--- The source's whole bytes are so many rows of the fields, and the sink got the lines of the kept ones.
+-- The source's whole bytes are the block, and the sink got the lines of the kept fields.
 -- Of a source or a sink that tells its bytes, these are the bytes.
-pub record BlockDone (left left_after held held_after : Option (List ℕ)) (rows : ℕ) (fields : List AvroField) (projection : List Bool) : Type 0 where
+pub record BlockDone (block : BlockWords) (source sink : Change) : Type 0 where
   pub bytes : List ℕ
   pub text : List ℕ
-  pub read : TakesAll left left_after bytes
-  pub shows : ShowsBlock rows fields projection bytes text
-  pub written : Appends held held_after text
-
--- The words are `block`, a number of rows and fields, and this was done for them.
-abbrev pub BlockShown : List (List ℕ) → Option (List ℕ) → Option (List ℕ) → Option (List ℕ) → Option (List ℕ) → Type 0
-BlockShown words left left_after held held_after =
-    (rows : ℕ) × (fields : List AvroField) × (projection : List Bool) × IsBlock words rows fields projection × BlockDone left left_after held held_after rows fields projection
+  pub read : TakesAll source.bytes source.bytes_after bytes
+  pub shows : ShowsBlock block bytes text
+  pub written : Appends sink.bytes sink.bytes_after text

@@ -1,9 +1,52 @@
--- The commands that words ask for.
-use Rattle.std.specs.Prelude.{ℕ, List}
-use Rattle.avrocat.specs.declared.words.Command.{Command}
-use Rattle.avrocat.specs.declared.words.Command.TheVariants.{Block}
+-- The commands: which words stand for one, and what the program's status tells of it.
+use Rattle.std.specs.Prelude.{◌≡◌, ◌⊎◌, ℕ, List}
+use Rattle.std.specs.Io.KnownBytes.{Keeps}
+use Rattle.arrow_core.specs.declared.error.Error.{Error}
+use Rattle.arrow_core.specs.declared.error.Error.TheVariants.{OutOfMemory}
+use Rattle.arrow_core.specs.Errors.{status_of}
+use Rattle.avrocat.specs.declared.command.Command.{Command}
+use Rattle.avrocat.specs.declared.command.Command.TheVariants.{Block}
+use Rattle.avrocat.specs.Blocks.{BlockDone}
+use Rattle.avrocat.specs.Changes.{Change}
+use Rattle.avrocat.specs.Note.{error_note, Notes}
+use Rattle.avrocat.specs.Refusals.{BlockFails, CanBeShown, BlockDue}
 use Rattle.avrocat.specs.Words.{IsBlock}
 
--- the words ask for this command
-abbrev pub IsCommand : List (List ℕ) → Command → Type 0
-IsCommand words (Block block) = IsBlock words block.rows block.avro_fields.items block.projection.items
+-- the words stand for the command
+abbrev pub Stands : List (List ℕ) → Command → Type 0
+Stands words (Block block) = IsBlock words block
+
+-- the words stand for none
+abbrev pub IsUsage : List (List ℕ) → Type 0
+IsUsage words = (command : Command) → Stands words command → ⊥
+
+-- what status 0 tells: the command was done, from this source to this sink
+abbrev pub Done : Command → Change → Change → Type 0
+Done (Block block) source sink = BlockDone block source sink
+
+-- why the command fails by this error
+abbrev pub Fails : Command → Change → Change → Error → Type 0
+Fails (Block block) source sink e = BlockFails block source sink e
+
+-- The command is done wherever there is memory and the sink doesn't fail: the source doesn't fail, and
+-- tells what the command can be done on.
+abbrev pub CanBeDone : Command → Change → Type 0
+CanBeDone (Block block) source = CanBeShown block source
+
+-- The command fails by this error wherever there is memory: the source doesn't fail, and tells what
+-- the error is due to.
+abbrev pub Due : Command → Change → Error → Type 0
+Due (Block block) source e = BlockDue block source e
+
+-- the words stand for a command that fails by this error, or there is no memory for what they say
+abbrev pub IsCause : List (List ℕ) → Change → Change → Error → Type 0
+IsCause words source sink e =
+    ((e ≡ OutOfMemory) × Keeps source.bytes source.bytes_after × Keeps sink.bytes sink.bytes_after)
+    ⊎ ((command : Command) × Stands words command × Fails command source sink e)
+
+-- the status is that of an error that has its cause, and the note names it
+pub record Refused (status : ℕ) (words : List (List ℕ)) (source sink note : Change) : Type 0 where
+  pub error : Error
+  pub is : status ≡ status_of error
+  pub cause : IsCause words source sink error
+  pub noted : Notes note (error_note error)

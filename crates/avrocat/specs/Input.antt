@@ -1,8 +1,8 @@
 -- What a source gave.
-use Rattle.std.specs.Prelude.{◌≡◌, ℕ, ◌+◌, ◌≤◌, ⊤, None, List, length, Option}
+use Rattle.std.specs.Prelude.{◌≡◌, ℕ, ◌+◌, ◌<◌, ◌≤◌, ⊤, None, Some, List, length, Option}
 use Rattle.std.specs.Io.KnownBytes.{Consumes, IsAtEnd}
-use Rattle.arrow_lists.specs.declared.error.Error.{Error}
-use Rattle.arrow_lists.specs.declared.error.Error.TheVariants.{LimitExceeded, ReadFault, OutOfMemory}
+use Rattle.arrow_core.specs.declared.error.Error.{Error}
+use Rattle.arrow_core.specs.declared.error.Error.TheVariants.{LimitExceeded, ReadFault, OutOfMemory}
 use Rattle.avrocat.specs.Changes.{Change, Failed}
 
 -- the most bytes that the program takes
@@ -25,3 +25,16 @@ NotRead source (ReadFault None) = Failed source
 NotRead source LimitExceeded = PassesLimit source.bytes source.bytes_after
 NotRead source OutOfMemory = ⊤
 NotRead source _ = ⊥
+
+-- the source tells these bytes, no more than the limit, and doesn't fail
+pub record Tells (source : Change) (bytes : List ℕ) : Type 0 where
+  pub told : source.bytes ≡ Some bytes
+  pub within : length bytes ≤ byte_limit
+  pub steady : Failed source → ⊥
+
+-- the source tells more bytes than the limit, and doesn't fail
+pub record TellsTooMany (source : Change) : Type 0 where
+  pub bytes : List ℕ
+  pub told : source.bytes ≡ Some bytes
+  pub beyond : byte_limit < length bytes
+  pub steady : Failed source → ⊥

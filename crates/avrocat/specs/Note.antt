@@ -2,9 +2,9 @@
 use Rattle.std.specs.Prelude.{ℕ, ◌⊎◌, List, [], ◌++◌, codes, Some, decimal}
 use Rattle.std.specs.Io.KnownBytes.{Appends}
 use Rattle.arrow_base.specs.Outside.{AppendsPrefix}
-use Rattle.arrow_lists.specs.declared.error.Error.{Error}
-use Rattle.arrow_lists.specs.declared.error.Error.TheVariants.{InvalidArgumentError, NotYetImplemented, ExternalFormat, OutOfSpec, ReadFault}
-use Rattle.arrow_lists.specs.Errors.{error_name, reason_name}
+use Rattle.arrow_core.specs.declared.error.Error.{Error}
+use Rattle.arrow_core.specs.declared.error.Error.TheVariants.{InvalidArgumentError, NotYetImplemented, ExternalFormat, OutOfSpec, ReadFault}
+use Rattle.arrow_core.specs.Errors.{error_name, reason_name}
 use Rattle.avrocat.specs.Changes.{Change, Failed}
 
 -- of words that are no command

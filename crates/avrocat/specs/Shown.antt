@@ -2,7 +2,7 @@
 use Rattle.std.specs.Prelude.{ℕ, ◌/◌, ◌%◌, List, [], ◌∷◌, ◌++◌, map, flat_map, codes, if◌then◌else◌}
 use Rattle.std.specs.Fmt.{signed_decimal}
 use Rattle.std.specs.List.{join_with_byte}
-use Rattle.arrow_types.specs.declared.slot.Slot.{Slot, Null, Truth, Whole, Words, Octets, Listed', Fields', Row_of-Slot, end_of-Slot, more_of-Slot}
+use Rattle.arrow_types.specs.declared.slot.Slot.{Slot, Null, Boolean as BooleanSlot, Integer as IntegerSlot, String as StringSlot, Binary as BinarySlot, List' as ListSlot', Struct' as StructSlot', Row_of-Slot, end_of-Slot, more_of-Slot}
 use Rattle.std.specs.Char.{digit_char}
 use Rattle.arrow_base.specs.WrittenString.{json_string}
 
@@ -15,16 +15,16 @@ abbrev pub joined : List (List ℕ) → List ℕ
 joined = join_with_byte 44
 
 abbrev mutual
-  -- the text of a slot: null, a truth value, a decimal number, a JSON string, hexadecimal bytes, a list
-  -- between brackets, or a record between braces
+  -- the text of a slot: null, a boolean, a decimal number, a JSON string, hexadecimal bytes, a list
+  -- between brackets, or a struct between braces
   pub slot_text : Slot → List ℕ
   slot_text Null = codes "null"
-  slot_text (Truth b) = if b then codes "true" else codes "false"
-  slot_text (Whole n) = signed_decimal n
-  slot_text (Words text) = json_string text
-  slot_text (Octets bytes) = codes "0x" ++ flat_map hexadecimal bytes
-  slot_text (Listed' shape slots) = codes "[" ++ (joined (slot_texts slots) ++ codes "]")
-  slot_text (Fields' shape slots) = codes "{" ++ (joined (slot_texts slots) ++ codes "}")
+  slot_text (BooleanSlot b) = if b then codes "true" else codes "false"
+  slot_text (IntegerSlot n) = signed_decimal n
+  slot_text (StringSlot text) = json_string text
+  slot_text (BinarySlot bytes) = codes "0x" ++ flat_map hexadecimal bytes
+  slot_text (ListSlot' shape slots) = codes "[" ++ (joined (slot_texts slots) ++ codes "]")
+  slot_text (StructSlot' shape slots) = codes "{" ++ (joined (slot_texts slots) ++ codes "}")
 
   pub slot_texts : {m : _} → Row_of-Slot m → List (List ℕ)
   slot_texts end_of-Slot = []

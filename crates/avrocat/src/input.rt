@@ -1,7 +1,7 @@
 //! A source, read to its end.
 
 ghost use Rattle.std.specs.Prelude.{◌≡◌, ◌≤◌, IfOk, IfErr, vec_len};
-ghost use Rattle.arrow_lists.specs.declared.error.Error.TheVariants.{OutOfMemory};
+ghost use Rattle.arrow_core.specs.declared.error.Error.TheVariants.{OutOfMemory};
 ghost use Rattle.avrocat.specs.Changes.{change_of};
 ghost use Rattle.avrocat.specs.Input.{TakesAll, NotRead};
 
@@ -34,15 +34,15 @@ pub fn read_all<S: Source>(alloc: Global, source: &mut S) -> Result<Vec<u8>>
     let mut piece = new_piece(alloc)?;
     while bytes.len() <= BYTE_LIMIT {
         let most = PIECE.min(BYTE_LIMIT + 1 - bytes.len());
-        let front = &mut piece[..most];
-        let count = match source.read(front) {
+        let prefix = &mut piece[..most];
+        let count = match source.read(prefix) {
             Ok(count) => count,
             Err(_) => return Err(Error::ReadFault { line: None }),
         };
         if count == 0 {
             return Ok(bytes);
         }
-        bytes.extend_from_slice(&front[..count])?;
+        bytes.extend_from_slice(&prefix[..count])?;
     }
     Err(Error::LimitExceeded)
 }

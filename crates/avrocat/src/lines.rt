@@ -2,14 +2,14 @@
 ghost use Rattle.std.specs.Prelude.{◌≡◌, ◌+◌, ◌<◌, ◌≤◌, ◌++◌, ◌∷◌, [], length, map, take, codes, IfErr, OnOk, if◌then◌else◌, ◌==◌};
 ghost use Rattle.std.specs.Char.{digit_char};
 ghost use Rattle.std.specs.Fmt.{signed_decimal};
-ghost use Rattle.arrow_lists.specs.declared.error.Error.TheVariants.{OutOfMemory};
-ghost use Rattle.arrow_types.specs.declared.slot.Slot.TheVariants.{Listed, Octets};
+ghost use Rattle.arrow_core.specs.declared.error.Error.TheVariants.{OutOfMemory};
+ghost use Rattle.arrow_types.specs.declared.slot.Slot.TheVariants.{List as ListSlot, Binary as BinarySlot};
 ghost use Rattle.arrow_base.specs.Outside.{last_count};
 ghost use Rattle.arrow_base.specs.WrittenString.{json_string};
 ghost use Rattle.arrow_array.specs.Arrays.{array_slots};
 ghost use Rattle.arrow_array.specs.Lent.{IsPart, part_slots};
 ghost use Rattle.arrow_array.specs.Slots.{slot_at};
-ghost use Rattle.arrow_array.specs.Structs.{HaveRoom, record_at};
+ghost use Rattle.arrow_array.specs.Structs.{HaveSlots, record_at};
 ghost use Rattle.arrow_columns.specs.Cells.{cell_slot, interval_slot, CellFits};
 ghost use Rattle.avrocat.specs.Shown.{hexadecimal, line_of, shown, slot_text, joined};
 
@@ -140,13 +140,13 @@ impl Lines {
     {
         match cell {
             Cell::Null => self.push(b"null"),
-            Cell::Truth(truth) => self.push_truth(*truth),
-            Cell::Whole(number) => self.push_whole(*number),
+            Cell::Boolean(boolean) => self.push_boolean(*boolean),
+            Cell::Integer(number) => self.push_integer(*number),
             Cell::Interval(interval) => self.push_interval(*interval),
-            Cell::Words(text) => self.push_string(text),
-            Cell::Octets(bytes) => self.push_octets(bytes),
-            Cell::Listed(part) => self.push_list(part),
-            Cell::Fields(children, i) => self.push_record(children, *i),
+            Cell::String(text) => self.push_string(text),
+            Cell::Binary(bytes) => self.push_binary(bytes),
+            Cell::List(part) => self.push_list(part),
+            Cell::Struct(children, i) => self.push_struct(children, *i),
         }
     }
 
@@ -154,7 +154,7 @@ impl Lines {
     #[cycle(slots)]
     fn push_list(&mut self, part: &Part<'_>) -> Result<()>
         requires { IsPart part.now }
-        ensures ok { OnOk result (self.new.text.items ≡ self.old.text.items ++ slot_text (Listed (part_slots part.now))) }
+        ensures ok { OnOk result (self.new.text.items ≡ self.old.text.items ++ slot_text (ListSlot (part_slots part.now))) }
         ensures memory { IfErr result (λ e. e ≡ OutOfMemory) }
     {
         self.push(b"[")?;
@@ -165,10 +165,10 @@ impl Lines {
         self.push(b"]")
     }
 
-    /// Adds the text of the record of the slots at place `i`.
+    /// Adds the text of the struct of the slots at index `i`.
     #[cycle(slots)]
-    fn push_record(&mut self, children: &[Array], i: usize) -> Result<()>
-        requires { HaveRoom (i + 1) children.now }
+    fn push_struct(&mut self, children: &[Array], i: usize) -> Result<()>
+        requires { HaveSlots (i + 1) children.now }
         ensures ok { OnOk result (self.new.text.items ≡ self.old.text.items ++ slot_text (record_at (map array_slots children.now) i)) }
         ensures memory { IfErr result (λ e. e ≡ OutOfMemory) }
     {
@@ -188,8 +188,8 @@ impl Lines {
         self.push(Buffer::new().format(number).as_bytes())
     }
 
-    /// Adds a whole number in decimal. Most fit 64 bits, which print faster.
-    fn push_whole(&mut self, number: i128) -> Result<()>
+    /// Adds an integer in decimal. Most fit 64 bits, which print faster.
+    fn push_integer(&mut self, number: i128) -> Result<()>
         ensures ok { OnOk result (self.new.text.items ≡ self.old.text.items ++ signed_decimal number) }
         ensures memory { IfErr result (λ e. e ≡ OutOfMemory) }
     {
@@ -199,7 +199,7 @@ impl Lines {
         }
     }
 
-    /// Adds a length of time by the calendar: a record of its months, days and nanoseconds.
+    /// Adds an interval: its months, days and nanoseconds.
     fn push_interval(&mut self, interval: MonthsDaysNs) -> Result<()>
         ensures ok { OnOk result (self.new.text.items ≡ self.old.text.items ++ slot_text (interval_slot interval)) }
         ensures memory { IfErr result (λ e. e ≡ OutOfMemory) }
@@ -214,8 +214,8 @@ impl Lines {
     }
 
     /// Adds bytes in hexadecimal.
-    fn push_octets(&mut self, bytes: &[u8]) -> Result<()>
-        ensures ok { OnOk result (self.new.text.items ≡ self.old.text.items ++ slot_text (Octets bytes.now)) }
+    fn push_binary(&mut self, bytes: &[u8]) -> Result<()>
+        ensures ok { OnOk result (self.new.text.items ≡ self.old.text.items ++ slot_text (BinarySlot bytes.now)) }
         ensures memory { IfErr result (λ e. e ≡ OutOfMemory) }
     {
         self.push(b"0x")?;
@@ -225,29 +225,29 @@ impl Lines {
         Ok(())
     }
 
-    /// Adds the comma before the slot at this place.
-    fn push_comma(&mut self, place: usize) -> Result<()>
-        ensures ok { OnOk result (self.new.text.items ≡ self.old.text.items ++ (if place == 0 then [] else codes ",")) }
+    /// Adds the comma before the slot of this index.
+    fn push_comma(&mut self, index: usize) -> Result<()>
+        ensures ok { OnOk result (self.new.text.items ≡ self.old.text.items ++ (if index == 0 then [] else codes ",")) }
         ensures memory { IfErr result (λ e. e ≡ OutOfMemory) }
     {
-        if place == 0 {
+        if index == 0 {
             return Ok(());
         }
         self.push(b",")
     }
 
-    fn push_truth(&mut self, truth: bool) -> Result<()>
-        ensures ok { OnOk result (self.new.text.items ≡ self.old.text.items ++ (if truth then codes "true" else codes "false")) }
+    fn push_boolean(&mut self, boolean: bool) -> Result<()>
+        ensures ok { OnOk result (self.new.text.items ≡ self.old.text.items ++ (if boolean then codes "true" else codes "false")) }
         ensures memory { IfErr result (λ e. e ≡ OutOfMemory) }
     {
-        if truth {
+        if boolean {
             self.push(b"true")
         } else {
             self.push(b"false")
         }
     }
 
-    /// Adds the JSON string of a text.
+    /// Adds the JSON string of a string.
     fn push_string(&mut self, text: &str) -> Result<()>
         ensures ok { OnOk result (self.new.text.items ≡ self.old.text.items ++ json_string text.now) }
         ensures memory { IfErr result (λ e. e ≡ OutOfMemory) }

@@ -2,7 +2,7 @@
 
 use crate::lines::Lines;
 use arrow_columns::{Array, BinaryArray, ListArray, PrimitiveArray, StructArray};
-use arrow_lists::{Box, Items, Result as ArrowResult, Text};
+use arrow_core::{Box, Items, Result as ArrowResult, Text};
 use arrow_types::{DataType, Field, IntervalUnit, MonthsDaysNs};
 use std::alloc::Global;
 use std::test::Fail;
@@ -25,7 +25,7 @@ fn item(alloc: Global) -> ArrowResult<Field> {
     Ok(Field::new(alloc, name, DataType::Int32, false))
 }
 
-fn byte_strings(alloc: Global) -> ArrowResult<Array> {
+fn binaries(alloc: Global) -> ArrowResult<Array> {
     let offsets = Vec::from_slice(alloc, &[0, 2, 2])?;
     let values = Vec::from_slice(alloc, &[1, 255])?;
     let array = BinaryArray::<i32>::try_new(alloc, DataType::Binary, offsets, values, None)?;
@@ -39,14 +39,14 @@ fn lists(alloc: Global) -> ArrowResult<Array> {
     Ok(Array::List(ListArray::try_new(alloc, data_type, offsets, values, None)?))
 }
 
-fn records(alloc: Global) -> ArrowResult<Array> {
+fn structs(alloc: Global) -> ArrowResult<Array> {
     let values = vec![in alloc; numbers(alloc, &[1, -2])?, numbers(alloc, &[3, 4])?]?;
     let fields = vec![in alloc; item(alloc)?, item(alloc)?]?;
     let data_type = DataType::Struct(Items::from_vec(fields));
     Ok(Array::Struct(StructArray::try_new(alloc, data_type, values, None)?))
 }
 
-fn lengths_of_time(alloc: Global) -> ArrowResult<Array> {
+fn intervals(alloc: Global) -> ArrowResult<Array> {
     let month = MonthsDaysNs {
         months: 1,
         days: 2,
@@ -60,7 +60,7 @@ fn lengths_of_time(alloc: Global) -> ArrowResult<Array> {
 
 #[test]
 fn bytes_are_shown_in_hexadecimal(rt: HostRuntime) -> Result<(), Fail> {
-    assert!(rt; has_line(rt.alloc(), &byte_strings(rt.alloc())?, "a:[0x01ff,0x]\n")?);
+    assert!(rt; has_line(rt.alloc(), &binaries(rt.alloc())?, "a:[0x01ff,0x]\n")?);
     Ok(())
 }
 
@@ -71,14 +71,14 @@ fn lists_are_shown_in_brackets(rt: HostRuntime) -> Result<(), Fail> {
 }
 
 #[test]
-fn records_are_shown_in_braces(rt: HostRuntime) -> Result<(), Fail> {
-    assert!(rt; has_line(rt.alloc(), &records(rt.alloc())?, "a:[{1,3},{-2,4}]\n")?);
+fn structs_are_shown_in_braces(rt: HostRuntime) -> Result<(), Fail> {
+    assert!(rt; has_line(rt.alloc(), &structs(rt.alloc())?, "a:[{1,3},{-2,4}]\n")?);
     Ok(())
 }
 
 #[test]
-fn a_length_of_time_is_a_record(rt: HostRuntime) -> Result<(), Fail> {
+fn an_interval_is_shown_as_a_struct(rt: HostRuntime) -> Result<(), Fail> {
     let line = "a:[{1,2,-1000000}]\n";
-    assert!(rt; has_line(rt.alloc(), &lengths_of_time(rt.alloc())?, line)?);
+    assert!(rt; has_line(rt.alloc(), &intervals(rt.alloc())?, line)?);
     Ok(())
 }

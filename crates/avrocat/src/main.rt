@@ -6,9 +6,11 @@ ghost use Rattle.std.specs.IoError.{error_kind};
 ghost use Rattle.std.specs.Vec.Iter.{into_iter_items, into_iter_len};
 ghost use Rattle.std.specs.declared.io.ErrorKind.TheVariants.{OutOfMemory};
 
+mod block;
 mod columns;
-mod field;
+mod command;
 mod input;
+mod laws;
 mod lines;
 #[cfg(test)]
 mod lines_tests;

@@ -2,7 +2,7 @@
 ghost use Rattle.std.specs.Prelude.{◌≡◌, ◌≤◌, ◌++◌, codes, OnOk, OnErr, IfErr};
 ghost use Rattle.std.specs.Io.KnownBytes.{Appends};
 ghost use Rattle.arrow_base.specs.Outside.{AppendsPrefix, RoseOrFull};
-ghost use Rattle.arrow_lists.specs.declared.error.Error.TheVariants.{WriteFault};
+ghost use Rattle.arrow_core.specs.declared.error.Error.TheVariants.{WriteFault};
 ghost use Rattle.avrocat.specs.Note.{usage_note, error_note, note_line};
 
 use arrow_base::{Error, Result, Sink, write_all};

@@ -6,8 +6,8 @@ use std::alloc::Global;
 use std::process::Abort;
 use std::test::Fail;
 
-/// How much room a sink of these tests has.
-const ROOM: usize = 256;
+/// The capacity of a sink of these tests.
+const CAPACITY: usize = 256;
 
 /// What a command answers.
 #[derive(Drop)]
@@ -35,8 +35,13 @@ fn answer_of(
     let reads = Items::from_vec(vec![in alloc; failing_read]?);
     let writes = Items::from_vec(vec![in alloc; failing_write]?);
     let mut source = MemorySource::new(input, 3, reads);
-    let mut output = MemorySink::with_room(alloc, ROOM, ROOM, writes)?;
-    let mut note = MemorySink::with_room(alloc, ROOM, ROOM, Items::from_vec(Vec::new(alloc)))?;
+    let mut output = MemorySink::with_room(alloc, CAPACITY, CAPACITY, writes)?;
+    let mut note = MemorySink::with_room(
+        alloc,
+        CAPACITY,
+        CAPACITY,
+        Items::from_vec(Vec::new(alloc)),
+    )?;
     let status = run(alloc, words.as_slice(), &mut source, &mut output, &mut note);
     Ok(Answer {
         status,
@@ -150,6 +155,20 @@ fn other_bytes_and_types_are_refused_with_their_cause(rt: HostRuntime) -> Result
             "avrocat: NotYetImplemented: NoField\n",
         ),
         ("block 1 a=null", b"".as_slice(), 3, type_fault),
+        ("block 0 a={}", b"".as_slice(), 3, type_fault),
+        ("block 1 a=null?", b"\x00".as_slice(), 3, type_fault),
+        (
+            "block 1 a=float",
+            b"\x00\x00\x80\x3f".as_slice(),
+            3,
+            type_fault,
+        ),
+        (
+            "block 1 a=[long]",
+            b"\x04\x02\x04\x00".as_slice(),
+            3,
+            type_fault,
+        ),
         (
             "block 1 a=int b=null!",
             b"\x02\x02".as_slice(),
@@ -163,6 +182,23 @@ fn other_bytes_and_types_are_refused_with_their_cause(rt: HostRuntime) -> Result
     Ok(())
 }
 
+/// 64 types, each in the other, and one more.
+const DEEP: &str =
+    "block 0 a=[[[[[[[[[[[[[[[[[[[[[[[[[[[[[[[[[[[[[[[[[[[[[[[[[[[[[[[[[[[[[[[int]]]]]]]]]]]]]]]]]]]]]]]]]]]]]]]]]]]]]]]]]]]]]]]]]]]]]]]]]]]]]]]";
+
+const TOO_DEEP: &str =
+    "block 0 a=[[[[[[[[[[[[[[[[[[[[[[[[[[[[[[[[[[[[[[[[[[[[[[[[[[[[[[[[[[[[[[[[int]]]]]]]]]]]]]]]]]]]]]]]]]]]]]]]]]]]]]]]]]]]]]]]]]]]]]]]]]]]]]]]]";
+
+#[test]
+fn at_most_64_types_stand_each_in_the_other(rt: HostRuntime) -> Result<(), Fail> {
+    let deep = answer_of(rt.alloc(), DEEP, b"", 0, 0)?;
+    let type_fault = "avrocat: NotYetImplemented: NotCarried\n";
+    expect(&rt, DEEP, &deep, 3, "", type_fault);
+    let too_deep = answer_of(rt.alloc(), TOO_DEEP, b"", 0, 0)?;
+    expect(&rt, TOO_DEEP, &too_deep, 1, "", "avrocat: usage\n");
+    Ok(())
+}
+
 #[test]
 fn words_that_are_no_command_are_usage(rt: HostRuntime) -> Result<(), Fail> {
     for line in [
@@ -171,6 +207,13 @@ fn words_that_are_no_command_are_usage(rt: HostRuntime) -> Result<(), Fail> {
         "block x a=int",
         "block 18446744073709551616",
         "block 1 =int",
+        "block 1 a=decimal(2,3)",
+        "block 1 a=int??",
+        "block 1 a=<A,>",
+        "block 1 a={x=int;}",
+        "block 1 a={;}",
+        "block 1 a={x}",
+        "block 1 a={x=int",
     ] {
         let answer = answer_of(rt.alloc(), line, b"\x02", 0, 0)?;
         expect(&rt, line, &answer, 1, "", "avrocat: usage\n");

@@ -46,8 +46,8 @@ err-not_json r b h e v j =
     not_wrong b v j w
 
 -- bytes that are UTF-8 up to n
-pub front-deep : (b f : List ℕ) (n : ℕ) → f ≡ take n b → IsValidUpTo b n → text_at 128 f ≡ deep → IsDeep b
-front-deep b f n e v d =
+pub prefix-deep : (b f : List ℕ) (n : ℕ) → f ≡ take n b → IsValidUpTo b n → text_at 128 f ≡ deep → IsDeep b
+prefix-deep b f n e v d =
     let u : IsUtf8 f = subst IsUtf8 (sym e) v.front in
     subst IsDeep (ap (λ l. l ++ drop n b) e ∙ take-append-drop n b) (deep-why f (drop n b) u d)
 
@@ -58,8 +58,8 @@ at_most a n m e never = tested (ltb n a) refl
     tested true q = absurd (never (ltb-true n a q))
     tested false q = omega (arith, e, ltb-false n a q)
 
-pub front-not_deep : (b f : List ℕ) (n : ℕ) → f ≡ take n b → IsValidUpTo b n → (text_at 128 f ≡ deep → ⊥) → IsDeep b → ⊥
-front-not_deep b f n e v never d = never (deep-there b f (drop n b) (sym (ap (λ l. l ++ drop n b) e ∙ take-append-drop n b)) longest d)
+pub prefix-not_deep : (b f : List ℕ) (n : ℕ) → f ≡ take n b → IsValidUpTo b n → (text_at 128 f ≡ deep → ⊥) → IsDeep b → ⊥
+prefix-not_deep b f n e v never d = never (deep-there b f (drop n b) (sym (ap (λ l. l ++ drop n b) e ∙ take-append-drop n b)) longest d)
   where
     tested : (p r : List ℕ) → IsUtf8 p → b ≡ p ++ r → n < length p → ⊥
     tested p r u c l = v.longest (length p) l (subst IsUtf8 (sym (ap (take (length p)) c ∙ take_at p r (length p) refl)) u)

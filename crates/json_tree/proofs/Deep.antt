@@ -1,4 +1,4 @@
--- A value is too deep exactly where its front reaches one bracket too many.
+-- A value is too deep exactly where its prefix reaches one bracket too many.
 use Rattle.std.proofs.Common.{◌≡◌, ◌⊎◌, inl, inr, ℕ, zero, suc, ◌≤◌, Bool, true, false, cond, eqb, List, [], ◌∷◌, ◌++◌, length, refl, sym, ap, ◌∙◌, append_assoc, arith}
 use Rattle.std.proofs.lemmas.Bool.Decides.{nat_tests}
 use Rattle.std.proofs.lemmas.List.{length-append}
@@ -8,7 +8,7 @@ use Rattle.json_tree.proofs.Reaching.{Before, Any, Reaches}
 use Rattle.json_tree.specs.Reading.{Outcome, found, wrong, deep, bind, on_first, skip, strip, entry_at, listed_at, led, string_at, scalar_at, member_at, array_at, object_at, value_at}
 use Rattle.json_tree.proofs.ListLaws.{Reader, Sound, Complete, Stops, Begins, bind_deep, wrong-deep, found-deep, skip-cut, entry-deep, entry-why}
 use Rattle.json_tree.proofs.Scalars.{ends, Starts, string-sound, string-deep, scalar-deep}
-use Rattle.json_tree.proofs.ValueLaws.{stops_array, stops_object, spells-starts, led-skip, led-sound, led-complete, key-starts, member-key, member-sound, member-complete, strip-colon, begins_object, led-starts, value-sound, value-complete}
+use Rattle.json_tree.proofs.ValueLaws.{stops_array, stops_object, encodes-starts, led-skip, led-sound, led-complete, key-starts, member-key, member-sound, member-complete, strip-colon, begins_object, led-starts, value-sound, value-complete}
 
 any-sound : (d : ℕ) → Sound (value_at d) Any
 any-sound d b r x e = let h = value-sound d b r x e in (h.0, (d, h.1), h.2)
@@ -17,7 +17,7 @@ any-complete : (d : ℕ) → Complete (Unit {0}) ends (value_at d) Any
 any-complete d a r x h e = value-complete (Unit {0}) h.0 d (λ _. tt) a r x h.1 e
 
 any-starts : (x : Json) (a r : List ℕ) → Any x a → Starts (a ++ r)
-any-starts x a r h = spells-starts h.0 x a r h.1
+any-starts x a r h = encodes-starts h.0 x a r h.1
 
 begins_any : Begins (λ y. AfterSpaces (Any y)) 93
 begins_any x a r l = let s = led-starts (Any x) (any-starts x) a r l in (s.0, s.1, s.2, s.3)

@@ -1,4 +1,4 @@
--- Escapes, as the code passes over them.
+-- Escapes, as the code skips them.
 use Rattle.std.proofs.Common.{◌≡◌, ◌≢◌, ℕ, ◌<◌, ◌≤◌, true, false, List, [], ◌∷◌, length, drop, get_or, Option, Some, None, refl, sym, ap, ◌∙◌, subst, arith}
 use Rattle.std.proofs.lemmas.Str.{IsUtf8-drop, IsCharBoundary-after_ascii, encode_ascii}
 use Rattle.std.specs.Str.{IsUtf8}
@@ -65,7 +65,7 @@ pub low-ok : (u v : ℕ) (b r q p : List ℕ) → b ≡ 92 ∷ r → r ≡ 117 �
 unfolding low_at strip
 low-ok u v b r q p e f h k = rw (e, f, h, k) refl
 
--- ---- behind \u
+-- ---- after \u
 
 pub unicode-unit : (b : List ℕ) → unit_at b ≡ wrong → unicode_at b ≡ wrong
 unfolding unicode_at
@@ -83,7 +83,7 @@ pub unicode-low : (u : ℕ) (b r : List ℕ) → unit_at b ≡ found u r → is_
 unfolding unicode_at
 unicode-low u b r h k l = rw (h, k, l) refl
 
--- ---- behind a backslash
+-- ---- after a backslash
 
 pub escape-none : (b : List ℕ) → b ≡ [] → escape_at b ≡ wrong
 unfolding escape_at

@@ -4,7 +4,7 @@ use Rattle.std.proofs.lemmas.Bool.Decides.{nat_tests}
 use Rattle.std.proofs.lemmas.Bool.{and_parts, true≢false}
 use Rattle.std.specs.Char.{digit_value, is_digit as is_digit_of}
 use Rattle.json_tree.specs.Tree.{Json}
-use Rattle.json_tree.specs.Grammar.{Each, is_space, is_digit, is_exponent_mark, Spaces, AfterSpaces, More, Listed, IsMinus, IsInteger, Digits, IsFraction, IsSign, IsExponent, IsNumber, Quoted, Scalar, Member, Spells}
+use Rattle.json_tree.specs.Grammar.{Each, is_space, is_digit, is_exponent_mark, Spaces, AfterSpaces, More, Listed, IsMinus, IsInteger, Digits, IsFraction, IsSign, IsExponent, IsNumber, Quoted, Scalar, Member, Encodes}
 use Rattle.arrow_base.specs.JsonString.{is_unescaped, hexadecimal, IsCodeUnit, IsChar, Chars, no_chars, one_char}
 use Rattle.json_tree.specs.Brackets.{Place, outside, inside, escaped, step, run}
 use Rattle.json_tree.proofs.Scalars.{digit-bounds, space-among, e-among, not_true, some-none, Among}
@@ -18,11 +18,11 @@ Below m p n (x ∷ b) = (n ≤ m) × Below m (step p n x).0 (step p n x).1 b
 abbrev pub Trip : ℕ → Place → ℕ → Place → ℕ → List ℕ → Type 0
 Trip m p n q k b = Below m p n b × (run p n b ≡ (q, k))
 
-pub front-below : (m : ℕ) (p : Place) (n : ℕ) (a b : List ℕ) → Below m p n (a ++ b) → (run p n a).1 ≤ m
+pub prefix-below : (m : ℕ) (p : Place) (n : ℕ) (a b : List ℕ) → Below m p n (a ++ b) → (run p n a).1 ≤ m
 unfolding run
-front-below m p n [] [] h = h
-front-below m p n [] (x ∷ b) h = h.0
-front-below m p n (x ∷ a) b h = front-below m (step p n x).0 (step p n x).1 a b h.1
+prefix-below m p n [] [] h = h
+prefix-below m p n [] (x ∷ b) h = h.0
+prefix-below m p n (x ∷ a) b h = prefix-below m (step p n x).0 (step p n x).1 a b h.1
 
 pub rest-trip : (m : ℕ) (p q : Place) (n : ℕ) → n ≤ m → Trip m p n p n []
 unfolding run
@@ -224,7 +224,7 @@ member-level m k P le f o b h =
     subst (Level m k) (sym h.6) (join m k h.0 (h.1 ++ 58 ∷ h.2) (led-level m k (Quoted o.0) le (λ c. string-level m k o.0 c le) h.0 h.3)
     (join m k h.1 (58 ∷ h.2) (spaces-level m k h.1 le h.4) (calm-cons m k 58 h.2 le (refl, refl, refl) (led-level m k (P o.1) le (f o.1) h.2 h.5))))
 
--- a list from behind its opening byte
+-- a list from after its opening byte
 abbrev Closes : ℕ → Type 0
 Closes z = (k : ℕ) → step outside (suc k) z ≡ (outside, k)
 
@@ -261,13 +261,13 @@ unfolding step
 closes_object k = refl
 
 -- a value leaves open what was open, and opens at most n at once
-pub value-level : (n m k : ℕ) (x : Json) (b : List ℕ) → k + n ≤ m → Spells n x b → Level m k b
+pub value-level : (n m k : ℕ) (x : Json) (b : List ℕ) → k + n ≤ m → Encodes n x b → Level m k b
 value-level zero m k x b le h = scalar-level m k x b (omega (arith, le)) h
 value-level (suc n) m k x b le (inl h) = scalar-level m k x b (omega (arith, le)) h
 value-level (suc n) m k x b le (inr (inl h)) =
     let more = led-level m (suc k) in
-    let all = listed-trip (λ y. AfterSpaces (Spells n y)) m k 93 (omega (arith, le)) closes_array (λ y. more (Spells n y) (omega (arith, le)) (λ c. value-level n m (suc k) y c (omega (arith, le)))) h.0 h.1 h.2 in
+    let all = listed-trip (λ y. AfterSpaces (Encodes n y)) m k 93 (omega (arith, le)) closes_array (λ y. more (Encodes n y) (omega (arith, le)) (λ c. value-level n m (suc k) y c (omega (arith, le)))) h.0 h.1 h.2 in
     subst (Level m k) (sym h.4) (step-trip m outside outside outside k (suc k) k 91 h.1 (omega (arith, le)) (opens_array k) all)
 value-level (suc n) m k x b le (inr (inr h)) =
-    let all = listed-trip (Member (Spells n)) m k 125 (omega (arith, le)) closes_object (member-level m (suc k) (Spells n) (omega (arith, le)) (λ y c. value-level n m (suc k) y c (omega (arith, le)))) h.0 h.1 h.2 in
+    let all = listed-trip (Member (Encodes n)) m k 125 (omega (arith, le)) closes_object (member-level m (suc k) (Encodes n) (omega (arith, le)) (λ y c. value-level n m (suc k) y c (omega (arith, le)))) h.0 h.1 h.2 in
     subst (Level m k) (sym h.4) (step-trip m outside outside outside k (suc k) k 123 h.1 (omega (arith, le)) (opens_object k) all)

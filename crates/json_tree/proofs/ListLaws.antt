@@ -1,4 +1,4 @@
--- Lists of entries are read exactly as they are spelled, for any reader of one entry.
+-- Lists of entries are read exactly as they are encoded, for any reader of one entry.
 use Rattle.std.proofs.Common.{◌≡◌, ◌⊎◌, inl, inr, ℕ, zero, suc, ◌<◌, ◌≤◌, Bool, true, false, cond, eqb, List, [], ◌∷◌, ◌++◌, length, refl, sym, ap, ◌∙◌, subst, append_assoc, arith}
 use Rattle.std.proofs.lemmas.Bool.Decides.{nat_tests}
 use Rattle.std.proofs.lemmas.Bool.{true≢false, eq-eqb}
@@ -48,7 +48,7 @@ bind_found deep k y s e = absurd (deep-found y s e)
 abbrev pub Reader : Type 0 → Type 0
 Reader A = List ℕ → Outcome A
 
--- what it finds is spelled so
+-- what it finds is encoded so
 abbrev pub Sound : {A : Type 0} → Reader A → (A → List ℕ → Type 0) → Type 0
 Sound {A} g P = (b r : List ℕ) (x : A) → g b ≡ found x r → (a : List ℕ) × P x a × (b ≡ a ++ r)
 
@@ -56,7 +56,7 @@ Sound {A} g P = (b r : List ℕ) (x : A) → g b ≡ found x r → (a : List ℕ
 abbrev pub Answers : {A : Type 0} → Type 0 → Outcome A → A → List ℕ → Type 0
 Answers D o x r = (o ≡ found x r) ⊎ (D × (o ≡ deep))
 
--- what is spelled so it finds, before bytes that may follow a value
+-- what is encoded so it finds, before bytes that may follow a value
 abbrev pub Complete : {A : Type 0} → Type 0 → (List ℕ → Bool) → Reader A → (A → List ℕ → Type 0) → Type 0
 Complete {A} D ends g P = (a r : List ℕ) (x : A) → P x a → ends r ≡ true → Answers D (g (a ++ r)) x r
 
@@ -209,7 +209,7 @@ bind_deep (found x r) k e = inr (x, r, refl, e)
 bind_deep wrong k e = absurd (wrong-deep e)
 bind_deep deep k e = inl refl
 
--- before something that is too deep, entries are passed over, or are too deep themselves
+-- before something that is too deep, entries are skipped, or are too deep themselves
 pub entry-deep : {A : Type 0} (ends : List ℕ → Bool) (g : Reader A) (P : A → List ℕ → Type 0) → Complete (Unit {0}) ends g P → (z : ℕ) → Stops ends z → (xs old : List A) (n : ℕ) (c d : List ℕ) → Before P xs c → g d ≡ deep → length xs ≤ n → entry_at g z n old (c ++ d) ≡ deep
 unfolding more_at
 entry-deep ends g P h z s [] old n c d m e l = rw (m, e) refl

@@ -1,4 +1,4 @@
--- The parts of a number, as the code passes over them.
+-- The parts of a number, as the code skips them.
 use Rattle.std.proofs.Common.{◌≡◌, ◌≢◌, inl, inr, ℕ, ◌-◌, Bool, true, false, cond, List, [], ◌∷◌, ◌++◌, length, take, drop, refl, sym, ap, ◌∙◌, subst, append_assoc, arith}
 use Rattle.std.specs.Prelude.{Result, Ok, Err, MatchBool}
 use Rattle.std.proofs.lemmas.List.{length-append, take_at}
@@ -6,7 +6,7 @@ use Rattle.json_tree.specs.Tree.{number, has_point}
 use Rattle.json_tree.specs.declared.value.Value.{Number as TheNumber}
 use Rattle.json_tree.specs.declared.value.Number.TheVariants.{Integer, Float}
 use Rattle.json_tree.specs.Grammar.{is_digit, is_exponent_mark, IsExponent}
-use Rattle.json_tree.specs.Reading.{found, wrong, First, front, after, digits_at, int_at, minus_at, frac_at, sign_at, exp_at, number_at}
+use Rattle.json_tree.specs.Reading.{found, wrong, First, prefix, after, digits_at, int_at, minus_at, frac_at, sign_at, exp_at, number_at}
 use Rattle.json_tree.specs.Gives.{Moves}
 use Rattle.json_tree.specs.declared.value.JsonFault.{JsonFault}
 use Rattle.json_tree.proofs.Scalars.{minus-sound, int-sound, frac-sound, exp-sound}
@@ -14,7 +14,7 @@ use Rattle.json_tree.proofs.Turns.{ne-eqb}
 
 pub digits-step : (b t : List ℕ) (x : ℕ) → b ≡ x ∷ t → is_digit x ≡ true → (s : List ℕ) × (digits_at b ≡ found s (after is_digit t))
 unfolding digits_at
-digits-step b t x e d = (x ∷ front is_digit t, rw (e, d) refl)
+digits-step b t x e d = (x ∷ prefix is_digit t, rw (e, d) refl)
 
 pub int-zero : (b t : List ℕ) → b ≡ 48 ∷ t → (s : List ℕ) × (int_at b ≡ found s t)
 unfolding int_at

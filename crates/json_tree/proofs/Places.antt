@@ -150,7 +150,7 @@ from-place n k (x ∷ xs) = at (bytes_eq x k) (place_from (suc n) k xs) (from-pl
     at false (Some i) h = (omega (arith, h.0), omega (arith, h.1))
 
 module _ {V : Type 0} where
-  -- what an index of the keys behind the first 16 finds
+  -- what an index of the keys after the first 16 finds
   pub found-behind : (ms : List (List ℕ × V)) (k : List ℕ) (r : Option ℕ) → r ≡ place_from 16 k (drop 16 (keys_of ms))
       → place k (keys_of ms) ≡ (length ms - (length ms - 16)) + place k (keys_of (drop 16 ms))
       → MatchOption r (length ms ≤ place k (keys_of ms)) (λ i. (i ≡ place k (keys_of ms)) × (i < length ms))

@@ -2,15 +2,15 @@
 use Rattle.std.specs.Prelude.{◌≡◌, ◌⊎◌, ℕ, zero, suc, List, [], ◌∷◌, ◌++◌}
 use Rattle.std.specs.Str.{IsUtf8}
 use Rattle.json_tree.specs.Tree.{Json}
-use Rattle.json_tree.specs.Grammar.{Spaces, AfterSpaces, Quoted, Member, Spells}
+use Rattle.json_tree.specs.Grammar.{Spaces, AfterSpaces, Quoted, Member, Encodes}
 
--- entries, each with a comma behind it
+-- entries, each with a comma after it
 abbrev pub Before : {A : Type 0} → (A → List ℕ → Type 0) → List A → List ℕ → Type 0
 Before P [] b = b ≡ []
 Before P (x ∷ xs) b = (a : List ℕ) × (w : List ℕ) × (c : List ℕ) × P x a × Spaces w × Before P xs c × (b ≡ a ++ (w ++ 44 ∷ c))
 
 abbrev pub Any : Json → List ℕ → Type 0
-Any x b = (n : ℕ) × Spells n x b
+Any x b = (n : ℕ) × Encodes n x b
 
 abbrev pub Reaches : ℕ → List ℕ → Type 0
 Reaches zero b = (b ≡ 91 ∷ []) ⊎ (b ≡ 123 ∷ [])
@@ -18,6 +18,6 @@ Reaches (suc n) b =
     ((xs : List Json) × (c : List ℕ) × (d : List ℕ) × Before (λ y. AfterSpaces (Any y)) xs c × AfterSpaces (Reaches n) d × (b ≡ 91 ∷ (c ++ d)))
     ⊎ ((ms : List (List ℕ × Json)) × (c : List ℕ) × (s : List ℕ) × (k : List ℕ) × (w : List ℕ) × (d : List ℕ) × Before (Member Any) ms c × AfterSpaces (Quoted s) k × Spaces w × AfterSpaces (Reaches n) d × (b ≡ 123 ∷ (c ++ (k ++ (w ++ 58 ∷ d)))))
 
--- a front of the bytes begins a JSON text, and ends with its 129th open bracket
+-- a prefix of the bytes begins a JSON text, and ends with its 129th open bracket
 abbrev pub IsDeep : List ℕ → Type 0
 IsDeep b = (p : List ℕ) × (r : List ℕ) × IsUtf8 p × AfterSpaces (Reaches 128) p × (b ≡ p ++ r)

@@ -1,4 +1,4 @@
--- Strings and values without brackets are read exactly as they are spelled.
+-- Strings and values without brackets are read exactly as they are encoded.
 use Rattle.std.proofs.Common.{◌≡◌, ◌⊎◌, inl, inr, ℕ, zero, suc, ◌<◌, ◌≤◌, Bool, true, false, not, cond, eqb, ◌||◌, List, [], ◌∷◌, ◌++◌, length, Option, Some, None, refl, sym, ap, ◌∙◌, subst, append_assoc, arith}
 use Rattle.std.proofs.lemmas.Bool.Decides.{nat_tests}
 use Rattle.std.proofs.lemmas.Bool.{true≢false, eq-eqb, and_parts}
@@ -9,7 +9,7 @@ use Rattle.json_tree.specs.Tree.{Json, null, boolean, number, string}
 use Rattle.json_tree.specs.Grammar.{Each, is_space, is_digit, is_exponent_mark, IsMinus, IsInteger, Digits, IsFraction, IsSign, IsExponent, IsNumber, Quoted, Scalar, text_null, text_true, text_false}
 use Rattle.arrow_base.specs.JsonString.{is_unescaped, short_escape, hexadecimal, IsUnicodeEscape, IsSurrogatePair, IsChar, Chars, no_chars, one_char}
 use Rattle.std.specs.Char.Utf16.{is_high_surrogate, is_low_surrogate, surrogate_pair_char}
-use Rattle.json_tree.specs.Reading.{Outcome, found, wrong, deep, bind, on_first, front, after, digits_at, int_at, minus_at, frac_at, sign_at, exp_at, number_at, strip, if_some, unit_at, low_at, unicode_at, escape_at, char_at, chars_at, string_at, scalar_at}
+use Rattle.json_tree.specs.Reading.{Outcome, found, wrong, deep, bind, on_first, prefix, after, digits_at, int_at, minus_at, frac_at, sign_at, exp_at, number_at, strip, if_some, unit_at, low_at, unicode_at, escape_at, char_at, chars_at, string_at, scalar_at}
 use Rattle.json_tree.proofs.ListLaws.{Sound, wrong-found, found_parts, bind_found, wrong-deep, found-deep}
 
 -- what may follow a number
@@ -134,7 +134,7 @@ string-deep b = never-first (λ x t. cond (eqb x 34) (chars_at (length b) [] t) 
 never-digits : (b : List ℕ) → Never (digits_at b)
 unfolding digits_at
 never-digits [] = wrong-deep
-never-digits (x ∷ t) = never-cond (is_digit x) _ _ (found-deep (x ∷ front is_digit t) (after is_digit t)) wrong-deep
+never-digits (x ∷ t) = never-cond (is_digit x) _ _ (found-deep (x ∷ prefix is_digit t) (after is_digit t)) wrong-deep
 
 never-int : (b : List ℕ) → Never (int_at b)
 unfolding int_at
@@ -219,7 +219,7 @@ unit-sound (h ∷ i ∷ []) r u e = absurd (wrong-found u r e)
 unit-sound (h ∷ i ∷ j ∷ []) r u e = absurd (wrong-found u r e)
 unit-sound (h ∷ i ∷ j ∷ k ∷ t) r u e = let s = some-found (hexadecimal h i j k) t r u e in (h, i, j, k, s.0, ap (λ l. h ∷ i ∷ j ∷ k ∷ l) s.1)
 
--- behind a backslash
+-- after a backslash
 abbrev Escaped : List ℕ → List ℕ → List ℕ → Type 0
 Escaped c t r = (p : List ℕ) × IsChar (92 ∷ p) c × (t ≡ p ++ r)
 
@@ -356,12 +356,12 @@ abbrev pub head_or : ℕ → List ℕ → ℕ
 head_or d [] = d
 head_or d (x ∷ t) = x
 
-front-cut : (p : ℕ → Bool) (b : List ℕ) → Each p (front p b) × (b ≡ front p b ++ after p b)
-unfolding front after
-front-cut p [] = (tt, refl)
-front-cut p (x ∷ t) = tested (front-cut p t) (p x) refl
+prefix-cut : (p : ℕ → Bool) (b : List ℕ) → Each p (prefix p b) × (b ≡ prefix p b ++ after p b)
+unfolding prefix after
+prefix-cut p [] = (tt, refl)
+prefix-cut p (x ∷ t) = tested (prefix-cut p t) (p x) refl
   where
-    tested : Each p (front p t) × (t ≡ front p t ++ after p t) → (v : Bool) → p x ≡ v → Each p (cond v (x ∷ front p t) []) × (x ∷ t ≡ cond v (x ∷ front p t) [] ++ cond v (after p t) (x ∷ t))
+    tested : Each p (prefix p t) × (t ≡ prefix p t ++ after p t) → (v : Bool) → p x ≡ v → Each p (cond v (x ∷ prefix p t) []) × (x ∷ t ≡ cond v (x ∷ prefix p t) [] ++ cond v (after p t) (x ∷ t))
     tested h true e = ((e, h.0), ap (λ l. x ∷ l) h.1)
     tested h false e = (tt, refl)
 
@@ -369,27 +369,27 @@ front-cut p (x ∷ t) = tested (front-cut p t) (p x) refl
 abbrev Ends : (ℕ → Bool) → List ℕ → Type 0
 Ends p b = on_first true (λ x t. not (p x)) b ≡ true
 
-front-complete : (p : ℕ → Bool) (a r : List ℕ) → Each p a → Ends p r → (front p (a ++ r) ≡ a) × (after p (a ++ r) ≡ r)
-unfolding front after
-front-complete p [] [] h e = (refl, refl)
-front-complete p [] (x ∷ r) h e = let n = not_true (p x) e in (rw n refl, rw n refl)
-front-complete p (x ∷ a) r h e = let k = front-complete p a r h.1 e in (rw (h.0, k.0) refl, rw (h.0, k.1) refl)
+prefix-complete : (p : ℕ → Bool) (a r : List ℕ) → Each p a → Ends p r → (prefix p (a ++ r) ≡ a) × (after p (a ++ r) ≡ r)
+unfolding prefix after
+prefix-complete p [] [] h e = (refl, refl)
+prefix-complete p [] (x ∷ r) h e = let n = not_true (p x) e in (rw n refl, rw n refl)
+prefix-complete p (x ∷ a) r h e = let k = prefix-complete p a r h.1 e in (rw (h.0, k.0) refl, rw (h.0, k.1) refl)
 
 digits-sound : Sound digits_at (λ ds b. Digits b × (ds ≡ b))
 unfolding digits_at
 digits-sound [] r ds e = absurd (wrong-found ds r e)
 digits-sound (x ∷ t) r ds e = tested (is_digit x) refl e
   where
-    tested : (v : Bool) → is_digit x ≡ v → cond v (found (x ∷ front is_digit t) (after is_digit t)) wrong ≡ found ds r → (a : List ℕ) × (Digits a × (ds ≡ a)) × (x ∷ t ≡ a ++ r)
+    tested : (v : Bool) → is_digit x ≡ v → cond v (found (x ∷ prefix is_digit t) (after is_digit t)) wrong ≡ found ds r → (a : List ℕ) × (Digits a × (ds ≡ a)) × (x ∷ t ≡ a ++ r)
     tested true q e =
-        let f = found_parts (x ∷ front is_digit t) ds (after is_digit t) r e in
-        let c = front-cut is_digit t in
-        (x ∷ front is_digit t, ((x, front is_digit t, q, c.0, refl), sym f.0), ap (λ l. x ∷ l) (c.1 ∙ ap (λ l. front is_digit t ++ l) f.1))
+        let f = found_parts (x ∷ prefix is_digit t) ds (after is_digit t) r e in
+        let c = prefix-cut is_digit t in
+        (x ∷ prefix is_digit t, ((x, prefix is_digit t, q, c.0, refl), sym f.0), ap (λ l. x ∷ l) (c.1 ∙ ap (λ l. prefix is_digit t ++ l) f.1))
     tested false q e = absurd (wrong-found ds r e)
 
 digits-complete : (b r : List ℕ) → Digits b → Ends is_digit r → digits_at (b ++ r) ≡ found b r
 unfolding digits_at
-digits-complete b r h e = let f = front-complete is_digit h.1 r h.3 e in rw (h.4, h.2, f.0, f.1) refl
+digits-complete b r h e = let f = prefix-complete is_digit h.1 r h.3 e in rw (h.4, h.2, f.0, f.1) refl
 
 pub int-sound : Sound int_at (λ i b. IsInteger b × (i ≡ b))
 unfolding int_at

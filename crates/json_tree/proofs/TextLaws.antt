@@ -4,7 +4,7 @@ use Rattle.std.proofs.lemmas.List.{append-nil, length-append, take_at}
 use Rattle.std.proofs.lemmas.Str.{IsCharBoundary-after_ascii, IsUtf8-take}
 use Rattle.std.specs.Str.{IsUtf8}
 use Rattle.json_tree.specs.Tree.{Json, string}
-use Rattle.json_tree.specs.Grammar.{Spaces, AfterSpaces, Spells, IsText}
+use Rattle.json_tree.specs.Grammar.{Spaces, AfterSpaces, Encodes, IsText}
 use Rattle.json_tree.proofs.Reaching.{Reaches}
 use Rattle.json_tree.specs.Reading.{Outcome, found, wrong, deep, bind, skip, led, value_at, if_end, text_at}
 use Rattle.json_tree.specs.Meaning.{IsJson, IsJsonText}
@@ -12,7 +12,7 @@ use Rattle.arrow_base.specs.JsonString.{JsonString}
 use Rattle.json_tree.proofs.Reaching.{IsDeep}
 use Rattle.json_tree.proofs.ListLaws.{Answers, found_parts, wrong-found, deep-found, bind_found, bind_deep, wrong-deep, found-deep, skip-cut, skip-spaces}
 use Rattle.json_tree.proofs.Scalars.{ends, space-ends}
-use Rattle.json_tree.proofs.ValueLaws.{spells-starts, led-sound, led-complete, led-skip, value-sound, value-complete}
+use Rattle.json_tree.proofs.ValueLaws.{encodes-starts, led-sound, led-complete, led-skip, value-sound, value-complete}
 use Rattle.json_tree.proofs.Deep.{led-why, reaches-starts, value-why, value-deep}
 
 end-found : (x y : Json) (s r : List ℕ) → if_end x s ≡ found y r → (s ≡ []) × (x ≡ y) × (r ≡ [])
@@ -27,10 +27,10 @@ pub text-sound : (d : ℕ) (b r : List ℕ) (x : Json) → text_at d b ≡ found
 unfolding text_at
 text-sound d b r x e =
     let k = bind_found (led (value_at d) b) (λ x r. if_end x (skip r)) x r e in
-    let v = led-sound (value_at d) (Spells d) (value-sound d) b k.1 k.0 k.2 in
+    let v = led-sound (value_at d) (Encodes d) (value-sound d) b k.1 k.0 k.2 in
     let f = end-found k.0 x (skip k.1) r k.3 in
     let w = skip-cut k.1 in
-    (v.0, w.0, subst (λ y. AfterSpaces (Spells d y) v.0) f.1 v.1, w.1, v.2 ∙ ap (λ l. v.0 ++ l) (w.2 ∙ ap (λ l. w.0 ++ l) f.0 ∙ append-nil w.0))
+    (v.0, w.0, subst (λ y. AfterSpaces (Encodes d y) v.0) f.1 v.1, w.1, v.2 ∙ ap (λ l. v.0 ++ l) (w.2 ∙ ap (λ l. w.0 ++ l) f.0 ∙ append-nil w.0))
 
 pub ends-spaces : (w : List ℕ) → Spaces w → ends w ≡ true
 unfolding ends
@@ -48,7 +48,7 @@ sure o x r (inr e) = absurd e.0
 pub text-within : (n d : ℕ) (b : List ℕ) (x : Json) → n ≤ d → IsText n x b → text_at d b ≡ found x []
 unfolding text_at
 text-within n d b x le h =
-    let v = led-complete ⊥ (value_at d) (Spells n) (spells-starts n) (value-complete ⊥ n d (λ l. omega (arith, l, le))) h.0 h.1 x h.2 (ends-spaces h.1 h.3) in
+    let v = led-complete ⊥ (value_at d) (Encodes n) (encodes-starts n) (value-complete ⊥ n d (λ l. omega (arith, l, le))) h.0 h.1 x h.2 (ends-spaces h.1 h.3) in
     let q = sure (led (value_at d) (h.0 ++ h.1)) x h.1 v in
     rw (h.4, q, skip-all h.1 h.3) refl
 
@@ -59,7 +59,7 @@ text-complete d b x h = text-within d d b x (omega arith) h
 pub text-answers : (n d : ℕ) (b : List ℕ) (x : Json) → IsText n x b → (text_at d b ≡ found x []) ⊎ (text_at d b ≡ deep)
 unfolding text_at
 text-answers n d b x h =
-    at (led-complete (Unit {0}) (value_at d) (Spells n) (spells-starts n) (value-complete (Unit {0}) n d (λ l. tt)) h.0 h.1 x h.2 (ends-spaces h.1 h.3))
+    at (led-complete (Unit {0}) (value_at d) (Encodes n) (encodes-starts n) (value-complete (Unit {0}) n d (λ l. tt)) h.0 h.1 x h.2 (ends-spaces h.1 h.3))
   where
     at : Answers (Unit {0}) (led (value_at d) (h.0 ++ h.1)) x h.1 → (bind (led (value_at d) b) (λ x r. if_end x (skip r)) ≡ found x []) ⊎ (bind (led (value_at d) b) (λ x r. if_end x (skip r)) ≡ deep)
     at (inl e) = inl (rw (h.4, e, skip-all h.1 h.3) refl)
@@ -84,27 +84,27 @@ text-deep d p r h =
 abbrev pub Last : List ℕ → Type 0
 Last p = (q : List ℕ) × (x : ℕ) × (x < 128) × (p ≡ q ++ x ∷ [])
 
-front-last : (a p : List ℕ) → Last p → Last (a ++ p)
-front-last a p h = (a ++ h.0, h.1, h.2, ap (λ l. a ++ l) h.3 ∙ sym (append_assoc a h.0 (h.1 ∷ [])))
+prefix-last : (a p : List ℕ) → Last p → Last (a ++ p)
+prefix-last a p h = (a ++ h.0, h.1, h.2, ap (λ l. a ++ l) h.3 ∙ sym (append_assoc a h.0 (h.1 ∷ [])))
 
 pub led-last : (P : List ℕ → Type 0) (p : List ℕ) → ((q : List ℕ) → P q → Last q) → AfterSpaces P p → Last p
-led-last P p f h = subst Last (sym h.4) (front-last h.0 h.1 (f h.1 h.3))
+led-last P p f h = subst Last (sym h.4) (prefix-last h.0 h.1 (f h.1 h.3))
 
 pub reaches-last : (d : ℕ) (p : List ℕ) → Reaches d p → Last p
 reaches-last zero p (inl h) = ([], 91, omega arith, h)
 reaches-last zero p (inr h) = ([], 123, omega arith, h)
-reaches-last (suc d) p (inl h) = subst Last (sym h.5) (front-last (91 ∷ h.1) h.2 (led-last (Reaches d) h.2 (reaches-last d) h.4))
+reaches-last (suc d) p (inl h) = subst Last (sym h.5) (prefix-last (91 ∷ h.1) h.2 (led-last (Reaches d) h.2 (reaches-last d) h.4))
 reaches-last (suc d) p (inr h) =
     let k = led-last (Reaches d) h.5 (reaches-last d) h.9 in
-    subst Last (sym h.10) (front-last (123 ∷ h.1) _ (front-last h.3 _ (front-last h.4 _ (front-last (58 ∷ []) h.5 k))))
+    subst Last (sym h.10) (prefix-last (123 ∷ h.1) _ (prefix-last h.3 _ (prefix-last h.4 _ (prefix-last (58 ∷ []) h.5 k))))
 
 get_at : (q r : List ℕ) (x : ℕ) → get_or (q ++ x ∷ r) (length q) 0 ≡ x
 get_at [] r x = refl
 get_at (y ∷ q) r x = get_at q r x
 
--- in a text the front up to a bracket is a text
-pub front-utf8 : (p r : List ℕ) → Last p → IsUtf8 (p ++ r) → IsUtf8 p
-front-utf8 p r l u =
+-- in a text the prefix up to a bracket is a text
+pub prefix-utf8 : (p r : List ℕ) → Last p → IsUtf8 (p ++ r) → IsUtf8 p
+prefix-utf8 p r l u =
     let apart : p ++ r ≡ l.0 ++ (l.1 ∷ r) = ap (λ k. k ++ r) l.3 ∙ append_assoc l.0 (l.1 ∷ []) r in
     let at : get_or (p ++ r) (length l.0) 0 ≡ l.1 = ap (λ k. get_or k (length l.0) 0) apart ∙ get_at l.0 r l.1 in
     let n : length p ≡ length l.0 + 1 = omega (arith, ap length l.3, length-append l.0 (l.1 ∷ [])) in
@@ -120,7 +120,7 @@ json-found b r x u e = (u, text-sound 128 b r x e)
 pub deep-why : (b more : List ℕ) → IsUtf8 b → text_at 128 b ≡ deep → IsDeep (b ++ more)
 deep-why b more u e =
     let w = text-why 128 b e in
-    let f = front-utf8 w.0 w.1 (led-last (Reaches 128) w.0 (reaches-last 128) w.2) (subst IsUtf8 w.3 u) in
+    let f = prefix-utf8 w.0 w.1 (led-last (Reaches 128) w.0 (reaches-last 128) w.2) (subst IsUtf8 w.3 u) in
     (w.0, w.1 ++ more, f, w.2, ap (λ l. l ++ more) w.3 ∙ append_assoc w.0 w.1 more)
 
 pub split : (p f r m : List ℕ) → p ++ r ≡ f ++ m → length p ≤ length f → (t : List ℕ) × (f ≡ p ++ t)
@@ -131,11 +131,11 @@ split (x ∷ p) (y ∷ f) r m e l =
     let xy : x ≡ y = ap (λ k. get_or k 0 0) e in
     (t.0, ap (λ k. y ∷ k) t.1 ∙ ap (λ z. z ∷ (p ++ t.0)) (sym xy))
 
--- deep bytes are deep in the longest front that is UTF-8
-pub deep-there : (b front more : List ℕ) → b ≡ front ++ more → ((p r : List ℕ) → IsUtf8 p → b ≡ p ++ r → length p ≤ length front) → IsDeep b → text_at 128 front ≡ deep
-deep-there b front more cut longest h =
+-- deep bytes are deep in the longest prefix that is UTF-8
+pub deep-there : (b prefix more : List ℕ) → b ≡ prefix ++ more → ((p r : List ℕ) → IsUtf8 p → b ≡ p ++ r → length p ≤ length prefix) → IsDeep b → text_at 128 prefix ≡ deep
+deep-there b prefix more cut longest h =
     let l = longest h.0 h.1 h.2 h.4 in
-    let s = split h.0 front h.1 more (sym h.4 ∙ cut) l in
+    let s = split h.0 prefix h.1 more (sym h.4 ∙ cut) l in
     ap (text_at 128) s.1 ∙ text-deep 128 h.0 s.0 h.3
 
 -- a text stands for one value

@@ -1,8 +1,8 @@
--- Values are read exactly as they are spelled.
+-- Values are read exactly as they are encoded.
 use Rattle.std.proofs.Common.{◌≡◌, inl, inr, ℕ, zero, suc, ◌<◌, Bool, true, false, cond, eqb, List, [], ◌∷◌, ◌++◌, refl, sym, ap, ◌∙◌, subst, append_assoc, arith}
 use Rattle.std.proofs.lemmas.Bool.Decides.{nat_tests}
 use Rattle.json_tree.specs.Tree.{Json, array, object, put_together}
-use Rattle.json_tree.specs.Grammar.{is_space, is_digit, Spaces, AfterSpaces, Quoted, Scalar, Member, Spells}
+use Rattle.json_tree.specs.Grammar.{is_space, is_digit, Spaces, AfterSpaces, Quoted, Scalar, Member, Encodes}
 use Rattle.json_tree.specs.Reading.{found, wrong, deep, bind, skip, strip, listed_at, led, string_at, scalar_at, member_at, array_at, object_at, value_at}
 use Rattle.json_tree.proofs.ListLaws.{Reader, Sound, Complete, Stops, Begins, wrong-found, deep-found, found_parts, bind_found, bind_answers, skip-cut, skip-spaces, skip-stop, listed-sound, listed-complete}
 use Rattle.json_tree.proofs.Scalars.{ends, Starts, string-sound, string-complete, scalar-sound, scalar-complete, scalar-starts, space-ends}
@@ -21,20 +21,20 @@ pub stops_object : Stops ends 125
 unfolding ends is_space is_digit
 stops_object = (ends-at 125 (λ t. refl), ends-at 44 (λ t. refl), refl, refl)
 
-pub spells-starts : (n : ℕ) (x : Json) (a r : List ℕ) → Spells n x a → Starts (a ++ r)
+pub encodes-starts : (n : ℕ) (x : Json) (a r : List ℕ) → Encodes n x a → Starts (a ++ r)
 unfolding is_space
-spells-starts zero x a r h = let s = scalar-starts x a r h in (s.0, s.1, s.2, s.3, s.4, s.5)
-spells-starts (suc n) x a r (inl h) = let s = scalar-starts x a r h in (s.0, s.1, s.2, s.3, s.4, s.5)
-spells-starts (suc n) x a r (inr (inl h)) = (91, h.1 ++ r, ap (λ l. l ++ r) h.4, refl, refl, refl)
-spells-starts (suc n) x a r (inr (inr h)) = (123, h.1 ++ r, ap (λ l. l ++ r) h.4, refl, refl, refl)
+encodes-starts zero x a r h = let s = scalar-starts x a r h in (s.0, s.1, s.2, s.3, s.4, s.5)
+encodes-starts (suc n) x a r (inl h) = let s = scalar-starts x a r h in (s.0, s.1, s.2, s.3, s.4, s.5)
+encodes-starts (suc n) x a r (inr (inl h)) = (91, h.1 ++ r, ap (λ l. l ++ r) h.4, refl, refl, refl)
+encodes-starts (suc n) x a r (inr (inr h)) = (123, h.1 ++ r, ap (λ l. l ++ r) h.4, refl, refl, refl)
 
--- behind white space
+-- after white space
 pub led-starts : (P : List ℕ → Type 0) → ((a r : List ℕ) → P a → Starts (a ++ r)) → (a r : List ℕ) → AfterSpaces P a → (y : ℕ) × (t : List ℕ) × (skip (a ++ r) ≡ y ∷ t) × (eqb y 93 ≡ false) × (eqb y 125 ≡ false)
 led-starts P h a r l =
     let s = h l.1 r l.3 in
     (s.0, s.1, ap (λ b. skip (b ++ r)) l.4 ∙ ap skip (append_assoc l.0 l.1 r) ∙ skip-spaces l.0 (l.1 ++ r) l.2 ∙ ap skip s.2 ∙ skip-stop s.0 s.1 s.3, s.4, s.5)
 
--- the first byte of what is spelled behind white space
+-- the first byte of what is encoded after white space
 pub led-skip : (P : List ℕ → Type 0) → ((a r : List ℕ) → P a → Starts (a ++ r)) → (a r : List ℕ) (l : AfterSpaces P a) → skip (a ++ r) ≡ l.1 ++ r
 led-skip P h a r l =
     let s = h l.1 r l.3 in
@@ -83,7 +83,7 @@ pub key-starts : (s a r : List ℕ) → Quoted s a → Starts (a ++ r)
 unfolding is_space
 key-starts s a r h = (34, (h.0 ++ 34 ∷ []) ++ r, ap (λ l. l ++ r) h.1, refl, refl, refl)
 
--- a key and its colon are passed over
+-- a key and its colon are skipped
 pub member-key : (f : Reader Json) (k w v : List ℕ) (s : List ℕ) → AfterSpaces (Quoted s) k → Spaces w → member_at f (k ++ (w ++ 58 ∷ v)) ≡ bind (led f v) (λ x p. found (s, x) p)
 unfolding member_at strip is_space
 member-key f k w v s key sp =
@@ -100,11 +100,11 @@ member-complete D f P st h a r m l e =
 
 -- ---- values
 
-abbrev spelled : ℕ → Json → List ℕ → Type 0
-spelled n y = AfterSpaces (Spells n y)
+abbrev encoded : ℕ → Json → List ℕ → Type 0
+encoded n y = AfterSpaces (Encodes n y)
 
-pub begins_array : (n : ℕ) → Begins (λ y. AfterSpaces (Spells n y)) 93
-begins_array n x a r l = let s = led-starts (Spells n x) (spells-starts n x) a r l in (s.0, s.1, s.2, s.3)
+pub begins_array : (n : ℕ) → Begins (λ y. AfterSpaces (Encodes n y)) 93
+begins_array n x a r l = let s = led-starts (Encodes n x) (encodes-starts n x) a r l in (s.0, s.1, s.2, s.3)
 
 pub begins_object : (P : Json → List ℕ → Type 0) → Begins (Member P) 125
 begins_object P m a r l =
@@ -115,7 +115,7 @@ begins_object P m a r l =
 abbrev Found : (Json → List ℕ → Type 0) → List ℕ → Json → List ℕ → Type 0
 Found P b x r = (a : List ℕ) × P x a × (b ≡ a ++ r)
 
-pub value-sound : (d : ℕ) → Sound (value_at d) (Spells d)
+pub value-sound : (d : ℕ) → Sound (value_at d) (Encodes d)
 unfolding value_at
 value-sound zero [] r x e = absurd (wrong-found x r e)
 value-sound zero (y ∷ t) r x e = tested (eqb y 91) (eqb y 123) e
@@ -127,17 +127,17 @@ value-sound zero (y ∷ t) r x e = tested (eqb y 91) (eqb y 123) e
 value-sound (suc d) [] r x e = absurd (wrong-found x r e)
 value-sound (suc d) (y ∷ t) r x e = tested (value-sound d) (eqb y 91) (eqb y 123) refl refl e
   where
-    tested : Sound (value_at d) (Spells d) → (u v : Bool) → eqb y 91 ≡ u → eqb y 123 ≡ v → cond u (array_at (value_at d) t) (cond v (object_at (value_at d) t) (scalar_at (y ∷ t))) ≡ found x r → Found (Spells (suc d)) (y ∷ t) x r
+    tested : Sound (value_at d) (Encodes d) → (u v : Bool) → eqb y 91 ≡ u → eqb y 123 ≡ v → cond u (array_at (value_at d) t) (cond v (object_at (value_at d) t) (scalar_at (y ∷ t))) ≡ found x r → Found (Encodes (suc d)) (y ∷ t) x r
     tested h true v p q e =
         let k = bind_found (listed_at (led (value_at d)) 93 t) (λ xs r. found (array xs) r) x r e in
         let w = found_parts (array (k.0)) x k.1 r k.3 in
-        let l = listed-sound (led (value_at d)) (λ y. AfterSpaces (Spells d y)) (led-sound (value_at d) (Spells d) h) 93 t k.1 k.0 k.2 in
+        let l = listed-sound (led (value_at d)) (λ y. AfterSpaces (Encodes d y)) (led-sound (value_at d) (Encodes d) h) 93 t k.1 k.0 k.2 in
         let is : y ≡ 91 = grind (arith, nat_tests) in
         (91 ∷ l.0, inr (inl (k.0, l.0, l.1, sym w.0, refl)), rw is (ap (λ b. 91 ∷ b) (l.2 ∙ ap (λ b. l.0 ++ b) w.1)))
     tested h false true p q e =
         let k = bind_found (listed_at (member_at (value_at d)) 125 t) (λ xs r. found (object (put_together xs)) r) x r e in
         let w = found_parts (object (put_together k.0)) x k.1 r k.3 in
-        let l = listed-sound (member_at (value_at d)) (Member (Spells d)) (member-sound (value_at d) (Spells d) h) 125 t k.1 k.0 k.2 in
+        let l = listed-sound (member_at (value_at d)) (Member (Encodes d)) (member-sound (value_at d) (Encodes d) h) 125 t k.1 k.0 k.2 in
         let is : y ≡ 123 = grind (arith, nat_tests) in
         (123 ∷ l.0, inr (inr (k.0, l.0, l.1, sym w.0, refl)), rw is (ap (λ b. 123 ∷ b) (l.2 ∙ ap (λ b. l.0 ++ b) w.1)))
     tested h false false p q e = let s = scalar-sound (y ∷ t) r x e in (s.0, inl s.1, s.2)
@@ -148,17 +148,17 @@ scalar-value zero x a r h e = let s = scalar-starts x a r h in rw (s.2, s.6, s.7
 scalar-value (suc d) x a r h e = let s = scalar-starts x a r h in rw (s.2, s.6, s.7, ← s.2) (scalar-complete x a r h e)
 
 -- found where n is at most d, and else found or too deep
-pub value-complete : (D : Type 0) (n d : ℕ) → (d < n → D) → Complete D ends (value_at d) (Spells n)
+pub value-complete : (D : Type 0) (n d : ℕ) → (d < n → D) → Complete D ends (value_at d) (Encodes n)
 unfolding value_at
 value-complete D zero d over a r x h e = inl (scalar-value d x a r h e)
 value-complete D (suc n) d over a r x (inl h) e = inl (scalar-value d x a r h e)
 value-complete D (suc n) zero over a r x (inr (inl h)) e = inr (over (omega arith), rw h.4 refl)
 value-complete D (suc n) zero over a r x (inr (inr h)) e = inr (over (omega arith), rw h.4 refl)
 value-complete D (suc n) (suc d) over a r x (inr (inl h)) e =
-    let one = led-complete D (value_at d) (Spells n) (spells-starts n) (value-complete D n d (λ l. over (omega (arith, l)))) in
-    let all = listed-complete D ends (led (value_at d)) (λ y. AfterSpaces (Spells n y)) one 93 stops_array (begins_array n) h.0 h.1 r h.2 in
+    let one = led-complete D (value_at d) (Encodes n) (encodes-starts n) (value-complete D n d (λ l. over (omega (arith, l)))) in
+    let all = listed-complete D ends (led (value_at d)) (λ y. AfterSpaces (Encodes n y)) one 93 stops_array (begins_array n) h.0 h.1 r h.2 in
     rw (h.4, h.3) (bind_answers D (listed_at (led (value_at d)) 93 (h.1 ++ r)) (λ xs q. found (array xs) q) h.0 r (array (h.0)) r all (inl refl))
 value-complete D (suc n) (suc d) over a r x (inr (inr h)) e =
-    let one = member-complete D (value_at d) (Spells n) (spells-starts n) (value-complete D n d (λ l. over (omega (arith, l)))) in
-    let all = listed-complete D ends (member_at (value_at d)) (Member (Spells n)) one 125 stops_object (begins_object (Spells n)) h.0 h.1 r h.2 in
+    let one = member-complete D (value_at d) (Encodes n) (encodes-starts n) (value-complete D n d (λ l. over (omega (arith, l)))) in
+    let all = listed-complete D ends (member_at (value_at d)) (Member (Encodes n)) one 125 stops_object (begins_object (Encodes n)) h.0 h.1 r h.2 in
     rw (h.4, h.3) (bind_answers D (listed_at (member_at (value_at d)) 125 (h.1 ++ r)) (λ xs q. found (object (put_together xs)) q) h.0 r (object (put_together h.0)) r all (inl refl))

@@ -4,7 +4,7 @@ use Rattle.std.specs.Str.{IsUtf8}
 use Rattle.json_tree.specs.Tree.{Json}
 use Rattle.json_tree.specs.Grammar.{IsText}
 
--- outside of strings, in one, or behind a reverse solidus in one
+-- outside of strings, in one, or after a reverse solidus in one
 pub data Place : Type 0 where
   outside : Place
   inside : Place

@@ -1,8 +1,8 @@
 -- What a call gave is what reading gives, unless memory ran out.
 use Rattle.std.specs.Prelude.{◌≡◌, ℕ, List, Result, Ok, Err}
-use Rattle.arrow_lists.specs.declared.error.Error.{Error}
-use Rattle.arrow_lists.specs.declared.error.Error.TheVariants.{ExternalFormat, LimitExceeded, OutOfMemory}
-use Rattle.arrow_lists.specs.declared.error.Reason.TheVariants.{Json}
+use Rattle.arrow_core.specs.declared.error.Error.{Error}
+use Rattle.arrow_core.specs.declared.error.Error.TheVariants.{ExternalFormat, LimitExceeded, OutOfMemory}
+use Rattle.arrow_core.specs.declared.error.Reason.TheVariants.{Json}
 use Rattle.json_tree.specs.Reading.{Outcome, found, wrong, deep}
 use Rattle.json_tree.specs.declared.value.JsonFault.{JsonFault}
 use Rattle.json_tree.specs.declared.value.JsonFault.TheVariants.{Text, Depth, Memory}

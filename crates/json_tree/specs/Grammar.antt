@@ -90,7 +90,7 @@ Scalar value bytes =
 
 -- Sections 4 and 5: entries between two brackets, with a comma between each two.
 
--- what follows an entry: more entries, each behind a comma, and the closing bracket
+-- what follows an entry: more entries, each after a comma, and the closing bracket
 abbrev pub More : {A : Type 0} → (A → List ℕ → Type 0) → ℕ → List A → List ℕ → Type 0
 More Entry close [] bytes = bytes ≡ close ∷ []
 More Entry close (x ∷ xs) bytes =
@@ -109,13 +109,13 @@ Member Of member bytes =
     × (bytes ≡ key ++ (spaces ++ 0x3a ∷ value))
 
 -- A value in which at most so many brackets are open at once. An object's members are put together by their keys.
-abbrev pub Spells : ℕ → Json → List ℕ → Type 0
-Spells zero value bytes = Scalar value bytes
-Spells (suc depth) value bytes =
+abbrev pub Encodes : ℕ → Json → List ℕ → Type 0
+Encodes zero value bytes = Scalar value bytes
+Encodes (suc depth) value bytes =
     Scalar value bytes
-    ⊎ (((items : List Json) × (inside : List ℕ) × Listed (λ item. AfterSpaces (Spells depth item)) 0x5d items inside × (value ≡ array items) × (bytes ≡ 0x5b ∷ inside))
-    ⊎ ((members : List (List ℕ × Json)) × (inside : List ℕ) × Listed (Member (Spells depth)) 0x7d members inside × (value ≡ object (put_together members)) × (bytes ≡ 0x7b ∷ inside)))
+    ⊎ (((items : List Json) × (inside : List ℕ) × Listed (λ item. AfterSpaces (Encodes depth item)) 0x5d items inside × (value ≡ array items) × (bytes ≡ 0x5b ∷ inside))
+    ⊎ ((members : List (List ℕ × Json)) × (inside : List ℕ) × Listed (Member (Encodes depth)) 0x7d members inside × (value ≡ object (put_together members)) × (bytes ≡ 0x7b ∷ inside)))
 
 -- Section 2: JSON-text = ws value ws.
 abbrev pub IsText : ℕ → Json → List ℕ → Type 0
-IsText depth value bytes = (front : List ℕ) × (spaces : List ℕ) × AfterSpaces (Spells depth value) front × Spaces spaces × (bytes ≡ front ++ spaces)
+IsText depth value bytes = (prefix : List ℕ) × (spaces : List ℕ) × AfterSpaces (Encodes depth value) prefix × Spaces spaces × (bytes ≡ prefix ++ spaces)

@@ -3,5 +3,5 @@ use Rattle.std.specs.Prelude.{ℕ, List, ◌++◌}
 use Rattle.std.specs.Str.{IsUtf8}
 
 pub record InText (b : List ℕ) : Type 0 where
-  pub front : List ℕ
-  pub text : IsUtf8 (front ++ b)
+  pub prefix : List ℕ
+  pub text : IsUtf8 (prefix ++ b)

@@ -34,11 +34,11 @@ skip (x ∷ xs) = cond (is_space x) (skip xs) (x ∷ xs)
 
 -- ---- numbers (section 6)
 
--- the longest front whose bytes pass, and what follows it
+-- the longest prefix whose bytes pass, and what follows it
 
-unfoldable pub front : (ℕ → Bool) → List ℕ → List ℕ
-front p [] = []
-front p (x ∷ xs) = cond (p x) (x ∷ front p xs) []
+unfoldable pub prefix : (ℕ → Bool) → List ℕ → List ℕ
+prefix p [] = []
+prefix p (x ∷ xs) = cond (p x) (x ∷ prefix p xs) []
 
 unfoldable pub after : (ℕ → Bool) → List ℕ → List ℕ
 after p [] = []
@@ -47,7 +47,7 @@ after p (x ∷ xs) = cond (p x) (after p xs) (x ∷ xs)
 -- one digit or more
 unfoldable pub digits_at : List ℕ → Outcome (List ℕ)
 digits_at [] = wrong
-digits_at (x ∷ t) = cond (is_digit x) (found (x ∷ front is_digit t) (after is_digit t)) wrong
+digits_at (x ∷ t) = cond (is_digit x) (found (x ∷ prefix is_digit t) (after is_digit t)) wrong
 
 -- int
 unfoldable pub int_at : List ℕ → Outcome (List ℕ)
@@ -98,15 +98,15 @@ unit_at (h ∷ i ∷ []) = wrong
 unit_at (h ∷ i ∷ j ∷ []) = wrong
 unit_at (h ∷ i ∷ j ∷ k ∷ t) = if_some (hexadecimal h i j k) t
 
--- the low surrogate behind a high one
+-- the low surrogate after a high one
 unfoldable pub low_at : ℕ → List ℕ → Outcome (List ℕ)
 low_at u b = bind (strip (92 ∷ 117 ∷ []) b) (λ _ r. bind (unit_at r) (λ v q. cond (is_low_surrogate v) (found (encode_utf8 (surrogate_pair_char u v)) q) wrong))
 
--- behind `\u`
+-- after `\u`
 unfoldable pub unicode_at : List ℕ → Outcome (List ℕ)
 unicode_at b = bind (unit_at b) (λ u r. cond (is_high_surrogate u) (low_at u r) (cond (is_low_surrogate u) wrong (found (encode_utf8 u) r)))
 
--- behind a reverse solidus
+-- after a reverse solidus
 unfoldable pub escape_at : List ℕ → Outcome (List ℕ)
 escape_at [] = wrong
 escape_at (x ∷ t) = cond (x == 117) (unicode_at t) (bind (if_some (short_escape x) t) (λ c r. found (c ∷ []) r))
@@ -125,7 +125,7 @@ string_at b = on_first wrong (λ x t. cond (x == 34) (chars_at (length b) [] t) 
 
 -- ---- entries between brackets (sections 4 and 5)
 
--- behind an entry: each more goes to the end of the old ones
+-- after an entry: each more goes to the end of the old ones
 unfoldable pub more_at : {A : Type 0} → (List ℕ → Outcome A) → ℕ → ℕ → List A → List ℕ → Outcome (List A)
 more_at g z zero old b = wrong
 more_at g z (suc n) old b = on_first wrong (λ x t. cond (x == 44) (bind (g t) (λ y r. more_at g z n (old ++ y ∷ []) r)) (cond (x == z) (found old t) wrong)) (skip b)
@@ -134,7 +134,7 @@ more_at g z (suc n) old b = on_first wrong (λ x t. cond (x == 44) (bind (g t) (
 abbrev pub entry_at : {A : Type 0} → (List ℕ → Outcome A) → ℕ → ℕ → List A → List ℕ → Outcome (List A)
 entry_at g z n old b = bind (g b) (λ y r. more_at g z n (old ++ y ∷ []) r)
 
--- behind the opening byte
+-- after the opening byte
 unfoldable pub listed_at : {A : Type 0} → (List ℕ → Outcome A) → ℕ → List ℕ → Outcome (List A)
 listed_at g z b = on_first wrong (λ x t. cond (x == z) (found [] t) (entry_at g z (length b) [] b)) (skip b)
 

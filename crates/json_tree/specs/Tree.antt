@@ -11,7 +11,7 @@ abbrev pub null : Json
 null = Null
 
 abbrev pub boolean : Bool → Json
-boolean truth = TheBool truth
+boolean value = TheBool value
 
 abbrev pub has_point : List ℕ → Bool
 has_point [] = false

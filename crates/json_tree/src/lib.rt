@@ -7,8 +7,6 @@ mod number;
 mod pieces;
 mod reader;
 mod strings;
-#[cfg(test)]
-mod tests;
 mod texts;
 mod value;
 mod values;

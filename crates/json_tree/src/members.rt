@@ -1,13 +1,13 @@
 //! Members in order, each key once.
 //!
-//! The first members are found by a scan. The keys behind them have an index, so that an object of
+//! The first members are found by a scan. The keys after them have an index, so that an object of
 //! many keys takes no quadratic time.
 ghost use Rattle.std.specs.Prelude.{◌≡◌, ◌≤◌, ◌<◌, ◌+◌, ◌-◌, ◌++◌, ◌∷◌, ℕ, List, [], OnOk, OnErr, IfOk, IfErr, MatchResult, true, Some, None, MatchOption, length, drop};
 ghost use Rattle.std.specs.Str.{bytes_eq};
 ghost use Rattle.json_tree.specs.Keys.{put, place, value_of, keys_of, distinct, Indexed};
 
 use crate::value::{Blank, JsonFault};
-use arrow_lists::Text;
+use arrow_core::Text;
 use std::alloc::Global;
 use std::collections::BTreeMap;
 use std::marker::Model;
@@ -22,7 +22,7 @@ const FIRST_ROOM: usize = 8;
 #[derive(Drop)]
 pub(crate) struct Members<V> {
     pub(crate) pairs: Vec<(Text, V)>,
-    // the places of the keys behind the first SCANNED
+    // the places of the keys after the first SCANNED
     places: BTreeMap<String, usize>,
 }
 
@@ -40,7 +40,7 @@ impl<V> Model for Members<V> {
     ghost invariant = { λ m. (distinct (keys_of m.pairs.items) ≡ true) × Indexed m.places (drop 16 (keys_of m.pairs.items)) };
 }
 
-// Whether two texts of one length are the same, behind a call, since they seldom begin alike.
+// Whether two texts of one length are the same, after a call, since they seldom begin alike.
 #[inline(never)]
 fn are_equal(one: &str, other: &str) -> bool
     ensures { result ≡ bytes_eq one.now other.now }
@@ -78,7 +78,7 @@ fn scan<V>(pairs: &[(Text, V)], key: &str) -> Option<usize>
     None
 }
 
-// The next key comes at the place `at`, behind those that are scanned, and gets an entry.
+// The next key comes at the place `at`, after those that are scanned, and gets an entry.
 #[cold]
 #[inline(never)]
 fn index_place(

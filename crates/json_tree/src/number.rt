@@ -8,7 +8,7 @@ ghost use Rattle.json_tree.specs.Gives.{Gives, Moves};
 use crate::reader::{Reader, is_decimal};
 use crate::strings::owned;
 use crate::value::{JsonFault, Number, Value};
-use arrow_lists::Text;
+use arrow_core::Text;
 use std::alloc::Global;
 
 // One digit or more. The fault is `Text`, as in each of these parts.
@@ -29,7 +29,7 @@ fn some_digits<'a>(reader: &mut Reader<'a>) -> Result<(), JsonFault>
     }
 }
 
-// 0, or digits of which the first is not 0. Where 0 comes first, the digits behind it are left.
+// 0, or digits of which the first is not 0. Where 0 comes first, the digits after it are left.
 #[tactic(auto, unfolding(crate::specs::Reading::int_at))]
 fn integer_part<'a>(reader: &mut Reader<'a>) -> Result<(), JsonFault>
     ensures reads { Moves int_at result reader.old reader.new }
@@ -109,10 +109,10 @@ fn mantissa_text(alloc: Global, bytes: &[u8]) -> Result<Text, JsonFault>
     }
 }
 
-// The text of an exponent that is there, behind a call, since most numbers have none.
+// The text of an exponent that is there, after a call, since most numbers have none.
 #[cold]
 #[inline(never)]
-fn spelled_exponent(alloc: Global, bytes: &[u8]) -> Result<Text, JsonFault>
+fn encoded_exponent(alloc: Global, bytes: &[u8]) -> Result<Text, JsonFault>
     requires { IsUtf8 bytes.now }
     ensures text { MatchResult result (λ t. t ≡ bytes.now) (λ e. e ≡ JsonFault.Memory) }
 {
@@ -130,7 +130,7 @@ fn exponent_text(alloc: Global, bytes: &[u8]) -> Result<Text, JsonFault>
     if bytes.is_empty() {
         return Ok(none);
     }
-    spelled_exponent(alloc, bytes)
+    encoded_exponent(alloc, bytes)
 }
 
 // All but the first of the first n bytes.
@@ -138,10 +138,10 @@ fn behind_first(bytes: &[u8], n: usize) -> &[u8]
     requires { n ≤ length bytes.now }
     ensures { result.now ≡ drop 1 (take n bytes.now) }
 {
-    let front = &bytes[..n];
-    match front.split_first() {
+    let prefix = &bytes[..n];
+    match prefix.split_first() {
         Some((_, rest)) => rest,
-        None => front,
+        None => prefix,
     }
 }
 

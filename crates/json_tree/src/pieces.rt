@@ -5,7 +5,7 @@ ghost use Rattle.std.specs.Char.{encode_utf8};
 use crate::strings::owned;
 use crate::value::JsonFault;
 use arrayvec::ArrayString;
-use arrow_lists::Text;
+use arrow_core::Text;
 use std::alloc::Global;
 use std::marker::Model;
 
@@ -16,7 +16,7 @@ const END_ROOM: usize = 128;
 /// memory before it is whole.
 #[derive(Drop)]
 pub(crate) struct Pieces {
-    front: String,
+    prefix: String,
     end: ArrayString<END_ROOM>,
 }
 
@@ -25,22 +25,22 @@ impl Model for Pieces {
 
     ghost Value = { List ℕ };
 
-    ghost view = { λ p. string_bytes p.front ++ p.end.bytes };
+    ghost view = { λ p. string_bytes p.prefix ++ p.end.bytes };
 }
 
-// The end of a text goes to its front, and then a piece, for which the end has no room.
+// The end of a text goes to its prefix, and then a piece, for which the end has no room.
 #[cold]
 #[inline(never)]
-fn spill(front: &mut String, end: &mut ArrayString<END_ROOM>, piece: &str) -> Result<(), JsonFault>
-    ensures front { OnOk result (string_bytes front.new ≡ string_bytes front.old ++ (end.old.bytes ++ piece.now)) }
+fn spill(prefix: &mut String, end: &mut ArrayString<END_ROOM>, piece: &str) -> Result<(), JsonFault>
+    ensures prefix { OnOk result (string_bytes prefix.new ≡ string_bytes prefix.old ++ (end.old.bytes ++ piece.now)) }
     ensures end { OnOk result (end.new.bytes ≡ []) }
     ensures memory { IfErr result (λ e. e ≡ JsonFault.Memory) }
 {
-    if front.push_str(end.as_str()).is_err() {
+    if prefix.push_str(end.as_str()).is_err() {
         return Err(JsonFault::Memory);
     }
     end.clear();
-    if front.push_str(piece).is_err() {
+    if prefix.push_str(piece).is_err() {
         return Err(JsonFault::Memory);
     }
     Ok(())
@@ -51,7 +51,7 @@ impl Pieces {
         ensures { result ≡ [] }
     {
         Pieces {
-            front: String::new(alloc),
+            prefix: String::new(alloc),
             end: ArrayString::new(),
         }
     }
@@ -65,7 +65,7 @@ impl Pieces {
             self.end.push_str(piece);
             return Ok(());
         }
-        spill(&mut self.front, &mut self.end, piece)
+        spill(&mut self.prefix, &mut self.end, piece)
     }
 
     // Adds an ASCII character. Its length is known to the compiler, which then copies it with no call.
@@ -96,10 +96,10 @@ impl Pieces {
     pub(crate) fn to_text(&mut self, alloc: Global) -> Result<Text, JsonFault>
         ensures { MatchResult result (λ t. t ≡ self.old) (λ e. e ≡ JsonFault.Memory) }
     {
-        if self.front.is_empty() {
+        if self.prefix.is_empty() {
             return owned(alloc, self.end.as_str());
         }
-        spill(&mut self.front, &mut self.end, "")?;
-        owned(alloc, self.front.as_str())
+        spill(&mut self.prefix, &mut self.end, "")?;
+        owned(alloc, self.prefix.as_str())
     }
 }

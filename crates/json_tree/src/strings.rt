@@ -10,7 +10,7 @@ ghost use Rattle.json_tree.specs.Gives.{Gives};
 use crate::pieces::Pieces;
 use crate::reader::Reader;
 use crate::value::JsonFault;
-use arrow_lists::Text;
+use arrow_core::Text;
 use std::alloc::Global;
 
 // The digit's value, and 16 or more where the byte is no hexadecimal digit.
@@ -26,7 +26,7 @@ fn digit_value(byte: u8) -> u32
     }
 }
 
-// What four hexadecimal digits spell.
+// What four hexadecimal digits encode.
 fn hexadecimal(a: u8, b: u8, c: u8, d: u8) -> Option<u32>
     ensures value { result ≡ hexadecimal a b c d }
     ensures bounds { IfSome result (λ u. (u < 65536) × (d < 128)) }
@@ -44,7 +44,7 @@ fn hexadecimal(a: u8, b: u8, c: u8, d: u8) -> Option<u32>
     }
 }
 
-// The code unit that stands behind `\u`.
+// The code unit that stands after `\u`.
 fn code_unit<'a>(reader: &mut Reader<'a>) -> Result<u32, JsonFault>
     requires { IsUtf8 reader.old }
     ensures reads { MatchResult result
@@ -79,7 +79,7 @@ fn is_low_surrogate(unit: u32) -> bool
     (0xdc00 <= unit) & (unit < 0xe000)
 }
 
-// The character of a pair of surrogates, whose first stands behind and whose second is ahead.
+// The character of a pair of surrogates, whose first stands after and whose second is ahead.
 fn low_surrogate<'a>(reader: &mut Reader<'a>, high: u32) -> Result<char, JsonFault>
     requires text { IsUtf8 reader.old }
     requires high { (0xd800 ≤ high) × (high < 0xdc00) }
@@ -104,7 +104,7 @@ fn low_surrogate<'a>(reader: &mut Reader<'a>, high: u32) -> Result<char, JsonFau
     }
 }
 
-// The character whose escape goes on behind `\u`.
+// The character whose escape goes on after `\u`.
 fn unicode_escape<'a>(reader: &mut Reader<'a>) -> Result<char, JsonFault>
     requires { IsUtf8 reader.old }
     ensures reads { MatchResult result
@@ -141,7 +141,7 @@ fn short_escape(byte: u8) -> Option<u8>
     }
 }
 
-// The character of an escape, behind its reverse solidus.
+// The character of an escape, after its reverse solidus.
 fn escape<'a>(reader: &mut Reader<'a>) -> Result<char, JsonFault>
     requires { IsUtf8 reader.old }
     ensures reads { MatchResult result

@@ -28,13 +28,13 @@ fn whole_text<'a>(alloc: Global, bytes: &'a [u8]) -> Result<Value, JsonFault>
     }
 }
 
-// What is wrong with bytes that are UTF-8 only up to where `front` ends.
-fn fault_of_front<'a>(alloc: Global, front: &'a [u8]) -> JsonFault
-    requires { IsUtf8 front.now }
-    ensures depth { result ≡ JsonFault.Depth → text_at 128 front.now ≡ deep }
-    ensures text { result ≡ JsonFault.Text → text_at 128 front.now ≡ deep → ⊥ }
+// What is wrong with bytes that are UTF-8 only up to where `prefix` ends.
+fn fault_of_prefix<'a>(alloc: Global, prefix: &'a [u8]) -> JsonFault
+    requires { IsUtf8 prefix.now }
+    ensures depth { result ≡ JsonFault.Depth → text_at 128 prefix.now ≡ deep }
+    ensures text { result ≡ JsonFault.Text → text_at 128 prefix.now ≡ deep → ⊥ }
 {
-    match whole_text(alloc, front) {
+    match whole_text(alloc, prefix) {
         Err(fault) => fault,
         Ok(_) => JsonFault::Text,
     }
@@ -59,6 +59,6 @@ pub fn parse(alloc: Global, bytes: &[u8]) -> Result<Value, JsonFault>
 {
     match simdutf8::compat::from_utf8(bytes) {
         Ok(_) => whole_text(alloc, bytes),
-        Err(e) => Err(fault_of_front(alloc, &bytes[..e.valid_up_to()])),
+        Err(e) => Err(fault_of_prefix(alloc, &bytes[..e.valid_up_to()])),
     }
 }

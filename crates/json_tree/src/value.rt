@@ -4,10 +4,10 @@ ghost use Rattle.json_tree.specs.Keys.{value_of, keys_of, distinct};
 ghost use Rattle.json_tree.specs.Tree.{null};
 
 use crate::members::Members;
-use arrow_lists::{Error, Items, Reason, Text};
+use arrow_core::{Error, Items, Reason, Text};
 use std::mem::{self, ManuallyDrop};
 
-/// A JSON number as it is spelled (RFC 8259, section 6): the mantissa, which is all that stands
+/// A JSON number as it is encoded (RFC 8259, section 6): the mantissa, which is all that stands
 /// before `e` or `E`, and the exponent, which is what follows with any sign, or is empty.
 #[derive(Debug, Drop)]
 pub enum Number {
@@ -25,7 +25,7 @@ pub enum Value {
     Null,
     /// `true` or `false`.
     Bool(bool),
-    /// A number, as it is spelled.
+    /// A number, as it is encoded.
     Number(Number),
     /// The text that a string stands for, with a character in place of each escape.
     String(Text),

@@ -10,7 +10,7 @@ use crate::number::number;
 use crate::reader::Reader;
 use crate::strings::{escaped_string, owned, string};
 use crate::value::{Blank, JsonFault, Object, Value};
-use arrow_lists::Items;
+use arrow_core::Items;
 use std::alloc::Global;
 
 /// For how many items an array has room once it has one.
@@ -51,7 +51,7 @@ fn item_room<T: Drop>(alloc: Global) -> Result<Vec<T>, JsonFault>
     }
 }
 
-// Whether the closing bracket is next, behind white space. Then it is passed.
+// Whether the closing bracket is next, after white space. Then it is passed.
 fn closes<'a>(reader: &mut Reader<'a>, close: u8) -> bool
     ensures forward { length reader.new ≤ length reader.old }
     ensures found { MatchBool result (skip reader.old ≡ close ∷ reader.new)
@@ -61,7 +61,7 @@ fn closes<'a>(reader: &mut Reader<'a>, close: u8) -> bool
     reader.takes(close)
 }
 
-// Whether a comma is next, behind white space, or the closing bracket. It is passed.
+// Whether a comma is next, after white space, or the closing bracket. It is passed.
 fn goes_on<'a>(reader: &mut Reader<'a>, close: u8) -> Result<bool, JsonFault>
     ensures forward { length reader.new ≤ length reader.old }
     ensures shorter { OnOk result (length reader.new < length reader.old) }
@@ -108,19 +108,19 @@ fn null_value<'a>(reader: &mut Reader<'a>, out: &mut Value) -> Result<(), JsonFa
     Ok(())
 }
 
-// The truth value for which this word stands.
+// The boolean for which this word stands.
 #[inline(never)]
-fn truth_value<'a>(
+fn boolean_value<'a>(
     reader: &mut Reader<'a>,
     word: &[u8],
-    truth: bool,
+    value: bool,
     out: &mut Value,
 ) -> Result<(), JsonFault>
-    ensures reads { Gives (λ _. out.new) result reader.new (bind (strip word.now reader.old) (λ _ r. found (boolean truth) r)) }
+    ensures reads { Gives (λ _. out.new) result reader.new (bind (strip word.now reader.old) (λ _ r. found (boolean value) r)) }
     ensures forward { length reader.new ≤ length reader.old }
 {
     literal(reader, word)?;
-    out.fill(Value::Bool(truth));
+    out.fill(Value::Bool(value));
     Ok(())
 }
 
@@ -134,7 +134,7 @@ fn plain_value(alloc: Global, text: &str, out: &mut Value) -> Result<(), JsonFau
     Ok(())
 }
 
-// A string of any kind. It stands behind a call, since few have escapes.
+// A string of any kind. It stands after a call, since few have escapes.
 #[inline(never)]
 fn escaped_value<'a>(
     alloc: Global,
@@ -180,10 +180,10 @@ fn scalar<'a>(alloc: Global, reader: &mut Reader<'a>, out: &mut Value) -> Result
         return null_value(reader, out);
     }
     if byte == b't' {
-        return truth_value(reader, b"true", true, out);
+        return boolean_value(reader, b"true", true, out);
     }
     if byte == b'f' {
-        return truth_value(reader, b"false", false, out);
+        return boolean_value(reader, b"false", false, out);
     }
     number(alloc, reader, out)
 }
@@ -252,7 +252,7 @@ fn array<'a>(
     }
 }
 
-// Passes a colon, behind white space.
+// Passes a colon, after white space.
 fn name_separator<'a>(reader: &mut Reader<'a>) -> Result<(), JsonFault>
     ensures forward { length reader.new ≤ length reader.old }
     ensures found { MatchResult result

@@ -1,5 +1,5 @@
 -- Facts about an option or a result, whichever it is.
-use Rattle.std.proofs.Common.{◌≡◌, Option, Some, None, Result, Ok, Err, cond, is_ok, IfSome, IfNone, OnErr, refl, List, [], ◌∷◌, ℕ}
+use Rattle.std.proofs.Common.{◌≡◌, Option, Some, None, Result, Ok, Err, cond, is_ok, IfSome, IfNone, OnErr, OnOk, refl, List, [], ◌∷◌, ℕ}
 use Rattle.std.specs.Borrow.{MutBor}
 use Rattle.lending.specs.Filling.{Fills}
 
@@ -14,6 +14,10 @@ if_none-any (Some x) P h = tt
 pub on_err-any : {T E : Type 0} (r : Result T E) (P : Type 0) → P → OnErr r P
 on_err-any (Ok x) P h = tt
 on_err-any (Err x) P h = h
+
+pub on_ok-any : {T E : Type 0} (r : Result T E) (P : Type 0) → P → OnOk r P
+on_ok-any (Ok x) P h = h
+on_ok-any (Err x) P h = tt
 
 -- after an error nothing is shown
 pub on_err-hidden : {X T E : Type 0} (r : Result T E) (x : X) → OnErr r (cond (is_ok r) (Some x) None ≡ None)

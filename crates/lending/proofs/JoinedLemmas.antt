@@ -4,8 +4,8 @@ use Rattle.std.specs.Io.KnownBytes.{Appends, Keeps}
 use Rattle.std.specs.List.{join_with_byte}
 use Rattle.arrow_base.specs.Outside.{AppendsPrefix, RoseOrFull}
 use Rattle.arrow_base.proofs.Written.{Appends-nothing, Appends-kept, Appends-append, Underway, underway-stop}
-use Rattle.arrow_lists.specs.declared.error.Error.{Error}
-use Rattle.arrow_lists.specs.declared.error.Error.TheVariants.{WriteFault}
+use Rattle.arrow_core.specs.declared.error.Error.{Error}
+use Rattle.arrow_core.specs.declared.error.Error.TheVariants.{WriteFault}
 use Rattle.lending.specs.Lending.{ShowsItem, ShowsEnd, Shows, TellsNone}
 use Rattle.lending.specs.Joined.{piece, Wrote, StopsAtItem, WritesShown, StopsWriting, WritesTold}
 

@@ -3,11 +3,11 @@ use Rattle.std.specs.Prelude.{◌≡◌, ℕ, ◌<◌, ◌⊎◌, Bool, List, []
 use Rattle.std.specs.List.{join_with_byte}
 use Rattle.std.specs.Io.KnownBytes.{Appends, Keeps}
 use Rattle.arrow_base.specs.Outside.{AppendsPrefix, RoseOrFull}
-use Rattle.arrow_lists.specs.declared.error.Error.{Error}
-use Rattle.arrow_lists.specs.declared.error.Error.TheVariants.{WriteFault}
+use Rattle.arrow_core.specs.declared.error.Error.{Error}
+use Rattle.arrow_core.specs.declared.error.Error.TheVariants.{WriteFault}
 use Rattle.lending.specs.Lending.{ShowsItem, Shows, ShowsAll, ShowsThenErr, TakesOff}
 
--- an item, behind the separator but for the first
+-- an item, after the separator but for the first
 abbrev pub piece : ℕ → Bool → List ℕ → List ℕ
 piece separator is_first item = cond is_first item (separator ∷ item)
 

@@ -1,5 +1,5 @@
 -- What one `advance` of a lending iterator does, and runs of them.
-use Rattle.std.specs.Prelude.{◌≡◌, ℕ, ◌<◌, ◌≤◌, Option, Some, None, List, [], ◌∷◌, Result, Ok, Err, IfSome, IfNone, OnErr, MatchOption, MatchResult}
+use Rattle.std.specs.Prelude.{◌≡◌, ℕ, ◌<◌, ◌≤◌, Option, Some, None, List, [], ◌∷◌, Result, Ok, Err, IfSome, IfNone, OnErr, OnOk, MatchOption, MatchResult}
 use Rattle.std.specs.Borrow.{Bor}
 
 -- each list that was told begins with the item, and the rest is told from then on
@@ -42,7 +42,7 @@ pub record Advanced {S E : Type 0} (can_advance : S → Type 0) (step : S → Re
   pub falls_err : OnErr answer (to_come after < to_come before)
   pub hidden : OnErr answer (shown after ≡ None)
   pub taken : IfSome (shown after) (λ item. TakesOff items before item after)
-  pub end : IfNone (shown after) (TellsNone items before)
+  pub end : OnOk answer (IfNone (shown after) (TellsNone items before))
 
 -- a reference to what is shown, if anything is
 abbrev pub IsShown : Option (Bor (List ℕ)) → Option (List ℕ) → Type 0

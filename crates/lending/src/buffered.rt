@@ -1,3 +1,4 @@
+//! An iterator's items, written into one buffer and lent from there.
 ghost use Rattle.std.specs.Prelude.{◌≡◌, ℕ, ◌<◌, ◌≤◌, List, Option, Some, None, Result, Ok, true, false, [], cond, IfSome};
 ghost use Rattle.std.specs.Iterator.{IsFinite, size, UpTo};
 ghost use Rattle.std.specs.Iterator.SizeHint.{IsWithinCount};
@@ -8,7 +9,7 @@ ghost use Rattle.lending.specs.Filling.{Ends, HintsAt};
 
 use crate::fallible::FallibleStreamingIterator;
 use crate::streaming::StreamingIterator;
-use arrow_lists::{Error, Result};
+use arrow_core::{Error, Result};
 
 /// Lends what a closure writes of each item of an iterator. The buffer that the closure writes into
 /// is used again for each item.

@@ -1,3 +1,4 @@
+//! Iterators that lend, with an error of their own.
 ghost use Rattle.std.specs.Prelude.{◌≡◌, ℕ, List, Option, Result};
 ghost use Rattle.std.specs.Borrow.{sem};
 ghost use Rattle.std.specs.Io.BufRead.{Rests};
@@ -43,7 +44,9 @@ pub trait FallibleStreamingIterator: Drop {
     /// `advance`, and then `get`.
     fn next(&mut self) -> std::result::Result<Option<&[u8]>, Self::Error>
         requires { can_advance self.old }
-        ensures* advances { sem 𝓛 (Rests Self.row self.entry (λ new. AdvancedNext can_advance step shown to_come items self.old result new)) };
+        ensures* advances { sem 𝓛
+            (Rests Self.row self.entry
+            (λ new. AdvancedNext can_advance step shown to_come items self.old result new)) };
 
     /// A lower and, where there is one, an upper bound of the number of items still to come.
     fn size_hint(&self) -> (usize, Option<usize>)

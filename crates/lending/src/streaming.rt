@@ -1,10 +1,11 @@
+//! Iterators that lend, with this library's error.
 ghost use Rattle.std.specs.Prelude.{◌≡◌, ℕ, List, Option, Result};
 ghost use Rattle.std.specs.Borrow.{sem};
 ghost use Rattle.std.specs.Io.BufRead.{Rests};
-ghost use Rattle.arrow_lists.specs.declared.error.Error.{Error};
+ghost use Rattle.arrow_core.specs.declared.error.Error.{Error};
 ghost use Rattle.lending.specs.Lending.{Advanced, AdvancedNext, IsShown};
 
-use arrow_lists::Result;
+use arrow_core::Result;
 
 /// An iterator that lends one item after another, each until the next is asked for, and fails with
 /// this library's error. It ends: there is a number, `to_come`, that each item shown and each error
@@ -43,7 +44,9 @@ pub trait StreamingIterator: Drop {
     /// `advance`, and then `get`.
     fn next(&mut self) -> Result<Option<&[u8]>>
         requires { can_advance self.old }
-        ensures* advances { sem 𝓛 (Rests Self.row self.entry (λ new. AdvancedNext can_advance step shown to_come items self.old result new)) };
+        ensures* advances { sem 𝓛
+            (Rests Self.row self.entry
+            (λ new. AdvancedNext can_advance step shown to_come items self.old result new)) };
 
     /// A lower and, where there is one, an upper bound of the number of items still to come.
     fn size_hint(&self) -> (usize, Option<usize>)

@@ -1,9 +1,10 @@
+//! Tests of what no clause says.
 mod joined;
 mod listed;
 
 use crate::{BufStreamingIterator, StreamingIterator};
 use arrow_base::{Items, MemorySink};
-use arrow_lists::{Error, Result};
+use arrow_core::{Error, Result};
 use joined::{write_joined, write_listed};
 use std::test::Fail;
 
@@ -21,6 +22,22 @@ fn items_are_shown_and_then_none(rt: HostRuntime) -> std::result::Result<(), Fai
     assert_eq!(rt; bytes.next()?, Some([2u8].as_slice()));
     assert_eq!(rt; bytes.next()?, None);
     assert_eq!(rt; bytes.next()?, None);
+    Ok(())
+}
+
+#[test]
+fn the_buffer_is_used_again(rt: HostRuntime) -> std::result::Result<(), Fail> {
+    let push = |byte: u8, buffer: &mut Vec<u8>| -> Result<()> {
+        if buffer.capacity() < 64 {
+            return Err(Error::Overflow);
+        }
+        buffer.push(byte)?;
+        Ok(())
+    };
+    let buffer = Vec::with_capacity(rt.alloc(), 64)?;
+    let mut bytes = BufStreamingIterator::new(1..3u8, push, buffer);
+    assert_eq!(rt; bytes.next()?, Some([1u8].as_slice()));
+    assert_eq!(rt; bytes.next()?, Some([2u8].as_slice()));
     Ok(())
 }
 

@@ -12,7 +12,7 @@ use Rattle.arrow_array.proofs.Cuts.{bytes_within}
 use Rattle.arrow_array.proofs.Dictionaries.{dictionary_slots_are, count_keys, keys_cut, slots_cut}
 use Rattle.arrow_array.proofs.FixedLists.{count_fixed, cut_fixed, cut_fixed_parts}
 use Rattle.arrow_array.proofs.ListSlots.{list_slots_are, count_lists, cut_list_parts, cut_lists, whole}
-use Rattle.arrow_array.proofs.Records.{count_records, cut_struct, cut_records, one_more_cut, room}
+use Rattle.arrow_array.proofs.Records.{count_records, cut_struct, cut_records, one_more_cut, capacity}
 use Rattle.arrow_array.proofs.Windows.{slots_are}
 use Rattle.arrow_array.proofs.+slices.Goals as goal
 
@@ -65,7 +65,7 @@ structs::StructArray::slice-slice_all-requires t c =
     let d = c.decreases in
     let k = struct_falls c.self.inside.data_type c.self.inside.values.items c.self.inside.count c.self.invariant.kind in (
       omega (arith, d, k, ap (λ z. most size-Array z) c.as_slice.ensures.value, ap (λ z. most deep-Array z) c.as_slice.ensures.value, ap (λ (a : Column). size-DataType a.data_type) c.self.view_is, sizes_below c.self.inside.values.items),
-      rw c.as_slice.ensures.value (room _ _ _ _ c.self.invariant.kind (omega (arith, n, c.requires))),
+      rw c.as_slice.ensures.value (capacity _ _ _ _ c.self.invariant.kind (omega (arith, n, c.requires))),
     )
 
 pub structs::StructArray::slice-invariant_of-result : goal.structs::StructArray::slice-invariant_of-result

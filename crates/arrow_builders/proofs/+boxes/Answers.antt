@@ -11,54 +11,72 @@ use Rattle.arrow_array.specs.Structs.{StructFits, record_at}
 use Rattle.arrow_builders.specs.Children.{all_nodes, AllFit}
 use Rattle.arrow_builders.specs.Fits.{ChildrenFit}
 use Rattle.arrow_builders.specs.MutableArrays.{builder_type, builder_slots}
-use Rattle.arrow_builders.specs.Nested.{marks_node}
-use Rattle.arrow_builders.specs.Nodes.{IsEmpty}
+use Rattle.arrow_flat.specs.Nested.{marks_node}
+use Rattle.arrow_flat.specs.Nodes.{IsEmpty}
 use Rattle.arrow_builders.specs.Shapes.{shape}
 use Rattle.arrow_builders.specs.declared.list.DynMutableListArray.{DynMutableListArray}
 use Rattle.arrow_builders.specs.declared.large_list.DynMutableLargeListArray.{DynMutableLargeListArray}
 use Rattle.arrow_builders.specs.declared.fixed_size_list.MutableFixedSizeListArray.{MutableFixedSizeListArray}
 use Rattle.arrow_builders.specs.declared.array.MutableArray.{MutableArray, List as ListOf, LargeList, FixedSizeList, Struct}
-use Rattle.arrow_builders.proofs.Boxed.{refusal, refusal_of, handed_on, accepted, shown_slots, always, to_parts, from_parts, same_lists, to_fixed_parts, from_fixed_parts, same_fixed_lists, all_fit_at, told_step}
+use Rattle.arrow_builders.proofs.Boxed.{memory_refuses, refusal, refusal_of, handed_on, accepted, shown_slots, always, to_parts, from_parts, same_lists, to_fixed_parts, from_fixed_parts, same_fixed_lists, all_fit_at, told_step}
 use Rattle.arrow_builders.proofs.OtherFits.{record_parts, records_fit}
 use Rattle.arrow_builders.proofs.Rows.{shape_same, slots-record, fit-record, nodes_of, shapes_back, items_back}
-use Rattle.arrow_builders.proofs.Slots.{slots_of-frozen}
+use Rattle.arrow_flat.proofs.Slots.{slots_of-frozen}
 use Rattle.arrow_builders.proofs.Upto.{Upto-start, Upto-weaken, Upto-next, Upto-set, Upto-step, Upto-map, Upto-all, Upto-fit}
+use Rattle.arrow_builders.proofs.Flats.{is_flat, flat_fits}
 use Rattle.arrow_builders.proofs.+boxes.Invariants.{Asked, Boxed}
 use Rattle.arrow_builders.proofs.+boxes.Goals as goal
 
-pub array::MutableArray::as_box-returns-in-Ok-clause-fits :
-    goal.array::MutableArray::as_box-returns-in-Ok-clause-fits
-array::MutableArray::as_box-returns-in-Ok-clause-fits t c =
+pub array::MutableArray::box_nodes-returns-in_default : goal.array::MutableArray::box_nodes-returns-in_default
+array::MutableArray::box_nodes-returns-in_default t c =
+    let b = c.args.self.now in
+    let e = c.box_flat.ensures in
+    let f : ChildrenFit b = flat_fits b (is_flat b c.in_default.not-List c.in_default.not-LargeList c.in_default.not-FixedSizeList c.in_default.not-Struct) in
+    record {
+      shape = e.shape;
+      array_type = e.array_type;
+      array_slots = e.array_slots;
+      emptied = e.emptied;
+      fits = always (ChildrenFit b) c.box_flat.result f;
+      err = memory_refuses (ChildrenFit b) c.box_flat.result e.memory;
+    }
+
+pub array::MutableArray::box_nodes-box_flat-requires : goal.array::MutableArray::box_nodes-box_flat-requires
+array::MutableArray::box_nodes-box_flat-requires t c = is_flat c.args.self.now c.in_default.not-List c.in_default.not-LargeList c.in_default.not-FixedSizeList c.in_default.not-Struct
+
+pub array::MutableArray::box_nodes-returns-in-Ok-clause-fits :
+    goal.array::MutableArray::box_nodes-returns-in-Ok-clause-fits
+array::MutableArray::box_nodes-returns-in-Ok-clause-fits t c =
     let h : ChildrenFit (ListOf c.in-List.builder) = subst (λ (b : DynMutableListArray). ChildrenFit (ListOf b)) c.in-List.builder-is c.in-Ok.ensures.fits in
     subst ChildrenFit (sym c.in-List.is) h
 
-pub array::MutableArray::as_box-returns-in-Err-clause-err :
-    goal.array::MutableArray::as_box-returns-in-Err-clause-err
-array::MutableArray::as_box-returns-in-Err-clause-err t c =
+pub array::MutableArray::box_nodes-returns-in-Err-clause-err :
+    goal.array::MutableArray::box_nodes-returns-in-Err-clause-err
+array::MutableArray::box_nodes-returns-in-Err-clause-err t c =
     let h : IsRefusalOf (ChildrenFit (ListOf c.in-List.builder)) c.in-Err.error = subst (λ (b : DynMutableListArray). IsRefusalOf (ChildrenFit (ListOf b)) c.in-Err.error) c.in-List.builder-is c.in-Err.ensures.err in
     subst (λ (b : MutableArray). IsRefusalOf (ChildrenFit b) c.in-Err.error) (sym c.in-List.is) h
 
-pub array::MutableArray::as_box-returns-in-Ok-as_box-clause-fits :
-    goal.array::MutableArray::as_box-returns-in-Ok-as_box-clause-fits
-array::MutableArray::as_box-returns-in-Ok-as_box-clause-fits t c =
+pub array::MutableArray::box_nodes-returns-in-Ok-as_box-clause-fits :
+    goal.array::MutableArray::box_nodes-returns-in-Ok-as_box-clause-fits
+array::MutableArray::box_nodes-returns-in-Ok-as_box-clause-fits t c =
     let h : ChildrenFit (LargeList c.in-LargeList.builder) = subst (λ (b : DynMutableLargeListArray). ChildrenFit (LargeList b)) c.in-LargeList.builder-is c.in-Ok-as_box.ensures.fits in
     subst ChildrenFit (sym c.in-LargeList.is) h
 
-pub array::MutableArray::as_box-returns-in-Err-as_box-clause-err :
-    goal.array::MutableArray::as_box-returns-in-Err-as_box-clause-err
-array::MutableArray::as_box-returns-in-Err-as_box-clause-err t c =
+pub array::MutableArray::box_nodes-returns-in-Err-as_box-clause-err :
+    goal.array::MutableArray::box_nodes-returns-in-Err-as_box-clause-err
+array::MutableArray::box_nodes-returns-in-Err-as_box-clause-err t c =
     let h : IsRefusalOf (ChildrenFit (LargeList c.in-LargeList.builder)) c.in-Err-as_box.error = subst (λ (b : DynMutableLargeListArray). IsRefusalOf (ChildrenFit (LargeList b)) c.in-Err-as_box.error) c.in-LargeList.builder-is c.in-Err-as_box.ensures.err in
     subst (λ (b : MutableArray). IsRefusalOf (ChildrenFit b) c.in-Err-as_box.error) (sym c.in-LargeList.is) h
 
-pub array::MutableArray::as_box-returns-in-Ok-as_box-2-clause-fits :
-    goal.array::MutableArray::as_box-returns-in-Ok-as_box-2-clause-fits
-array::MutableArray::as_box-returns-in-Ok-as_box-2-clause-fits t c =
+pub array::MutableArray::box_nodes-returns-in-Ok-as_box-2-clause-fits :
+    goal.array::MutableArray::box_nodes-returns-in-Ok-as_box-2-clause-fits
+array::MutableArray::box_nodes-returns-in-Ok-as_box-2-clause-fits t c =
     let h : ChildrenFit (FixedSizeList c.in-FixedSizeList.builder) = subst (λ (b : MutableFixedSizeListArray). ChildrenFit (FixedSizeList b)) c.in-FixedSizeList.builder-is c.in-Ok-as_box-2.ensures.fits in
     subst ChildrenFit (sym c.in-FixedSizeList.is) h
 
-pub array::MutableArray::as_box-returns-in-Err-as_box-2-clause-err :
-    goal.array::MutableArray::as_box-returns-in-Err-as_box-2-clause-err
-array::MutableArray::as_box-returns-in-Err-as_box-2-clause-err t c =
+pub array::MutableArray::box_nodes-returns-in-Err-as_box-2-clause-err :
+    goal.array::MutableArray::box_nodes-returns-in-Err-as_box-2-clause-err
+array::MutableArray::box_nodes-returns-in-Err-as_box-2-clause-err t c =
     let h : IsRefusalOf (ChildrenFit (FixedSizeList c.in-FixedSizeList.builder)) c.in-Err-as_box-2.error = subst (λ (b : MutableFixedSizeListArray). IsRefusalOf (ChildrenFit (FixedSizeList b)) c.in-Err-as_box-2.error) c.in-FixedSizeList.builder-is c.in-Err-as_box-2.ensures.err in
     subst (λ (b : MutableArray). IsRefusalOf (ChildrenFit b) c.in-Err-as_box-2.error) (sym c.in-FixedSizeList.is) h
 
@@ -171,7 +189,7 @@ fixed_size_list::MutableFixedSizeListArray::as_box-returns-clause-array_slots t 
     let ye : array_slots c.in_ok-values.values ≡ builder_slots child = c.in_ok-values.ensures.array_slots ∙ ap builder_slots same in
     let ve = c.in_ok-data_type.ensures.validity in
     let parts = FixedListFits c.in_ok-data_type.data_type (array_type c.in_ok-values.values) (length (array_slots c.in_ok-values.values)) (Some c.in_ok-data_type.validity) in
-    shown_slots (λ (a : Column). a.slots) parts c.try_new.result _ _ c.try_new.ensures.slots c.try_new.ensures.fits (λ p. same_fixed_lists b.marks.data_type c.in_ok-data_type.data_type (builder_type child) (array_type c.in_ok-values.values) b.marks.truths (builder_slots child) (array_slots c.in_ok-values.values) c.in_ok-data_type.validity te ie ye ve p)
+    shown_slots (λ (a : Column). a.slots) parts c.try_new.result _ _ c.try_new.ensures.slots c.try_new.ensures.fits (λ p. same_fixed_lists b.marks.data_type c.in_ok-data_type.data_type (builder_type child) (array_type c.in_ok-values.values) b.marks.booleans (builder_slots child) (array_slots c.in_ok-values.values) c.in_ok-data_type.validity te ie ye ve p)
 
 pub fixed_size_list::MutableFixedSizeListArray::as_box-returns-clause-fits :
     goal.fixed_size_list::MutableFixedSizeListArray::as_box-returns-clause-fits
@@ -185,7 +203,7 @@ fixed_size_list::MutableFixedSizeListArray::as_box-returns-clause-fits t c =
     let ve = c.in_ok-data_type.ensures.validity in
     let parts = FixedListFits c.in_ok-data_type.data_type (array_type c.in_ok-values.values) (length (array_slots c.in_ok-values.values)) (Some c.in_ok-data_type.validity) in
     let below : ChildrenFit child = subst ChildrenFit same c.in_ok-values.ensures.fits in
-    accepted parts (ChildrenFit (FixedSizeList b)) c.try_new.result (λ p. from_fixed_parts b.marks.data_type c.in_ok-data_type.data_type (builder_type child) (array_type c.in_ok-values.values) b.marks.truths (builder_slots child) (array_slots c.in_ok-values.values) c.in_ok-data_type.validity te ie ye ve (ChildrenFit child) below p) c.try_new.ensures.fits
+    accepted parts (ChildrenFit (FixedSizeList b)) c.try_new.result (λ p. from_fixed_parts b.marks.data_type c.in_ok-data_type.data_type (builder_type child) (array_type c.in_ok-values.values) b.marks.booleans (builder_slots child) (array_slots c.in_ok-values.values) c.in_ok-data_type.validity te ie ye ve (ChildrenFit child) below p) c.try_new.ensures.fits
 
 pub fixed_size_list::MutableFixedSizeListArray::as_box-returns-clause-err :
     goal.fixed_size_list::MutableFixedSizeListArray::as_box-returns-clause-err
@@ -198,7 +216,7 @@ fixed_size_list::MutableFixedSizeListArray::as_box-returns-clause-err t c =
     let ye : array_slots c.in_ok-values.values ≡ builder_slots child = c.in_ok-values.ensures.array_slots ∙ ap builder_slots same in
     let ve = c.in_ok-data_type.ensures.validity in
     let parts = FixedListFits c.in_ok-data_type.data_type (array_type c.in_ok-values.values) (length (array_slots c.in_ok-values.values)) (Some c.in_ok-data_type.validity) in
-    refusal parts (ChildrenFit (FixedSizeList b)) c.try_new.result (λ q. to_fixed_parts b.marks.data_type c.in_ok-data_type.data_type (builder_type child) (array_type c.in_ok-values.values) b.marks.truths (builder_slots child) (array_slots c.in_ok-values.values) c.in_ok-data_type.validity te ie ye ve (ChildrenFit child) q) c.try_new.ensures.err
+    refusal parts (ChildrenFit (FixedSizeList b)) c.try_new.result (λ q. to_fixed_parts b.marks.data_type c.in_ok-data_type.data_type (builder_type child) (array_type c.in_ok-values.values) b.marks.booleans (builder_slots child) (array_slots c.in_ok-values.values) c.in_ok-data_type.validity te ie ye ve (ChildrenFit child) q) c.try_new.ensures.err
 
 pub structs::DynMutableStructArray::as_box-returns-in_err-values-clause-shape :
     goal.structs::DynMutableStructArray::as_box-returns-in_err-values-clause-shape
@@ -237,7 +255,7 @@ structs::DynMutableStructArray::as_box-returns-clause-array_slots t c =
     let ke : map array_type c.in_ok-values.values.items ≡ map builder_type items = c.in_ok-values.ensures.array_types ∙ ap (map builder_type) same in
     let ye : map array_slots c.in_ok-values.values.items ≡ map builder_slots items = c.in_ok-values.ensures.array_slots ∙ ap (map builder_slots) same in
     let parts = StructFits c.in_ok-data_type.data_type c.in_ok-values.values.items (Some c.in_ok-data_type.validity) in
-    let alike : parts → _ ≡ builder_slots (Struct b) = λ p. slots_of-frozen _ _ c.in_ok-data_type.validity b.marks.truths _ (length b.marks.truths) (ap record_at ye) ve (sym p.validity_fits ∙ ap length ve) ∙ sym (slots-record b) in
+    let alike : parts → _ ≡ builder_slots (Struct b) = λ p. slots_of-frozen _ _ c.in_ok-data_type.validity b.marks.booleans _ (length b.marks.booleans) (ap record_at ye) ve (sym p.validity_fits ∙ ap length ve) ∙ sym (slots-record b) in
     shown_slots (λ (a : Column). a.slots) parts c.try_new.result _ _ c.try_new.ensures.slots c.try_new.ensures.fits alike
 
 pub structs::DynMutableStructArray::as_box-returns-clause-emptied :
@@ -245,7 +263,7 @@ pub structs::DynMutableStructArray::as_box-returns-clause-emptied :
 structs::DynMutableStructArray::as_box-returns-clause-emptied t c =
     let b = c.args.self.now in
     let below : All IsEmpty (all_nodes (with_items b.values c.box_all.new.children).items) = rw (items_back b.values c.deref_mut.result.now c.box_all.new.children c.box_all.ensures.shapes c.deref_mut.ensures.value) c.in_ok-values.ensures.emptied in
-    let first : IsEmpty (marks_node c.take.new.self) = record { slots = ap length c.take.ensures.truths; bytes = refl } in
+    let first : IsEmpty (marks_node c.take.new.self) = record { slots = ap length c.take.ensures.booleans; bytes = refl } in
     always _ c.try_new.result (nodes_of (All IsEmpty) (record { marks = c.take.new.self; values = with_items b.values c.box_all.new.children }) (All-cons IsEmpty (marks_node c.take.new.self) _ first below))
 
 pub structs::DynMutableStructArray::as_box-returns-clause-fits :
@@ -260,7 +278,7 @@ structs::DynMutableStructArray::as_box-returns-clause-fits t c =
     let ye : map array_slots c.in_ok-values.values.items ≡ map builder_slots items = c.in_ok-values.ensures.array_slots ∙ ap (map builder_slots) same in
     let parts = StructFits c.in_ok-data_type.data_type c.in_ok-values.values.items (Some c.in_ok-data_type.validity) in
     let below : AllFit items = subst AllFit same c.in_ok-values.ensures.fits in
-    accepted parts (ChildrenFit (Struct b)) c.try_new.result (λ p. subst (λ (P : Type 0). P) (sym (fit-record b)) (records_fit b.marks.data_type c.in_ok-data_type.data_type (map builder_type items) (map builder_slots items) (length b.marks.truths) c.in_ok-data_type.validity te (ap length ve) c.in_ok-values.values.items ke ye (AllFit items) below p)) c.try_new.ensures.fits
+    accepted parts (ChildrenFit (Struct b)) c.try_new.result (λ p. subst (λ (P : Type 0). P) (sym (fit-record b)) (records_fit b.marks.data_type c.in_ok-data_type.data_type (map builder_type items) (map builder_slots items) (length b.marks.booleans) c.in_ok-data_type.validity te (ap length ve) c.in_ok-values.values.items ke ye (AllFit items) below p)) c.try_new.ensures.fits
 
 pub structs::DynMutableStructArray::as_box-returns-clause-err :
     goal.structs::DynMutableStructArray::as_box-returns-clause-err
@@ -273,7 +291,7 @@ structs::DynMutableStructArray::as_box-returns-clause-err t c =
     let ke : map array_type c.in_ok-values.values.items ≡ map builder_type items = c.in_ok-values.ensures.array_types ∙ ap (map builder_type) same in
     let ye : map array_slots c.in_ok-values.values.items ≡ map builder_slots items = c.in_ok-values.ensures.array_slots ∙ ap (map builder_slots) same in
     let parts = StructFits c.in_ok-data_type.data_type c.in_ok-values.values.items (Some c.in_ok-data_type.validity) in
-    refusal parts (ChildrenFit (Struct b)) c.try_new.result (λ q. record_parts b.marks.data_type c.in_ok-data_type.data_type (map builder_type items) (map builder_slots items) (length b.marks.truths) c.in_ok-data_type.validity te (ap length ve) c.in_ok-values.values.items ke ye (AllFit items) (subst (λ (P : Type 0). P) (fit-record b) q)) c.try_new.ensures.err
+    refusal parts (ChildrenFit (Struct b)) c.try_new.result (λ q. record_parts b.marks.data_type c.in_ok-data_type.data_type (map builder_type items) (map builder_slots items) (length b.marks.booleans) c.in_ok-data_type.validity te (ap length ve) c.in_ok-values.values.items ke ye (AllFit items) (subst (λ (P : Type 0). P) (fit-record b) q)) c.try_new.ensures.err
 
 pub structs::box_all-loop-i-init :
     goal.structs::box_all-loop-i-init
@@ -289,7 +307,7 @@ structs::box_all-loop-i-preserved t c =
     let here : c.index-children-i.result ≡ get_or c.args.children.now c.loop-i.i c.index-children-i.result = c.index-children-i.is ∙ same in
     record {
       kept = (length-set _ _ _ ∙ inv.kept.0, λ k d h. let ne : k ≢ c.loop-i.i = omega arith in rw get_or-set_other (inv.kept.1 k d (omega arith)));
-      each = Upto-step Boxed c.loop-i.i _ _ c.loop-i.children c.index-children-i.result c.as_box.new.self (omega arith) (omega arith) (record { asked = record { same_shape = e.shape }; emptied = e.emptied; fits = e.fits }) inv.each;
+      each = Upto-step Boxed c.loop-i.i _ _ c.loop-i.children c.index-children-i.result c.box_nodes.new.self (omega arith) (omega arith) (record { asked = record { same_shape = e.shape }; emptied = e.emptied; fits = e.fits }) inv.each;
       told_types = told_step builder_type array_type c.args.children.now c.loop-i.i _ c.index-children-i.result c.loop-i.arrays.items _ c.in_ok-array.array (omega arith) (omega arith) here (e.array_type ∙ ap builder_type (sym c.index-children-i.is)) c.in_ok-push.ensures.items inv.told_types;
       told_slots = told_step builder_slots array_slots c.args.children.now c.loop-i.i _ c.index-children-i.result c.loop-i.arrays.items _ c.in_ok-array.array (omega arith) (omega arith) here (e.array_slots ∙ ap builder_slots (sym c.index-children-i.is)) c.in_ok-push.ensures.items inv.told_slots;
     }
@@ -297,12 +315,12 @@ structs::box_all-loop-i-preserved t c =
 pub structs::box_all-returns-in_err-array-clause-shapes :
     goal.structs::box_all-returns-in_err-array-clause-shapes
 structs::box_all-returns-in_err-array-clause-shapes t c =
-    Upto-map Asked shape (λ x y h. h.same_shape) _ _ _ (Upto-set Asked c.loop-i.i _ c.loop-i.children c.index-children-i.result c.as_box.new.self (omega arith) (record { same_shape = c.as_box.ensures.shape }) (Upto-weaken Boxed Asked (λ x y h. h.asked) _ _ _ c.loop-i.invariant.each))
+    Upto-map Asked shape (λ x y h. h.same_shape) _ _ _ (Upto-set Asked c.loop-i.i _ c.loop-i.children c.index-children-i.result c.box_nodes.new.self (omega arith) (record { same_shape = c.box_nodes.ensures.shape }) (Upto-weaken Boxed Asked (λ x y h. h.asked) _ _ _ c.loop-i.invariant.each))
 
 pub structs::box_all-returns-in_err-push-clause-shapes :
     goal.structs::box_all-returns-in_err-push-clause-shapes
 structs::box_all-returns-in_err-push-clause-shapes t c =
-    Upto-map Asked shape (λ x y h. h.same_shape) _ _ _ (Upto-set Asked c.loop-i.i _ c.loop-i.children c.index-children-i.result c.as_box.new.self (omega arith) (record { same_shape = c.as_box.ensures.shape }) (Upto-weaken Boxed Asked (λ x y h. h.asked) _ _ _ c.loop-i.invariant.each))
+    Upto-map Asked shape (λ x y h. h.same_shape) _ _ _ (Upto-set Asked c.loop-i.i _ c.loop-i.children c.index-children-i.result c.box_nodes.new.self (omega arith) (record { same_shape = c.box_nodes.ensures.shape }) (Upto-weaken Boxed Asked (λ x y h. h.asked) _ _ _ c.loop-i.invariant.each))
 
 pub structs::box_all-returns-in_err-array-clause-err :
     goal.structs::box_all-returns-in_err-array-clause-err

@@ -2,7 +2,7 @@ use Rattle.std.proofs.Common.{◌≡◌, ◌++◌, drop, map, All}
 use Rattle.arrow_array.specs.Arrays.{array_type, array_slots}
 use Rattle.arrow_builders.specs.Fits.{ChildrenFit}
 use Rattle.arrow_builders.specs.MutableArrays.{builder_type, builder_slots, nodes}
-use Rattle.arrow_builders.specs.Nodes.{IsEmpty}
+use Rattle.arrow_flat.specs.Nodes.{IsEmpty}
 use Rattle.arrow_builders.specs.Shapes.{shape}
 use Rattle.arrow_builders.specs.declared.array.MutableArray.{MutableArray}
 use Rattle.arrow_builders.proofs.Upto.{Upto}

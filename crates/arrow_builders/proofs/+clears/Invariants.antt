@@ -1,7 +1,7 @@
 use Rattle.std.proofs.Common.{◌≡◌}
 use Rattle.std.specs.List.{AllZip}
 use Rattle.arrow_builders.specs.MutableArrays.{nodes}
-use Rattle.arrow_builders.specs.Nodes.{Emptied}
+use Rattle.arrow_flat.specs.Nodes.{Emptied}
 use Rattle.arrow_builders.specs.Shapes.{shape}
 use Rattle.arrow_builders.specs.declared.array.MutableArray.{MutableArray}
 use Rattle.arrow_builders.proofs.Upto.{Upto}
@@ -10,7 +10,7 @@ use Rattle.arrow_builders.proofs.+clears.Given as goal
 -- a child that was cleared
 pub record Cleared (c d : MutableArray) : Type 0 where
   pub same_shape : shape d ≡ shape c
-  pub room : AllZip Emptied (nodes c) (nodes d)
+  pub capacity : AllZip Emptied (nodes c) (nodes d)
 
 abbrev pub invariant-structs::clear_all-loop-i : goal.invariant-structs::clear_all-loop-i
 invariant-structs::clear_all-loop-i l = record {

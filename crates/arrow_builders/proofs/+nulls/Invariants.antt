@@ -1,9 +1,7 @@
-use Rattle.std.proofs.Common.{◌≡◌, ◌≤◌, ◌+◌, ◌*◌, ◌++◌, ◌∷◌, [], map}
-use Rattle.arrow_types.specs.declared.slot.Slot.TheVariants as slot
+use Rattle.std.proofs.Common.{◌≡◌, ◌≤◌, ◌+◌, ◌*◌, map}
 use Rattle.arrow_builders.specs.Children.{fields_of}
-use Rattle.arrow_builders.specs.MutableArrays.{builder_slots, nodes, slots_at}
-use Rattle.arrow_builders.specs.Nested.{null_slots}
-use Rattle.arrow_builders.specs.Shapes.{AllTake, AllGetNulls, nulls_in, shape}
+use Rattle.arrow_builders.specs.MutableArrays.{nodes, slots_at}
+use Rattle.arrow_builders.specs.Shapes.{AllTake, AllGetNulls, AllGetBytes, nulls_in, shape}
 use Rattle.arrow_builders.specs.declared.array.MutableArray.{MutableArray, FixedSizeList, Struct}
 use Rattle.arrow_builders.proofs.Upto.{Upto}
 use Rattle.arrow_builders.proofs.Weights.{weight}
@@ -17,8 +15,8 @@ pub record Asked (c d : MutableArray) : Type 0 where
 -- and that took it
 pub record Nulled (c d : MutableArray) : Type 0 where
   pub asked : Asked c d
-  pub slots : builder_slots d ≡ builder_slots c ++ slot.Null ∷ []
   pub below : AllGetNulls (nulls_in 1 (shape c)) (slots_at c) (slots_at d)
+  pub bytes : AllGetBytes (nulls_in 1 (shape c)) (nodes c) (nodes d)
 
 abbrev pub invariant-structs::push_null_all-loop-i : goal.invariant-structs::push_null_all-loop-i
 invariant-structs::push_null_all-loop-i l = record {
@@ -31,14 +29,14 @@ abbrev pub invariant-fixed_size_list::push_nulls-loop :
 invariant-fixed_size_list::push_nulls-loop l = record {
   within : l.counter ≤ l.fn.count;
   same_shape : shape l.builder ≡ shape l.fn.builder;
-  slots : builder_slots l.builder ≡ builder_slots l.fn.builder ++ null_slots l.counter;
   below : AllGetNulls (nulls_in l.counter (shape l.fn.builder)) (slots_at l.fn.builder) (slots_at l.builder);
+  bytes : AllGetBytes (nulls_in l.counter (shape l.fn.builder)) (nodes l.fn.builder) (nodes l.builder);
   takes : AllTake (nulls_in l.counter (shape l.fn.builder)) (nodes l.fn.builder) (nodes l.builder);
 }
 
 -- nulls go down to a child's children, which are fewer
-abbrev pub decreases-array::MutableArray::push_null : goal.decreases-array::MutableArray::push_null
-decreases-array::MutableArray::push_null l = 2 * weight (shape l.self.now) + 1
+abbrev pub decreases-array::MutableArray::append_null : goal.decreases-array::MutableArray::append_null
+decreases-array::MutableArray::append_null l = 2 * weight (shape l.self.now) + 1
 
 abbrev pub decreases-fixed_size_list::MutableFixedSizeListArray::push_null : goal.decreases-fixed_size_list::MutableFixedSizeListArray::push_null
 decreases-fixed_size_list::MutableFixedSizeListArray::push_null l = 2 * weight (shape (FixedSizeList l.self.now))

@@ -1,23 +1,22 @@
 use Rattle.std.proofs.Common.{◌≡◌, ℕ, All}
 use Rattle.std.specs.List.{AllZip}
-use Rattle.arrow_builders.specs.MutableArrays.{builder_slots, nodes, slots_at}
-use Rattle.arrow_builders.specs.Nodes.{Roomier, HasRoom}
+use Rattle.arrow_builders.specs.MutableArrays.{nodes, slots_at}
+use Rattle.arrow_flat.specs.Nodes.{NoLessSpare, HasSpare}
 use Rattle.arrow_builders.specs.Shapes.{shape}
 use Rattle.arrow_builders.specs.declared.array.MutableArray.{MutableArray}
 use Rattle.arrow_builders.proofs.Upto.{Upto}
 use Rattle.arrow_builders.proofs.+reserves.Given as goal
 
--- a child that room was asked for
+-- a child that capacity was asked for
 pub record Asked (c d : MutableArray) : Type 0 where
   pub same_shape : shape d ≡ shape c
-  pub slots : builder_slots d ≡ builder_slots c
   pub at_nodes : slots_at d ≡ slots_at c
-  pub room : AllZip Roomier (nodes c) (nodes d)
+  pub capacity : AllZip NoLessSpare (nodes c) (nodes d)
 
 -- and that got it
 pub record Reserved (n : ℕ) (c d : MutableArray) : Type 0 where
   pub asked : Asked c d
-  pub has_room : All (HasRoom n) (nodes d)
+  pub has_capacity : All (HasSpare n) (nodes d)
 
 abbrev pub invariant-structs::reserve_all-loop-i : goal.invariant-structs::reserve_all-loop-i
 invariant-structs::reserve_all-loop-i l = record {

@@ -1,12 +1,20 @@
 use Rattle.std.proofs.Common.{◌∙◌, ◌+◌, ap, sym, drop, List}
 use Rattle.arrow_builders.specs.Children.{all_nodes}
 use Rattle.arrow_builders.specs.Found.{found_at}
-use Rattle.arrow_builders.specs.Nested.{marks_node}
-use Rattle.arrow_builders.specs.Nodes.{Node}
+use Rattle.arrow_builders.specs.MutableArrays.{nodes}
+use Rattle.arrow_flat.specs.Nested.{marks_node}
+use Rattle.arrow_flat.specs.Nodes.{Node}
 use Rattle.arrow_builders.specs.declared.array.MutableArray.{MutableArray}
-use Rattle.arrow_builders.proofs.Finds.{find-behind, find-step, or_at}
+use Rattle.arrow_builders.proofs.Finds.{find-behind, find-step, or_at, one_found}
 use Rattle.arrow_builders.proofs.Rows.{nodes-record}
+use Rattle.arrow_builders.proofs.Flats.{is_flat}
 use Rattle.arrow_builders.proofs.+searches.Goals as goal
+
+pub array::MutableArray::find_node-flat_lengths-requires : goal.array::MutableArray::find_node-flat_lengths-requires
+array::MutableArray::find_node-flat_lengths-requires t c = is_flat c.args.self.now c.in_default.not-List c.in_default.not-LargeList c.in_default.not-FixedSizeList c.in_default.not-Struct
+
+pub array::MutableArray::find_node-returns-in_default : goal.array::MutableArray::find_node-returns-in_default
+array::MutableArray::find_node-returns-in_default t c = one_found (nodes c.args.self.now) c.flat_lengths.result c.args.node c.here_or.result c.flat_lengths.ensures c.here_or.ensures
 
 pub structs::DynMutableStructArray::find_node-returns-in-Err :
     goal.structs::DynMutableStructArray::find_node-returns-in-Err

@@ -1,4 +1,4 @@
--- The loop goes over the arguments behind the first.
+-- The loop goes over the arguments after the first.
 use Rattle.std.proofs.Common.{◌≡◌, ◌∙◌, sym, ap, map, length, string_bytes}
 use Rattle.std.specs.Vec.Iter.{into_iter_items, into_iter_len}
 use Rattle.std.proofs.lemmas.List.{map-id}

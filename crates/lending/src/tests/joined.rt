@@ -1,3 +1,4 @@
+//! Lent items, written with a separator between them.
 ghost use Rattle.std.specs.Prelude.{◌≡◌, ◌≤◌, ◌∷◌, [], map, OnOk, IfOk, OnErr, IfErr, IsTrue, IsFalse};
 ghost use Rattle.std.specs.List.{join_with_byte};
 ghost use Rattle.std.specs.Io.KnownBytes.{Appends, Keeps};
@@ -8,7 +9,7 @@ ghost use Rattle.lending.specs.Lending.{ShowsEnd, TellsNone};
 use super::listed::Listed;
 use crate::FallibleStreamingIterator;
 use arrow_base::{Sink, write_all};
-use arrow_lists::{Error, Result};
+use arrow_core::{Error, Result};
 
 /// Writes the items that the lender shows, with the separator between them.
 pub fn write_joined<K: Sink, I: FallibleStreamingIterator<Error = Error>>(
@@ -17,9 +18,13 @@ pub fn write_joined<K: Sink, I: FallibleStreamingIterator<Error = Error>>(
     mut lender: I,
 ) -> Result<()>
     requires { I.can_advance lender }
-    ensures shown { OnOk result (WritesShown I.step I.shown lender separator (K.held sink.old) (K.held sink.new)) }
-    ensures err { IfErr result (StopsWriting I.step I.shown lender separator (K.held sink.old) (K.held sink.new) (K.faults sink.old) (K.faults sink.new)) }
-    ensures told { OnOk result (WritesTold (I.items lender) separator (K.held sink.old) (K.held sink.new)) }
+    ensures shown { OnOk result
+        (WritesShown I.step I.shown lender separator (K.held sink.old) (K.held sink.new)) }
+    ensures err { IfErr result
+        (StopsWriting I.step I.shown lender separator (K.held sink.old) (K.held sink.new)
+        (K.faults sink.old) (K.faults sink.new)) }
+    ensures told { OnOk result
+        (WritesTold (I.items lender) separator (K.held sink.old) (K.held sink.new)) }
 {
     let mut is_first = true;
     while write_next(sink, separator, &mut lender, is_first)? {
@@ -30,7 +35,9 @@ pub fn write_joined<K: Sink, I: FallibleStreamingIterator<Error = Error>>(
 
 /// Writes the items of the list, with the separator between them.
 pub fn write_listed<K: Sink>(sink: &mut K, separator: u8, items: &[Vec<u8>]) -> Result<()>
-    ensures { OnOk result (Appends (K.held sink.old) (K.held sink.new) (join_with_byte separator (map (λ v. v.items) items.now))) }
+    ensures { OnOk result
+        (Appends (K.held sink.old) (K.held sink.new)
+        (join_with_byte separator (map (λ v. v.items) items.now))) }
 {
     write_joined(sink, separator, Listed::new(items))
 }
@@ -44,9 +51,16 @@ fn write_next<K: Sink, I: FallibleStreamingIterator<Error = Error>>(
 ) -> Result<bool>
     requires { I.can_advance lender.old }
     ensures again { I.can_advance lender.new }
-    ensures item { IfOk result (λ more. IsTrue more → Wrote I.step I.shown I.items I.to_come separator is_first lender.old lender.new (K.held sink.old) (K.held sink.new)) }
-    ensures end { IfOk result (λ more. IsFalse more → ShowsEnd I.step I.shown lender.old × TellsNone I.items lender.old × Keeps (K.held sink.old) (K.held sink.new)) }
-    ensures err { IfErr result (StopsAtItem I.step I.shown separator is_first lender.old (K.held sink.old) (K.held sink.new) (K.faults sink.old) (K.faults sink.new)) }
+    ensures item { IfOk result
+        (λ more. IsTrue more
+        → Wrote I.step I.shown I.items I.to_come separator is_first lender.old lender.new
+        (K.held sink.old) (K.held sink.new)) }
+    ensures end { IfOk result
+        (λ more. IsFalse more → ShowsEnd I.step I.shown lender.old × TellsNone I.items lender.old
+        × Keeps (K.held sink.old) (K.held sink.new)) }
+    ensures err { IfErr result
+        (StopsAtItem I.step I.shown separator is_first lender.old (K.held sink.old)
+        (K.held sink.new) (K.faults sink.old) (K.faults sink.new)) }
     ensures never_falls { K.faults sink.old ≤ K.faults sink.new }
 {
     lender.advance()?;
@@ -59,11 +73,13 @@ fn write_next<K: Sink, I: FallibleStreamingIterator<Error = Error>>(
     }
 }
 
-// Writes an item, behind the separator but for the first.
+// Writes an item, after the separator but for the first.
 fn write_piece<K: Sink>(sink: &mut K, separator: u8, item: &[u8], is_first: bool) -> Result<()>
-    ensures ok { OnOk result (Appends (K.held sink.old) (K.held sink.new) (piece separator is_first item.now)) }
+    ensures ok { OnOk result
+        (Appends (K.held sink.old) (K.held sink.new) (piece separator is_first item.now)) }
     ensures only { IfErr result (λ e. e ≡ Error.WriteFault) }
-    ensures prefix { OnErr result (AppendsPrefix (K.held sink.old) (K.held sink.new) (piece separator is_first item.now)) }
+    ensures prefix { OnErr result
+        (AppendsPrefix (K.held sink.old) (K.held sink.new) (piece separator is_first item.now)) }
     ensures never_falls { K.faults sink.old ≤ K.faults sink.new }
     ensures cause { OnErr result (RoseOrFull (K.faults sink.old) (K.faults sink.new)) }
 {

@@ -1,3 +1,4 @@
+//! A list whose items are lent.
 ghost use Rattle.std.specs.Prelude.{◌≡◌, ℕ, ◌<◌, ◌≤◌, List, Option, Some, None, Result, Ok, [], ◌∷◌, map, length};
 ghost use Rattle.std.specs.Option.{option_copied};
 ghost use Rattle.std.specs.Borrow.{sem};
@@ -6,7 +7,7 @@ ghost use Rattle.lending.specs.Lending.{Advanced, IsShown, IsNext};
 ghost use Rattle.lending.specs.Joined.{MovesOn};
 
 use crate::FallibleStreamingIterator;
-use arrow_lists::Error;
+use arrow_core::Error;
 
 /// Lends the items of a list, and tells them.
 #[derive(Drop)]

@@ -9,7 +9,7 @@ pub returns-then-here-before : goal.returns-then-here-before
 returns-then-here-before g c = (
   λ f. absurd (false≢true f),
   λ o.
-      let l = length-map c.args.offsets.now g.O.Offset.place in
+      let l = length-map c.args.offsets.now g.O.Offset.number in
       let p = never_below _ _ _ _ _ c.loop-i.invariant o (omega (arith, l, c.loop-i-test.true)) c.in-Some.ensures in
       let q = never_past _ _ _ _ o (omega (arith, l, c.loop-i-test.true)) c.in-Some.ensures in
       elim c.then-here-before.branch [

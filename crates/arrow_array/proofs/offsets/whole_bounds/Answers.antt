@@ -6,6 +6,6 @@ use Rattle.arrow_array.proofs.offsets.whole_bounds.Goals as goal
 
 pub returns-clause-order : goal.returns-clause-order
 returns-clause-order g c =
-    let l = length-map c.args.offsets.now g.O.Offset.place in
-    let e : offset_at (map g.O.Offset.place c.args.offsets.now) (length (map g.O.Offset.place c.args.offsets.now) - 1) ≡ pos c.offset-end.result = rw l c.offset-end.ensures in
+    let l = length-map c.args.offsets.now g.O.Offset.number in
+    let e : offset_at (map g.O.Offset.number c.args.offsets.now) (length (map g.O.Offset.number c.args.offsets.now) - 1) ≡ pos c.offset-end.result = rw l c.offset-end.ensures in
     ends_in_order _ c.args.len c.requires _ _ c.offset-start.ensures e

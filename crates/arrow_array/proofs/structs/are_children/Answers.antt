@@ -19,10 +19,10 @@ returns-then-not-is_same c = (
   λ f. absurd (false≢true f),
   λ h.
       let fits = child_fits _ _ _ c.loop-k.k _ _ (omega arith) c.index-fields-k.is c.index-children-k.is h in
-      let same : c.is_same.result ≡ _ = c.is_same.ensures.1 (fits.0 ∙ sym c.data_type.ensures) in
+      let same : c.is_same.result ≡ _ = c.is_same.ensures.1 (fits.0 ∙ sym c.data_type.ensures.data_type) in
       cc,
 )
 
 pub loop-k-preserved : goal.loop-k-preserved
 loop-k-preserved c = rw (add-one c.loop-k.k) (one_more_child _ _ _ c.loop-k.k _ _ (omega arith) (omega arith) c.index-fields-k.is c.index-children-k.is
-    (c.is_same.ensures.0 c.if-not-is_same.false ∙ c.data_type.ensures) (sym c.len.ensures ∙ c.if-len-count.false) c.loop-k.invariant)
+    (c.is_same.ensures.0 c.if-not-is_same.false ∙ c.data_type.ensures.data_type) (sym c.len.ensures ∙ c.if-len-count.false) c.loop-k.invariant)

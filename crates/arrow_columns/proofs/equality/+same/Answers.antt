@@ -5,25 +5,25 @@ use Rattle.arrow_types.specs.declared.slot.Slot.TheVariants as slot
 use Rattle.arrow_types.specs.Moments.{equal_parts}
 use Rattle.arrow_array.specs.Arrays.{array_slots}
 use Rattle.arrow_columns.specs.Cells.{interval_slot}
-use Rattle.arrow_columns.proofs.Same.{interval_same, listed_same, same_more, part_length, record_lengths, same_field, one_more_field}
+use Rattle.arrow_columns.proofs.Same.{interval_same, list_same, same_more, part_length, struct_lengths, same_field, one_more_field}
 use Rattle.arrow_columns.proofs.equality.+same.Goals as goal
 
-pub same_cells-returns-in-Listed-right : goal.same_cells-returns-in-Listed-right
-same_cells-returns-in-Listed-right t c = rw (c.in-Listed.is, c.in-Listed-right.is) (λ e. ap slot.Listed (c.same_parts.ensures.0 e), λ d. c.same_parts.ensures.1 (listed_same _ _ d))
+pub same_cells-returns-in-List-right : goal.same_cells-returns-in-List-right
+same_cells-returns-in-List-right t c = rw (c.in-List.is, c.in-List-right.is) (λ e. ap slot.List (c.same_parts.ensures.0 e), λ d. c.same_parts.ensures.1 (list_same _ _ d))
 
-pub same_records-returns-then-left-right : goal.same_records-returns-then-left-right
-same_records-returns-then-left-right t c = (λ f. absurd (false≢true f), λ e. absurd (c.if-left-right.true (record_lengths _ _ _ _ e)))
+pub same_structs-returns-then-left-right : goal.same_structs-returns-then-left-right
+same_structs-returns-then-left-right t c = (λ f. absurd (false≢true f), λ e. absurd (c.if-left-right.true (struct_lengths _ _ _ _ e)))
 
-pub same_records-returns-then-not-same_slot : goal.same_records-returns-then-not-same_slot
-same_records-returns-then-not-same_slot t c = (
+pub same_structs-returns-then-not-same_slot : goal.same_structs-returns-then-not-same_slot
+same_structs-returns-then-not-same_slot t c = (
   λ f. absurd (false≢true f),
   λ e.
       let same : c.same_slot.result ≡ _ = c.same_slot.ensures.1 (same_field _ _ _ _ c.loop-k.k _ _ (omega arith) (omega arith) c.index-left-k.is c.index-right-k.is e) in
       cc,
 )
 
-pub same_records-loop-k-preserved : goal.same_records-loop-k-preserved
-same_records-loop-k-preserved t c =
+pub same_structs-loop-k-preserved : goal.same_structs-loop-k-preserved
+same_structs-loop-k-preserved t c =
     rw (add-one c.loop-k.k) (one_more_field _ _ _ _ c.loop-k.k _ _ (omega arith) (omega arith) c.index-left-k.is c.index-right-k.is (c.same_slot.ensures.0 c.if-not-same_slot.false) c.loop-k.invariant)
 
 pub same_parts-returns-then-count-right : goal.same_parts-returns-then-count-right

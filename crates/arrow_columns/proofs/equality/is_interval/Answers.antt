@@ -3,29 +3,29 @@ use mir.Val.{SFits}
 use Rattle.std.proofs.Common.{rules, arith, ◌≡◌, ◌∙◌, ap, sym}
 use Rattle.std.proofs.lemmas.Bool.{false≢true}
 use Rattle.arrow_types.specs.declared.slot.Slot.TheVariants as slot
-use Rattle.arrow_columns.proofs.Same.{record_length, record_field, record_of_three, widened_32, widened_64}
+use Rattle.arrow_columns.proofs.Same.{struct_length, struct_field, struct_of_three, widened_32, widened_64}
 use Rattle.arrow_columns.proofs.equality.is_interval.Goals as goal
 
 pub returns-then-children-ne3 : goal.returns-then-children-ne3
-returns-then-children-ne3 c = (λ f. absurd (false≢true f), λ e. absurd (c.if-children-ne3.true (record_length _ _ _ e)))
+returns-then-children-ne3 c = (λ f. absurd (false≢true f), λ e. absurd (c.if-children-ne3.true (struct_length _ _ _ e)))
 
-pub returns-then-not-is_whole : goal.returns-then-not-is_whole
-returns-then-not-is_whole c = (
+pub returns-then-not-is_integer : goal.returns-then-not-is_integer
+returns-then-not-is_integer c = (
   λ f. absurd (false≢true f),
   λ e.
       let fits : SFits w32 c.args.interval.months = search rules in
-      let found = record_field _ _ 0 _ _ (omega (arith, c.if-children-ne3.false)) c.index-children-0.is e in
-      let same : c.is_whole.result ≡ _ = c.is_whole.ensures.1 (found ∙ ap slot.Whole (sym (widened_32 _ fits))) in
+      let found = struct_field _ _ 0 _ _ (omega (arith, c.if-children-ne3.false)) c.index-children-0.is e in
+      let same : c.is_integer.result ≡ _ = c.is_integer.ensures.1 (found ∙ ap slot.Integer (sym (widened_32 _ fits))) in
       cc,
 )
 
-pub returns-then-not-is_whole-2 : goal.returns-then-not-is_whole-2
-returns-then-not-is_whole-2 c = (
+pub returns-then-not-is_integer-2 : goal.returns-then-not-is_integer-2
+returns-then-not-is_integer-2 c = (
   λ f. absurd (false≢true f),
   λ e.
       let fits : SFits w32 c.args.interval.days = search rules in
-      let found = record_field _ _ 1 _ _ (omega (arith, c.if-children-ne3.false)) c.index-children-1.is e in
-      let same : c.is_whole-2.result ≡ _ = c.is_whole-2.ensures.1 (found ∙ ap slot.Whole (sym (widened_32 _ fits))) in
+      let found = struct_field _ _ 1 _ _ (omega (arith, c.if-children-ne3.false)) c.index-children-1.is e in
+      let same : c.is_integer-2.result ≡ _ = c.is_integer-2.ensures.1 (found ∙ ap slot.Integer (sym (widened_32 _ fits))) in
       cc,
 )
 
@@ -34,11 +34,11 @@ returns c =
     let months : SFits w32 c.args.interval.months = search rules in
     let days : SFits w32 c.args.interval.days = search rules in
     let ns : SFits w64 c.args.interval.ns = search rules in (
-      λ t. record_of_three _ _ _ _ _ _ _ _ c.if-children-ne3.false c.index-children-0.is c.index-children-1.is c.index-children-2.is
-          (c.is_whole.ensures.0 c.if-not-is_whole.false ∙ ap slot.Whole (widened_32 _ months))
-          (c.is_whole-2.ensures.0 c.if-not-is_whole-2.false ∙ ap slot.Whole (widened_32 _ days))
-          (c.is_whole-3.ensures.0 t ∙ ap slot.Whole (widened_64 _ ns)),
+      λ t. struct_of_three _ _ _ _ _ _ _ _ c.if-children-ne3.false c.index-children-0.is c.index-children-1.is c.index-children-2.is
+          (c.is_integer.ensures.0 c.if-not-is_integer.false ∙ ap slot.Integer (widened_32 _ months))
+          (c.is_integer-2.ensures.0 c.if-not-is_integer-2.false ∙ ap slot.Integer (widened_32 _ days))
+          (c.is_integer-3.ensures.0 t ∙ ap slot.Integer (widened_64 _ ns)),
       λ e.
-          let found = record_field _ _ 2 _ _ (omega (arith, c.if-children-ne3.false)) c.index-children-2.is e in
-          c.is_whole-3.ensures.1 (found ∙ ap slot.Whole (sym (widened_64 _ ns))),
+          let found = struct_field _ _ 2 _ _ (omega (arith, c.if-children-ne3.false)) c.index-children-2.is e in
+          c.is_integer-3.ensures.1 (found ∙ ap slot.Integer (sym (widened_64 _ ns))),
     )

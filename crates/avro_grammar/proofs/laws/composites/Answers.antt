@@ -2,18 +2,18 @@ use Rattle.std.proofs.Common.{ap}
 use Rattle.avro_grammar.proofs.ByLists as composites
 use Rattle.avro_grammar.proofs.laws.composites.Goals as goal
 
-pub returns-clause-spelled : goal.returns-clause-spelled
-returns-clause-spelled c = record {
-  array = λ item bytes x. composites.both_ways (ap (λ P. P bytes x) (composites.spells_array item));
-  union = λ members bytes x. composites.both_ways (ap (λ P. P bytes x) (composites.spells_union members));
-  fields = λ r bytes x. composites.both_ways (ap (λ P. P bytes x) (composites.spells_record r));
+pub returns-clause-encoded : goal.returns-clause-encoded
+returns-clause-encoded c = record {
+  array = λ item bytes x. composites.both_ways (ap (λ P. P bytes x) (composites.encodes_array item));
+  union = λ members bytes x. composites.both_ways (ap (λ P. P bytes x) (composites.encodes_union members));
+  fields = λ r bytes x. composites.both_ways (ap (λ P. P bytes x) (composites.encodes_record r));
 }
 
-pub returns-clause-stepped : goal.returns-clause-stepped
-returns-clause-stepped c = record {
-  array = λ item bytes p. composites.both_ways (ap (λ P. P bytes p) (composites.steps_array item));
-  union = λ members bytes p. composites.both_ways (ap (λ P. P bytes p) (composites.steps_union members));
-  fields = λ r bytes p. composites.both_ways (ap (λ P. P bytes p) (composites.steps_record r));
+pub returns-clause-skipped : goal.returns-clause-skipped
+returns-clause-skipped c = record {
+  array = λ item bytes p. composites.both_ways (ap (λ P. P bytes p) (composites.skips_array item));
+  union = λ members bytes p. composites.both_ways (ap (λ P. P bytes p) (composites.skips_union members));
+  fields = λ r bytes p. composites.both_ways (ap (λ P. P bytes p) (composites.skips_record r));
 }
 
 pub returns-clause-broken : goal.returns-clause-broken

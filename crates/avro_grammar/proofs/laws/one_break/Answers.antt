@@ -1,4 +1,4 @@
-use Rattle.avro_grammar.proofs.OnePlace as lemmas
+use Rattle.avro_grammar.proofs.OneLocation as lemmas
 use Rattle.avro_grammar.proofs.laws.one_break.Goals as goal
 
 pub returns-clause-broken : goal.returns-clause-broken

@@ -1,6 +1,6 @@
 -- The line of a fault of reading is told in decimal.
 use Rattle.std.proofs.Common.{◌≡◌, ◌∙◌, ap, Some}
-use Rattle.arrow_lists.specs.declared.error.Error.TheVariants.{ReadFault}
+use Rattle.arrow_core.specs.declared.error.Error.TheVariants.{ReadFault}
 use Rattle.avrocat.proofs.Told.{read_fault_note}
 use Rattle.avrocat.proofs.note.note_error.Goals as goal
 

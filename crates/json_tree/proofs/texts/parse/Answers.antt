@@ -1,7 +1,7 @@
 use Rattle.std.proofs.Common.{refl, sym, subst, take}
 use Rattle.std.specs.Str.{IsValidUpTo}
 use Rattle.json_tree.specs.declared.value.JsonFault.TheVariants.{Text, Depth}
-use Rattle.json_tree.proofs.Answering.{ok-json, ok-not_deep, if-not, err-deep, err-not_deep, err-not_json, front-deep, front-not_deep, err_is}
+use Rattle.json_tree.proofs.Answering.{ok-json, ok-not_deep, if-not, err-deep, err-not_deep, err-not_json, prefix-deep, prefix-not_deep, err_is}
 use Rattle.json_tree.proofs.Firsts.{too_many-deep}
 use Rattle.json_tree.proofs.Completing.{deep-too_many}
 use Rattle.json_tree.specs.Brackets.{HoldsTooMany}
@@ -25,14 +25,14 @@ returns-in-Err-clause-depth c e =
     let b = c.args.bytes.now in
     let n = c.valid_up_to.result in
     let v = subst (IsValidUpTo b) (sym c.valid_up_to.ensures) c.in-Err.ensures.cases.1 in
-    deep-too_many b (front-deep b (take n b) n refl v (c.fault_of_front.ensures.depth (err_is c.fault_of_front.result Depth e)))
+    deep-too_many b (prefix-deep b (take n b) n refl v (c.fault_of_prefix.ensures.depth (err_is c.fault_of_prefix.result Depth e)))
 
 pub returns-in-Err-clause-not_deep : goal.returns-in-Err-clause-not_deep
 returns-in-Err-clause-not_deep c e d =
     let b = c.args.bytes.now in
     let n = c.valid_up_to.result in
     let v = subst (IsValidUpTo b) (sym c.valid_up_to.ensures) c.in-Err.ensures.cases.1 in
-    front-not_deep b (take n b) n refl v (c.fault_of_front.ensures.text (err_is c.fault_of_front.result Text e)) (too_many-deep b d)
+    prefix-not_deep b (take n b) n refl v (c.fault_of_prefix.ensures.text (err_is c.fault_of_prefix.result Text e)) (too_many-deep b d)
 
 pub returns-in-Ok-clause-shallow : goal.returns-in-Ok-clause-shallow
 returns-in-Ok-clause-shallow c =

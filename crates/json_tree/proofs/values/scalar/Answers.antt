@@ -22,13 +22,13 @@ pub returns-then-byte-eq116-clause-reads : goal.returns-then-byte-eq116-clause-r
 returns-then-byte-eq116-clause-reads c =
     let s = c.in-Some.ensures in
     let is = scalar-true c.args.reader.now s.0 (s.1 ∙ ap (λ x. x ∷ s.0) c.if-byte-eq116.true) in
-    subst (Gives (λ _. c.truth_value.new.out) c.truth_value.result c.truth_value.new.reader) (sym is) c.truth_value.ensures.reads
+    subst (Gives (λ _. c.boolean_value.new.out) c.boolean_value.result c.boolean_value.new.reader) (sym is) c.boolean_value.ensures.reads
 
 pub returns-then-byte-eq102-clause-reads : goal.returns-then-byte-eq102-clause-reads
 returns-then-byte-eq102-clause-reads c =
     let s = c.in-Some.ensures in
     let is = scalar-false c.args.reader.now s.0 (s.1 ∙ ap (λ x. x ∷ s.0) c.if-byte-eq102.true) in
-    subst (Gives (λ _. c.truth_value-then-byte-eq102.new.out) c.truth_value-then-byte-eq102.result c.truth_value-then-byte-eq102.new.reader) (sym is) c.truth_value-then-byte-eq102.ensures.reads
+    subst (Gives (λ _. c.boolean_value-then-byte-eq102.new.out) c.boolean_value-then-byte-eq102.result c.boolean_value-then-byte-eq102.new.reader) (sym is) c.boolean_value-then-byte-eq102.ensures.reads
 
 pub returns-clause-reads : goal.returns-clause-reads
 returns-clause-reads c =

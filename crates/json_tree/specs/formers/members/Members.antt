@@ -18,7 +18,7 @@ use Rattle.std.specs.formers.vec.Vec as vec
 use Rattle.std.specs.declared.alloc.Global.{Global}
 use Rattle.std.specs.contracts.alloc.Global as heap
 use Rattle.std.specs.contracts.impls.GlobalAllocator.TheImpl.{ghosts}
-use Rattle.arrow_lists.specs.contracts.text.Text as text
+use Rattle.arrow_core.specs.contracts.text.Text as text
 use Rattle.json_tree.specs.declared.members.Members.TheInside.{Inside}
 use Rattle.json_tree.specs.declared.members.Members.TheView.{view, invariant}
 use Rattle.json_tree.specs.contracts.members.Members as C

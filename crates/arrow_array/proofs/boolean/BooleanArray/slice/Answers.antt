@@ -1,22 +1,22 @@
 use Rattle.std.proofs.Common.{arith}
-use Rattle.arrow_array.proofs.Cuts.{cut_made_slots, length_cut, truth_cut}
-use Rattle.arrow_array.proofs.Fits.{truths}
+use Rattle.arrow_array.proofs.Cuts.{cut_made_slots, length_cut, boolean_cut}
+use Rattle.arrow_array.proofs.Fits.{booleans}
 use Rattle.arrow_array.proofs.Windows.{slots_are, count_slots}
-use Rattle.arrow_array.specs.Slots.{truth_at}
+use Rattle.arrow_array.specs.Slots.{boolean_at}
 use Rattle.arrow_array.proofs.boolean.BooleanArray.slice.Goals as goal
 
 pub slice-requires : goal.slice-requires
-slice-requires c = let n = count_slots (truths c.self.inside.values.truths c.self.invariant) (slots_are c.self.view_is) in omega (arith, n, c.requires)
+slice-requires c = let n = count_slots (booleans c.self.inside.values.booleans c.self.invariant) (slots_are c.self.view_is) in omega (arith, n, c.requires)
 
 pub slice-requires-2-clause-fits : goal.slice-requires-2-clause-fits
 slice-requires-2-clause-fits c =
-    let n = count_slots (truths c.self.inside.values.truths c.self.invariant) (slots_are c.self.view_is) in
+    let n = count_slots (booleans c.self.inside.values.booleans c.self.invariant) (slots_are c.self.view_is) in
     rw (c.len.ensures, ← n) c.self.invariant.validity_fits
 
 pub returns-clause-slots : goal.returns-clause-slots
 returns-clause-slots c =
-    let w = truths c.self.inside.values.truths c.self.invariant in
+    let w = booleans c.self.inside.values.booleans c.self.invariant in
     let n = count_slots w (slots_are c.self.view_is) in
-    rw c.in_ok-values.ensures.truths (cut_made_slots w (slots_are c.self.view_is) (truth_at _) c.in_ok-validity.validity c.args.offset c.args.count _
-    (length_cut c.args.offset c.args.count c.self.inside.values.truths (omega (arith, n, c.requires))) (omega (arith, n, c.requires)) c.in_ok-validity.ensures.cut
-    (truth_cut c.args.offset c.args.count c.self.inside.values.truths))
+    rw c.in_ok-values.ensures.booleans (cut_made_slots w (slots_are c.self.view_is) (boolean_at _) c.in_ok-validity.validity c.args.offset c.args.count _
+    (length_cut c.args.offset c.args.count c.self.inside.values.booleans (omega (arith, n, c.requires))) (omega (arith, n, c.requires)) c.in_ok-validity.ensures.cut
+    (boolean_cut c.args.offset c.args.count c.self.inside.values.booleans))

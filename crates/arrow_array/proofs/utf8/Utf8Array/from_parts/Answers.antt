@@ -7,5 +7,5 @@ invariant_of-result g c = rw (c.in_ok-offsets.ensures.values, c.in_ok-values.ens
 
 pub returns-clause-slots : goal.returns-clause-slots
 returns-clause-slots g c =
-    let e : length (map g.O.Offset.place c.args.offsets.items) - 1 ≡ vec_len c.args.offsets - 1 = omega (arith, length-map c.args.offsets.items g.O.Offset.place, c.args.offsets.ok.0) in
+    let e : length (map g.O.Offset.number c.args.offsets.items) - 1 ≡ vec_len c.args.offsets - 1 = omega (arith, length-map c.args.offsets.items g.O.Offset.number, c.args.offsets.ok.0) in
     rw (c.in_ok-offsets.ensures.values, c.in_ok-values.ensures.values, e) refl

@@ -7,4 +7,4 @@ use Rattle.arrow_array.proofs.utf8.Utf8Array.len.Goals as goal
 pub returns : goal.returns
 returns g c =
     let n = count_slots (texts c.self.invariant) (text_slots_are c.self.view_is) in
-    omega (arith, c.len.ensures, n, length-map c.self.inside.offsets g.O.Offset.place)
+    omega (arith, c.len.ensures, n, length-map c.self.inside.offsets g.O.Offset.number)

@@ -10,12 +10,12 @@ part_of-text-requires-clause-offsets g c = rw (c.as_slice.ensures, c.as_slice-2.
 pub part_of-text-requires-clause-within : goal.part_of-text-requires-clause-within
 part_of-text-requires-clause-within g c =
     let n = count_slots (texts c.self.invariant) (text_slots_are c.self.view_is) in
-    rw c.as_slice.ensures (omega (arith, n, c.requires, c.self.invariant.offsets_fit.filled, length-map c.self.inside.offsets g.O.Offset.place))
+    rw c.as_slice.ensures (omega (arith, n, c.requires, c.self.invariant.offsets_fit.filled, length-map c.self.inside.offsets g.O.Offset.number))
 
 pub from_utf8_unchecked-requires : goal.from_utf8_unchecked-requires
 from_utf8_unchecked-requires g c =
     let n = count_slots (texts c.self.invariant) (text_slots_are c.self.view_is) in
-    rw (c.part_of-text.ensures, c.as_slice.ensures, c.as_slice-2.ensures) (c.self.invariant.texts_fit c.args.i (omega (arith, n, c.requires)))
+    rw (c.part_of-text.ensures, c.as_slice.ensures, c.as_slice-2.ensures) (c.self.invariant.utf8_fit c.args.i (omega (arith, n, c.requires)))
 
 pub returns : goal.returns
 returns g c =

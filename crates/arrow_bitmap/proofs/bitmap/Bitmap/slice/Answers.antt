@@ -1,5 +1,5 @@
 use Rattle.std.proofs.Common.{arith}
-use Rattle.arrow_bitmap.proofs.Bits.{count_is, cut_truths}
+use Rattle.arrow_bitmap.proofs.Bits.{count_is, cut_booleans}
 use Rattle.arrow_bitmap.proofs.bitmap.Bitmap.slice.Goals as goal
 
 pub overflow_add-result : goal.overflow_add-result
@@ -8,5 +8,5 @@ overflow_add-result c = let n = count_is _ _ _ _ c.self.view_is in omega (arith,
 pub invariant_of-result : goal.invariant_of-result
 invariant_of-result c = let n = count_is _ _ _ _ c.self.view_is in rw c.in_ok-words.ensures.cases (omega (arith, n, c.requires, c.self.invariant.0), omega (arith, n, c.requires, c.self.invariant.1))
 
-pub returns-clause-truths : goal.returns-clause-truths
-returns-clause-truths c = let n = count_is _ _ _ _ c.self.view_is in rw c.in_ok-words.ensures.cases (cut_truths _ _ _ _ c.self.view_is _ _ (omega (arith, n, c.requires)))
+pub returns-clause-booleans : goal.returns-clause-booleans
+returns-clause-booleans c = let n = count_is _ _ _ _ c.self.view_is in rw c.in_ok-words.ensures.cases (cut_booleans _ _ _ _ c.self.view_is _ _ (omega (arith, n, c.requires)))

@@ -8,7 +8,7 @@ use Rattle.arrow_builders.proofs.fixed_size_list.MutableFixedSizeListArray.try_p
 pub returns-clause-ok : goal.returns-clause-ok
 returns-clause-ok c =
     let b = c.args.self.now in
-    fixed_more (list_size b.marks.data_type) (list_size c.push.new.self.data_type) (builder_slots b.values.value) b.marks.truths c.push.new.self.truths (ap list_size c.push.ensures.data_type) c.requires c.in_ok-push.ensures.ok
+    fixed_more (list_size b.marks.data_type) (list_size c.push.new.self.data_type) (builder_slots b.values.value) b.marks.booleans c.push.new.self.booleans (ap list_size c.push.ensures.data_type) c.requires c.in_ok-push.ensures.ok
 
 pub returns-clause-takes : goal.returns-clause-takes
-returns-clause-takes c = marks_take c.args.self.now.marks c.push.new.self true c.in_ok-push.ensures.ok c.push.ensures.room
+returns-clause-takes c = marks_take c.args.self.now.marks c.push.new.self true c.in_ok-push.ensures.ok c.push.ensures.capacity

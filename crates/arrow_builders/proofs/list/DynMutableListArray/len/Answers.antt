@@ -1,6 +1,6 @@
 use Rattle.std.proofs.Common.{◌∙◌, sym}
 use Rattle.arrow_builders.specs.MutableArrays.{builder_slots}
-use Rattle.arrow_builders.proofs.ListOffsets.{length-lists}
+use Rattle.arrow_flat.proofs.ListOffsets.{length-lists}
 use Rattle.arrow_builders.proofs.list.DynMutableListArray.len.Goals as goal
 
 pub returns : goal.returns

@@ -1,8 +1,8 @@
 use Rattle.std.proofs.Common.{◌≡◌, ◌∙◌, ◌-◌, ap, arith, List, Some, Option, ℕ, length}
 use Rattle.arrow_builders.specs.MutableArrays.{builder_slots}
-use Rattle.arrow_builders.specs.Nested.{items_of, lists_from}
+use Rattle.arrow_flat.specs.Nested.{items_of, lists_from}
 use Rattle.arrow_builders.specs.declared.array.MutableArray.{MutableArray}
-use Rattle.arrow_builders.proofs.ListOffsets.{items_of-push, list-rest}
+use Rattle.arrow_flat.proofs.ListOffsets.{items_of-push, list-rest}
 use Rattle.arrow_builders.proofs.list.DynMutableListArray.try_push_valid.Goals as goal
 
 pub returns-clause-ok : goal.returns-clause-ok

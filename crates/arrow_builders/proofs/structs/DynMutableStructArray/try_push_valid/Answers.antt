@@ -11,8 +11,8 @@ returns-clause-ok c =
     let b = c.args.self.now in
     let children = map builder_slots b.values.items in
     slots-record (record { marks = c.push.new.self; values = b.values })
-    ∙ record_more children b.marks.truths c.push.new.self.truths c.in_ok-push.ensures.ok
-    ∙ ap (λ xs. xs ++ record_at children (length b.marks.truths) ∷ []) (sym (slots-record b))
+    ∙ record_more children b.marks.booleans c.push.new.self.booleans c.in_ok-push.ensures.ok
+    ∙ ap (λ xs. xs ++ record_at children (length b.marks.booleans) ∷ []) (sym (slots-record b))
 
 pub returns-clause-takes : goal.returns-clause-takes
-returns-clause-takes c = marks_take c.args.self.now.marks c.push.new.self true c.in_ok-push.ensures.ok c.push.ensures.room
+returns-clause-takes c = marks_take c.args.self.now.marks c.push.new.self true c.in_ok-push.ensures.ok c.push.ensures.capacity

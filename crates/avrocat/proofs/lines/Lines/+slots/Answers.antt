@@ -1,4 +1,4 @@
--- Each turn adds a comma where one is wanted, and a slot. At the end the bracket makes the text of the list or record.
+-- Each turn adds a comma where one is wanted, and a slot. At the end the bracket makes the text of the list or struct.
 use Rattle.std.proofs.Common.{◌≡◌, ◌<◌, ◌-◌, ◌++◌, codes, length, map, take, drop, ap, sym, ◌∙◌, arith, get_or-drop, length-drop}
 use Rattle.std.proofs.Math.Seq.{take-length}
 use Rattle.std.proofs.lemmas.Result.{on_ok_weaker}
@@ -24,16 +24,16 @@ push_list-returns-clause-ok t c =
     let done : c.loop-k.k ≡ c.args.part.now.end - c.args.part.now.start = omega arith in
     on_ok_weaker c.push-2.result (λ last. list_done _ _ _ _ (rw done at c.loop-k.invariant) last) c.push-2.ensures.ok
 
-pub push_record-loop-k-preserved : goal.push_record-loop-k-preserved
-push_record-loop-k-preserved t c =
+pub push_struct-loop-k-preserved : goal.push_struct-loop-k-preserved
+push_struct-loop-k-preserved t c =
     let children = c.args.children.now in
     let within : c.loop-k.k < length (fields_at children c.args.i) = omega (arith, fields_length children c.args.i) in
     let here = field_at children c.args.i c.loop-k.k c.index-children-k.result (omega arith) c.index-children-k.is in
     joined_more (c.args.self.now.text.items ++ codes "{") _ _ _ (fields_at children c.args.i) c.loop-k.k within c.loop-k.invariant c.in_ok-push_comma.ensures.ok
     (c.in_ok-push_slot.ensures.ok ∙ ap (λ x. c.push_comma.new.self.text.items ++ slot_text x) (sym here))
 
-pub push_record-returns-clause-ok : goal.push_record-returns-clause-ok
-push_record-returns-clause-ok t c =
+pub push_struct-returns-clause-ok : goal.push_struct-returns-clause-ok
+push_struct-returns-clause-ok t c =
     let xs = fields_at c.args.children.now c.args.i in
     let done : c.loop-k.k ≡ length xs = omega (arith, fields_length c.args.children.now c.args.i) in
     let whole : take c.loop-k.k xs ≡ xs = ap (λ n. take n xs) done ∙ take-length xs in

@@ -1,4 +1,4 @@
--- The text has grown by the lines before place i.
+-- The text has grown by the lines before index i.
 use Rattle.std.proofs.Common.{◌≡◌, ◌++◌, map, take}
 use Rattle.arrow_array.specs.Arrays.{array_slots}
 use Rattle.avrocat.specs.Shown.{shown}

@@ -1,4 +1,4 @@
--- The text has grown by the slots before place i.
+-- The text has grown by the slots before index i.
 use Rattle.std.proofs.Common.{◌≡◌, ◌++◌, map, take}
 use Rattle.arrow_array.specs.Arrays.{array_slots}
 use Rattle.avrocat.specs.Shown.{slot_text, joined}

@@ -1,6 +1,6 @@
 use Rattle.std.proofs.Common.{rules, ℕ, List, [], None, ◌≡◌, ◌<◌, Some, refl, cond, of_calls, arith}
 use Rattle.std.specs.Iterator.{size}
-use Rattle.lending.proofs.Cases.{if_some-any, if_none-any, on_err-any, on_err-hidden, fills, tells_nothing}
+use Rattle.lending.proofs.Cases.{if_some-any, if_none-any, on_err-any, on_ok-any, on_err-hidden, fills, tells_nothing}
 use Rattle.lending.proofs.buffered.BufStreamingIteratorFallibleStreamingIterator.advance.Goals as goal
 
 pub returns-in-Some : goal.returns-in-Some
@@ -13,19 +13,24 @@ returns-in-Some g c =
     let falls : cond s.has_ended 0 (size (g.I.Iterator.remaining c.next.new.self)) < cond s.has_ended 0 (size (g.I.Iterator.remaining s.iterator)) = rw c.if-self.false after.2 in
     let none : (told : List (List ℕ)) → ⊥ → told ≡ [] = λ _ told. absurd told in
     record {
-      steps = (
-        λ ended. absurd (cc),
-        λ _. (
-          Some c.in-Some.item,
-          c.in-Some.ensures.steps,
-          (bytes, fills _ _ _ _ _ _ _ _ c.f-answer.ensures (search rules), c.if-self.false, rw c.is_ok-self.ensures.value refl),
-        ),
-      );
+      steps = record {
+        after_the_end = λ ended. absurd (cc);
+        until_the_end = λ _. record {
+          next = Some c.in-Some.item;
+          given = c.in-Some.ensures.steps;
+          shows = record {
+            bytes = bytes;
+            filled = fills _ _ _ _ _ _ _ _ c.f-answer.ensures (search rules);
+            not_ended = c.if-self.false;
+            shown = rw c.is_ok-self.ensures.value refl;
+          };
+        };
+      };
       again = (search (rules, of_calls), λ _. (after.0, after.1));
       never_rises = omega (arith, falls);
       falls_shown = if_some-any _ _ (λ _. falls);
       falls_err = on_err-any answer _ falls;
       hidden = rw c.is_ok-self.ensures.value (on_err-hidden answer bytes);
       taken = tells_nothing (cond c.is_ok-self.result (Some bytes) None);
-      end = if_none-any (cond c.is_ok-self.result (Some bytes) None) _ none;
+      end = on_ok-any answer _ (if_none-any (cond c.is_ok-self.result (Some bytes) None) _ none);
     }

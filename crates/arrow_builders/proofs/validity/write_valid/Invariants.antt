@@ -1,8 +1,0 @@
-use Rattle.std.proofs.Common.{◌≡◌, ◌+◌, ◌++◌, true, replicate}
-use Rattle.arrow_builders.proofs.validity.write_valid.Given as goal
-
-abbrev pub invariant-loop : goal.invariant-loop
-invariant-loop l = record {
-  items : l.bits.items ≡ l.fn.bits.items ++ replicate l.counter true;
-  room : l.bits.spare + l.counter ≡ l.fn.bits.spare;
-}

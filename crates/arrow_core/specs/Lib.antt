@@ -1,0 +1,5 @@
+pub mod Entries
+pub mod EntryComparisons
+pub mod Errors
+pub mod Lent
+pub mod formers

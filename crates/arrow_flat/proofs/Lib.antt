@@ -1,0 +1,5 @@
+pub mod Bits
+pub mod Contents
+pub mod FixedSizes
+pub mod ListOffsets
+pub mod Slots

@@ -1,0 +1,7 @@
+pub mod Bits
+pub mod Builders
+pub mod Capacity
+pub mod Contents
+pub mod Dictionaries
+pub mod Nested
+pub mod Nodes

@@ -1,4 +1,0 @@
-pub mod Entries
-pub mod EntryComparisons
-pub mod Errors
-pub mod formers

@@ -1,0 +1,15 @@
+pub mod CarriedKinds
+pub mod Counting
+pub mod Growth
+pub mod Inferring
+pub mod Making
+pub mod Numbers
+pub mod Pushes
+pub mod Capacity
+pub mod RowSteps
+pub mod Sets
+pub mod SingleRows
+pub mod Supported
+pub mod Unfolded
+pub mod Valid
+pub mod Wholes

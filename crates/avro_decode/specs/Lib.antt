@@ -1,0 +1,9 @@
+pub mod Capacity
+pub mod Columns
+pub mod Costs
+pub mod Counting
+pub mod Decoding
+pub mod Growing
+pub mod Inference
+pub mod Refusals
+pub mod Supported

@@ -1,0 +1,57 @@
+-- Why a block is refused. Each error has its one cause, and out of memory may come at any time.
+use Rattle.std.specs.Prelude.{◌≡◌, ℕ, ◌<◌, ◌≤◌, ◌⊎◌, List, [], length, Bool}
+use Rattle.arrow_types.specs.declared.types.Field.{Field}
+use Rattle.arrow_types.specs.declared.slot.Slot.{Slot}
+use Rattle.arrow_core.specs.declared.error.Error.{Error}
+use Rattle.arrow_core.specs.declared.error.Error.TheVariants.{InvalidArgumentError, NotYetImplemented, ExternalFormat, Overflow, OutOfMemory}
+use Rattle.arrow_core.specs.declared.error.Reason.TheVariants as reason
+use Rattle.avro_schema.specs.declared.schema.AvroField.{AvroField}
+use Rattle.avro_grammar.specs.Rows.{Rows}
+use Rattle.avro_grammar.specs.ValidBlock.{HaveSameLength, small_limit, ValidBlock}
+use Rattle.avro_decode.specs.Supported.{AllSupported, AllTyped}
+
+-- the fields, the Avro fields and the projection belong together: what `CanBeColumns` asks of them, of schemas
+-- that the decoder supports and of small types alone
+pub record BelongTogether (fields : List Field) (avro_fields : List AvroField) (projection : List Bool) : Type 0 where
+  pub lengths : HaveSameLength fields avro_fields projection
+  pub some : 0 < length fields
+  pub supported : AllSupported avro_fields
+  pub typed : AllTyped fields avro_fields
+
+-- why they do not, in this order
+abbrev pub FieldsRefused : List Field → List AvroField → List Bool → Error → Type 0
+FieldsRefused fields avro_fields projection (InvalidArgumentError reason.Lengths) = HaveSameLength fields avro_fields projection → ⊥
+FieldsRefused fields avro_fields projection (NotYetImplemented reason.NoField) = HaveSameLength fields avro_fields projection × (fields ≡ [])
+FieldsRefused fields avro_fields projection (NotYetImplemented reason.NotCarried) = HaveSameLength fields avro_fields projection × (0 < length fields) × (AllSupported avro_fields → ⊥)
+FieldsRefused fields avro_fields projection (InvalidArgumentError reason.FieldType) = HaveSameLength fields avro_fields projection × (0 < length fields) × AllSupported avro_fields × (AllTyped fields avro_fields → ⊥)
+FieldsRefused fields avro_fields projection OutOfMemory = Unit {0}
+FieldsRefused fields avro_fields projection _ = ⊥
+
+-- no more bytes than offsets of 32 bits count, and no more rows than bytes
+abbrev pub AreCounted : ℕ → List ℕ → Type 0
+AreCounted n bytes = (length bytes ≤ small_limit) × (n ≤ length bytes)
+
+-- why bytes are refused as n rows, in this order
+abbrev pub BytesRefused : ℕ → List AvroField → List Bool → List ℕ → Error → Type 0
+BytesRefused n avro_fields projection bytes Overflow = small_limit < length bytes
+BytesRefused n avro_fields projection bytes (ExternalFormat reason.Rows) = (length bytes ≤ small_limit) × (length bytes < n)
+BytesRefused n avro_fields projection bytes (ExternalFormat reason.BlockBytes) = AreCounted n bytes × ((table : List (List Slot)) → Rows n avro_fields projection bytes table → ⊥)
+BytesRefused n avro_fields projection bytes OutOfMemory = Unit {0}
+BytesRefused n avro_fields projection bytes _ = ⊥
+
+-- why a block is refused, in this order
+abbrev pub BlockRefused : List Field → ℕ → List AvroField → List Bool → List ℕ → Error → Type 0
+BlockRefused fields n avro_fields projection bytes e =
+    FieldsRefused fields avro_fields projection e ⊎ (BelongTogether fields avro_fields projection × BytesRefused n avro_fields projection bytes e)
+
+-- ---- valid blocks
+
+-- what the decoder supports: its schemas, small types, and no more bytes than offsets of 32 bits count
+pub record Supports (fields : List Field) (avro_fields : List AvroField) (bytes : List ℕ) : Type 0 where
+  pub schemas : AllSupported avro_fields
+  pub types : AllTyped fields avro_fields
+  pub few : length bytes ≤ small_limit
+
+-- a valid block that the decoder supports is refused for out of memory alone
+abbrev pub ValidBlocksAreRead : Type 0
+ValidBlocksAreRead = (fields : List Field) (n : ℕ) (avro_fields : List AvroField) (projection : List Bool) (bytes : List ℕ) (e : Error) → ValidBlock n bytes fields avro_fields projection → Supports fields avro_fields bytes → BlockRefused fields n avro_fields projection bytes e → e ≡ OutOfMemory

@@ -1,5 +1,0 @@
-use Rattle.avro_read.proofs.Valid.{valid_blocks}
-use Rattle.avro_read.proofs.laws.valid_blocks_are_read.Goals as goal
-
-pub returns : goal.returns
-returns c = valid_blocks

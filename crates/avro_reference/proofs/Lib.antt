@@ -1,0 +1,11 @@
+pub mod Arrays
+pub mod ByLists
+pub mod ExampleLemmas
+pub mod Exact
+pub mod Prefixes
+pub mod RowSteps
+pub mod Rows
+pub mod SkippedArrays
+pub mod SkippedValues
+pub mod Parsers
+pub mod Values

@@ -1,0 +1,22 @@
+//! The commands, as words ask for them.
+
+use arrow_base::Items;
+use avro_file::AvroField;
+
+/// A block's rows and fields, as `block ROWS FIELD..` names them.
+#[derive(Drop)]
+pub struct BlockWords {
+    /// How many rows the block is said to have.
+    pub rows: usize,
+    /// The fields of a row, in order.
+    pub avro_fields: Items<AvroField>,
+    /// Which of the fields are kept.
+    pub projection: Items<bool>,
+}
+
+/// What the words ask for.
+#[derive(Drop)]
+pub enum Command {
+    /// Read one block of rows and show its kept fields.
+    Block(BlockWords),
+}

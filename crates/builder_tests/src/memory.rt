@@ -1,0 +1,52 @@
+//! A builder of lists where allocations are refused, one after another, by
+//! `tools/refuse_allocations.sh`.
+
+use crate::making::new_list;
+use arrow_builders::{MutableArray, NodeLengths};
+use arrow_core::{Error, Result};
+
+/// Whether a builder's nodes hold nothing.
+fn holds_nothing(builder: &MutableArray) -> bool {
+    let nothing = NodeLengths { slots: 0, bytes: 0 };
+    builder.node_lengths(0) == Some(nothing) && builder.node_lengths(1) == Some(nothing)
+}
+
+/// Whether a builder takes a null, and gives the array of it.
+fn gives_a_null(builder: &mut MutableArray) -> Result<bool> {
+    builder.reserve_for(2)?;
+    builder.push_null()?;
+    let array = builder.as_box()?;
+    Ok(array.len() == 1 && !array.is_valid(0))
+}
+
+/// Whether a builder does so, or, where memory may be refused and is, can be cleared at least.
+fn is_right(builder: &mut MutableArray, may_lack: bool) -> bool {
+    match gives_a_null(builder) {
+        Ok(is_given) => is_given && holds_nothing(builder),
+        Err(error) => {
+            builder.clear();
+            may_lack && matches!(error, Error::OutOfMemory) && holds_nothing(builder)
+        }
+    }
+}
+
+#[test]
+fn a_list_where_memory_may_be_refused(rt: HostRuntime) {
+    assert!(rt;
+        match new_list(rt.alloc()) {
+            Ok(builder) => is_right(&mut MutableArray::List(builder), true),
+            Err(error) => matches!(error, Error::OutOfMemory),
+        }
+    );
+}
+
+// The same calls, where memory is wanted: it fails as long as an allocation of them is refused.
+#[test]
+fn a_list_where_memory_is_wanted(rt: HostRuntime) {
+    assert!(rt;
+        match new_list(rt.alloc()) {
+            Ok(builder) => is_right(&mut MutableArray::List(builder), false),
+            Err(_) => false,
+        }
+    );
+}

@@ -1,0 +1,9 @@
+use Rattle.decode_tests.proofs.blocks.read_twice.Goals as goal
+
+pub read_rows-requires-2-clause-empty : goal.read_rows-requires-2-clause-empty
+read_rows-requires-2-clause-empty c =
+    (c.reserved_capacity_stays.ensures 7 _ _ _ c.requires.capacity c.read_rows.ensures.capacity c.clear_all.ensures.capacity).0
+
+pub returns : goal.returns
+returns c =
+    record { memory = c.read_rows-2.ensures.has_capacity (c.reserved_capacity_stays.ensures 7 _ _ _ c.requires.capacity c.read_rows.ensures.capacity c.clear_all.ensures.capacity).1 }

@@ -1,0 +1,7 @@
+//! Tests of the decoder, in a crate of their own, so that the decoder is proved once.
+#![tactic(auto)]
+
+#[cfg(test)]
+mod blocks;
+#[cfg(test)]
+mod schemas;

@@ -1,0 +1,4 @@
+pub mod FieldEnd
+pub mod Fields
+pub mod Names
+pub mod Types
