@@ -2,60 +2,60 @@
 
 use crate::samples::{
     begins_with, binaries, booleans, dictionary, fixed_binaries, integers, is_refused, large_lists,
-    lists, nulls, pairs, structs,
+    lists, nulls, pairs, structs, try_dictionary, try_fixed_binaries, try_lists, try_pairs,
 };
-use std::test::Fail;
+use arrow_core::Reason;
 
 #[test]
-fn flat_arrays_begin_with_their_first_slot(rt: HostRuntime) -> Result<(), Fail> {
+fn flat_arrays_begin_with_their_first_slot(rt: HostRuntime) {
     let alloc = rt.alloc();
-    let two = booleans(alloc, &[true, true], &[false, true]);
-    assert!(rt; begins_with(alloc, nulls(alloc, 2), nulls(alloc, 1))?);
-    assert!(rt; begins_with(alloc, two, booleans(alloc, &[false], &[false]))?);
-    assert!(rt; begins_with(alloc, integers(alloc, &[1, 2]), integers(alloc, &[1]))?);
-    Ok(())
+    assert!(rt; begins_with(&rt, alloc, nulls(&rt, alloc, 2), nulls(&rt, alloc, 1)));
+    let two = booleans(&rt, alloc, &[true, true], &[false, true]);
+    assert!(rt; begins_with(&rt, alloc, two, booleans(&rt, alloc, &[false], &[false])));
+    let two = integers(&rt, alloc, &[1, 2]);
+    assert!(rt; begins_with(&rt, alloc, two, integers(&rt, alloc, &[1])));
 }
 
 #[test]
-fn binary_arrays_begin_with_their_first_value(rt: HostRuntime) -> Result<(), Fail> {
+fn binary_arrays_begin_with_their_first_value(rt: HostRuntime) {
     let alloc = rt.alloc();
-    let one = binaries(alloc, &[0, 1], &[1]);
-    assert!(rt; begins_with(alloc, binaries(alloc, &[0, 1, 2], &[1, 2]), one)?);
-    let pair = fixed_binaries(alloc, &[1, 2], 2);
-    assert!(rt; begins_with(alloc, fixed_binaries(alloc, &[1, 2, 3, 4], 2), pair)?);
-    Ok(())
+    let two = binaries(&rt, alloc, &[0, 1, 2], &[1, 2]);
+    assert!(rt; begins_with(&rt, alloc, two, binaries(&rt, alloc, &[0, 1], &[1])));
+    let two = fixed_binaries(&rt, alloc, &[1, 2, 3, 4], 2);
+    assert!(rt; begins_with(&rt, alloc, two, fixed_binaries(&rt, alloc, &[1, 2], 2)));
 }
 
 #[test]
-fn lists_begin_with_their_first_list(rt: HostRuntime) -> Result<(), Fail> {
+fn lists_begin_with_their_first_list(rt: HostRuntime) {
     let alloc = rt.alloc();
-    assert!(rt; begins_with(alloc, lists(alloc, &[0, 2, 2]), lists(alloc, &[0, 2]))?);
-    let first = large_lists(alloc, &[0, 2]);
-    assert!(rt; begins_with(alloc, large_lists(alloc, &[0, 2, 2]), first)?);
-    assert!(rt; begins_with(alloc, pairs(alloc, &[1, 2, 3, 4]), pairs(alloc, &[1, 2]))?);
-    Ok(())
+    let two = lists(&rt, alloc, &[0, 2, 2]);
+    assert!(rt; begins_with(&rt, alloc, two, lists(&rt, alloc, &[0, 2])));
+    let two = large_lists(&rt, alloc, &[0, 2, 2]);
+    assert!(rt; begins_with(&rt, alloc, two, large_lists(&rt, alloc, &[0, 2])));
+    let two = pairs(&rt, alloc, &[1, 2, 3, 4]);
+    assert!(rt; begins_with(&rt, alloc, two, pairs(&rt, alloc, &[1, 2])));
 }
 
 #[test]
-fn structs_begin_with_their_first_struct(rt: HostRuntime) -> Result<(), Fail> {
+fn structs_begin_with_their_first_struct(rt: HostRuntime) {
     let alloc = rt.alloc();
-    assert!(rt; begins_with(alloc, structs(alloc, &[1, 2]), structs(alloc, &[1]))?);
-    Ok(())
+    let two = structs(&rt, alloc, &[1, 2]);
+    assert!(rt; begins_with(&rt, alloc, two, structs(&rt, alloc, &[1])));
 }
 
 #[test]
-fn a_dictionary_begins_with_the_value_of_its_first_key(rt: HostRuntime) -> Result<(), Fail> {
+fn a_dictionary_begins_with_the_value_of_its_first_key(rt: HostRuntime) {
     let alloc = rt.alloc();
-    assert!(rt; begins_with(alloc, dictionary(alloc, &[1, 0]), dictionary(alloc, &[1]))?);
-    Ok(())
+    let two = dictionary(&rt, alloc, &[1, 0]);
+    assert!(rt; begins_with(&rt, alloc, two, dictionary(&rt, alloc, &[1])));
 }
 
 #[test]
-fn parts_that_do_not_fit_are_refused(rt: HostRuntime) -> Result<(), Fail> {
+fn parts_that_do_not_fit_are_refused(rt: HostRuntime) {
     let alloc = rt.alloc();
-    assert!(rt; is_refused(dictionary(alloc, &[2])));
-    assert!(rt; is_refused(lists(alloc, &[0, 3])));
-    assert!(rt; is_refused(pairs(alloc, &[1, 2, 3])));
-    assert!(rt; is_refused(fixed_binaries(alloc, &[1, 2, 3], 2)));
-    Ok(())
+    assert!(rt; is_refused(try_dictionary(&rt, alloc, &[2]), Reason::ArrayParts));
+    assert!(rt; is_refused(try_lists(&rt, alloc, &[0, 3]), Reason::ArrayParts));
+    assert!(rt; is_refused(try_pairs(&rt, alloc, &[1, 2, 3]), Reason::ArrayParts));
+    let cut = try_fixed_binaries(&rt, alloc, &[1, 2, 3], 2);
+    assert!(rt; is_refused(cut, Reason::ArrayParts));
 }

@@ -6,147 +6,151 @@ use arrow_columns::{
     Utf8Array, equal,
 };
 use arrow_core::{Box, Error, Items, Reason, Result, Text};
-use arrow_types::{DataType, Field, IntegerType};
+use arrow_types::{DataType, Field, IntegerType, NativeType};
 use std::alloc::Global;
+use std::process::Abort;
 
-/// Whether both are there, and equal.
-pub fn are_equal(left: Result<Array>, right: Result<Array>) -> Result<bool> {
-    Ok(equal(&left?, &right?))
+pub fn are_equal(left: Array, right: Array) -> bool {
+    equal(&left, &right)
 }
 
 /// Whether the array has two slots, and its slice of the first is the other array.
-pub fn begins_with(alloc: Global, array: Result<Array>, first: Result<Array>) -> Result<bool> {
-    let array = array?;
-    if array.len() != 2 {
-        return Ok(false);
-    }
-    are_equal(array.slice(alloc, 0, 1), first)
+pub fn begins_with(rt: &impl Abort, alloc: Global, array: Array, first: Array) -> bool {
+    assert!(rt; array.len() == 2);
+    are_equal(array.slice(alloc, 0, 1).expect(rt, "memory"), first)
 }
 
-/// Whether the parts of an array were refused.
-pub fn is_refused(array: Result<Array>) -> bool {
-    match array {
+/// Whether parts were refused, for this reason.
+pub fn is_refused<T: Drop>(made: Result<T>, reason: Reason) -> bool {
+    match made {
         Ok(_) => false,
-        Err(error) => error == Error::InvalidArgumentError(Reason::ArrayParts),
+        Err(error) => error == Error::InvalidArgumentError(reason),
     }
 }
 
-pub fn nulls(alloc: Global, count: usize) -> Result<Array> {
-    Ok(Array::Null(NullArray::try_new(alloc, DataType::Null, count)?))
+pub fn copied<T: Copy>(rt: &impl Abort, alloc: Global, items: &[T]) -> Vec<T> {
+    Vec::from_slice(alloc, items).expect(rt, "memory")
 }
 
-pub fn booleans(alloc: Global, values: &[bool], valid: &[bool]) -> Result<Array> {
-    let values = Vec::from_slice(alloc, values)?;
-    let validity = Bitmap::try_from_slice(alloc, valid)?;
-    let array = BooleanArray::try_new(alloc, DataType::Boolean, values, Some(validity))?;
-    Ok(Array::Boolean(array))
+pub fn nulls(rt: &impl Abort, alloc: Global, count: usize) -> Array {
+    Array::Null(NullArray::try_new(alloc, DataType::Null, count).expect(rt, "nulls"))
 }
 
-pub fn integers(alloc: Global, values: &[i32]) -> Result<Array> {
-    let values = Vec::from_slice(alloc, values)?;
-    let array = PrimitiveArray::<i32>::try_new(alloc, DataType::Int32, values, None)?;
-    Ok(Array::Int32(array))
+pub fn booleans(rt: &impl Abort, alloc: Global, values: &[bool], valid: &[bool]) -> Array {
+    let values = copied(rt, alloc, values);
+    let validity = Bitmap::try_from_slice(alloc, valid).expect(rt, "memory");
+    let array = BooleanArray::try_new(alloc, DataType::Boolean, values, Some(validity));
+    Array::Boolean(array.expect(rt, "booleans"))
 }
 
-pub fn dates(alloc: Global, values: &[i32]) -> Result<Array> {
-    let values = Vec::from_slice(alloc, values)?;
-    let array = PrimitiveArray::<i32>::try_new(alloc, DataType::Date32, values, None)?;
-    Ok(Array::Int32(array))
+pub fn numbers<T: NativeType>(
+    rt: &impl Abort,
+    alloc: Global,
+    data_type: DataType,
+    values: &[T],
+) -> PrimitiveArray<T> {
+    let values = copied(rt, alloc, values);
+    PrimitiveArray::try_new(alloc, data_type, values, None).expect(rt, "numbers")
+}
+
+pub fn integers(rt: &impl Abort, alloc: Global, values: &[i32]) -> Array {
+    Array::Int32(numbers(rt, alloc, DataType::Int32, values))
+}
+
+pub fn dates(rt: &impl Abort, alloc: Global, values: &[i32]) -> Array {
+    Array::Int32(numbers(rt, alloc, DataType::Date32, values))
 }
 
 /// The strings between these offsets into `AB`.
-pub fn strings(alloc: Global, offsets: &[i64]) -> Result<Array> {
-    let offsets = Vec::from_slice(alloc, offsets)?;
-    let values = Vec::from_slice(alloc, b"AB")?;
-    let array = Utf8Array::<i64>::try_new(alloc, DataType::LargeUtf8, offsets, values, None)?;
-    Ok(Array::LargeUtf8(array))
+pub fn strings(rt: &impl Abort, alloc: Global, offsets: &[i64]) -> Array {
+    let offsets = copied(rt, alloc, offsets);
+    let values = copied(rt, alloc, b"AB");
+    let array = Utf8Array::try_new(alloc, DataType::LargeUtf8, offsets, values, None);
+    Array::LargeUtf8(array.expect(rt, "strings"))
 }
 
 /// The binary values between these offsets.
-pub fn binaries(alloc: Global, offsets: &[i32], values: &[u8]) -> Result<Array> {
-    let offsets = Vec::from_slice(alloc, offsets)?;
-    let values = Vec::from_slice(alloc, values)?;
-    let array = BinaryArray::<i32>::try_new(alloc, DataType::Binary, offsets, values, None)?;
-    Ok(Array::Binary(array))
+pub fn binaries(rt: &impl Abort, alloc: Global, offsets: &[i32], values: &[u8]) -> Array {
+    let offsets = copied(rt, alloc, offsets);
+    let values = copied(rt, alloc, values);
+    let array = BinaryArray::try_new(alloc, DataType::Binary, offsets, values, None);
+    Array::Binary(array.expect(rt, "binary values"))
+}
+
+pub fn try_fixed_binaries(
+    rt: &impl Abort,
+    alloc: Global,
+    values: &[u8],
+    size: usize,
+) -> Result<FixedSizeBinaryArray> {
+    let data_type = DataType::FixedSizeBinary(size);
+    FixedSizeBinaryArray::try_new(alloc, data_type, copied(rt, alloc, values), None)
 }
 
 /// The binary values of this size.
-pub fn fixed_binaries(alloc: Global, values: &[u8], size: usize) -> Result<Array> {
-    let values = Vec::from_slice(alloc, values)?;
-    let data_type = DataType::FixedSizeBinary(size);
-    let array = FixedSizeBinaryArray::try_new(alloc, data_type, values, None)?;
-    Ok(Array::FixedSizeBinary(array))
+pub fn fixed_binaries(rt: &impl Abort, alloc: Global, values: &[u8], size: usize) -> Array {
+    let array = try_fixed_binaries(rt, alloc, values, size);
+    Array::FixedSizeBinary(array.expect(rt, "binary values"))
 }
 
-fn item(alloc: Global) -> Result<Field> {
-    let name = Text::try_from_str(alloc, "item")?;
-    Ok(Field::new(alloc, name, DataType::Int32, true))
+fn item(rt: &impl Abort, alloc: Global) -> Field {
+    let name = Text::try_from_str(alloc, "item").expect(rt, "memory");
+    Field::new(alloc, name, DataType::Int32, true)
 }
 
-fn list_type(alloc: Global) -> Result<DataType> {
-    Ok(DataType::List(Box::new(alloc, item(alloc)?)?))
+fn boxed_item(rt: &impl Abort, alloc: Global) -> Box<Field> {
+    Box::new(alloc, item(rt, alloc)).expect(rt, "memory")
+}
+
+pub fn try_lists(rt: &impl Abort, alloc: Global, offsets: &[i32]) -> Result<ListArray> {
+    let data_type = DataType::List(boxed_item(rt, alloc));
+    let offsets = copied(rt, alloc, offsets);
+    let values = integers(rt, alloc, &[1, 2]);
+    ListArray::try_new(alloc, data_type, offsets, values, None)
 }
 
 /// The lists between these offsets into 1 and 2.
-pub fn lists(alloc: Global, offsets: &[i32]) -> Result<Array> {
-    let offsets = Vec::from_slice(alloc, offsets)?;
-    let values = integers(alloc, &[1, 2])?;
-    let array = ListArray::try_new(alloc, list_type(alloc)?, offsets, values, None)?;
-    Ok(Array::List(array))
-}
-
-fn large_list_type(alloc: Global) -> Result<DataType> {
-    Ok(DataType::LargeList(Box::new(alloc, item(alloc)?)?))
+pub fn lists(rt: &impl Abort, alloc: Global, offsets: &[i32]) -> Array {
+    Array::List(try_lists(rt, alloc, offsets).expect(rt, "lists"))
 }
 
 /// The same, with offsets of 64 bits.
-pub fn large_lists(alloc: Global, offsets: &[i64]) -> Result<Array> {
-    let offsets = Vec::from_slice(alloc, offsets)?;
-    let values = integers(alloc, &[1, 2])?;
-    let array = LargeListArray::try_new(alloc, large_list_type(alloc)?, offsets, values, None)?;
-    Ok(Array::LargeList(array))
+pub fn large_lists(rt: &impl Abort, alloc: Global, offsets: &[i64]) -> Array {
+    let data_type = DataType::LargeList(boxed_item(rt, alloc));
+    let offsets = copied(rt, alloc, offsets);
+    let values = integers(rt, alloc, &[1, 2]);
+    let array = LargeListArray::try_new(alloc, data_type, offsets, values, None);
+    Array::LargeList(array.expect(rt, "lists"))
 }
 
-fn pair_type(alloc: Global) -> Result<DataType> {
-    Ok(DataType::FixedSizeList(Box::new(alloc, item(alloc)?)?, 2))
+pub fn try_pairs(rt: &impl Abort, alloc: Global, values: &[i32]) -> Result<FixedSizeListArray> {
+    let data_type = DataType::FixedSizeList(boxed_item(rt, alloc), 2);
+    FixedSizeListArray::try_new(alloc, data_type, integers(rt, alloc, values), None)
 }
 
 /// The lists of two of these integers each.
-pub fn pairs(alloc: Global, values: &[i32]) -> Result<Array> {
-    let values = integers(alloc, values)?;
-    let array = FixedSizeListArray::try_new(alloc, pair_type(alloc)?, values, None)?;
-    Ok(Array::FixedSizeList(array))
-}
-
-fn struct_type(alloc: Global) -> Result<DataType> {
-    let mut fields = Vec::new(alloc);
-    fields.push(item(alloc)?)?;
-    Ok(DataType::Struct(Items::from_vec(fields)))
+pub fn pairs(rt: &impl Abort, alloc: Global, values: &[i32]) -> Array {
+    Array::FixedSizeList(try_pairs(rt, alloc, values).expect(rt, "pairs"))
 }
 
 /// The structs of these integers.
-pub fn structs(alloc: Global, values: &[i32]) -> Result<Array> {
-    let mut children = Vec::new(alloc);
-    children.push(integers(alloc, values)?)?;
-    let array = StructArray::try_new(alloc, struct_type(alloc)?, children, None)?;
-    Ok(Array::Struct(array))
+pub fn structs(rt: &impl Abort, alloc: Global, values: &[i32]) -> Array {
+    let fields = vec![in alloc; item(rt, alloc)].expect(rt, "memory");
+    let data_type = DataType::Struct(Items::from_vec(fields));
+    let children = vec![in alloc; integers(rt, alloc, values)].expect(rt, "memory");
+    let array = StructArray::try_new(alloc, data_type, children, None);
+    Array::Struct(array.expect(rt, "structs"))
 }
 
-fn dictionary_type(alloc: Global) -> Result<DataType> {
-    let value_type = Box::new(alloc, DataType::LargeUtf8)?;
-    Ok(DataType::Dictionary(IntegerType::Int32, value_type, false))
-}
-
-fn keys(alloc: Global, keys: &[i32]) -> Result<Keys> {
-    let keys = Vec::from_slice(alloc, keys)?;
-    let keys = PrimitiveArray::<i32>::try_new(alloc, DataType::Int32, keys, None)?;
-    Ok(Keys::Int32(keys))
+pub fn try_dictionary(rt: &impl Abort, alloc: Global, indices: &[i32]) -> Result<DictionaryArray> {
+    let value_type = Box::new(alloc, DataType::LargeUtf8).expect(rt, "memory");
+    let data_type = DataType::Dictionary(IntegerType::Int32, value_type, false);
+    let values = strings(rt, alloc, &[0, 1, 2]);
+    let keys = Keys::Int32(numbers(rt, alloc, DataType::Int32, indices));
+    DictionaryArray::try_new(alloc, data_type, keys, values)
 }
 
 /// The strings A and B at these keys.
-pub fn dictionary(alloc: Global, indices: &[i32]) -> Result<Array> {
-    let keys = keys(alloc, indices)?;
-    let values = strings(alloc, &[0, 1, 2])?;
-    let array = DictionaryArray::try_new(alloc, dictionary_type(alloc)?, keys, values)?;
-    Ok(Array::Dictionary(array))
+pub fn dictionary(rt: &impl Abort, alloc: Global, indices: &[i32]) -> Array {
+    Array::Dictionary(try_dictionary(rt, alloc, indices).expect(rt, "a dictionary"))
 }

@@ -8,7 +8,8 @@ ghost use Rattle.arrow_array.specs.SlotTypes.{SlotOf};
 ghost use Rattle.arrow_array.specs.Slots.{TellsHeld, is_held, slot_at, slots_of, boolean_at};
 ghost use Rattle.arrow_array.specs.Parts.{BooleanFits, IsRefusalOf};
 
-use crate::validity;
+use crate::drops::{beside, both, let_go};
+use crate::validity::{self, slice_with_type};
 use arrow_bitmap::Bitmap;
 use arrow_core::{Error, Reason, Result};
 use arrow_types::DataType;
@@ -63,9 +64,11 @@ impl BooleanArray {
         ensures err { IfErr result (IsRefusalOf (BooleanFits data_type (vec_len values) validity)) }
     {
         if !fits(&data_type, values.len(), &validity) {
+            let_go((data_type, validity), values);
             return Err(Error::InvalidArgumentError(Reason::ArrayParts));
         }
-        let values = Bitmap::try_from_slice(alloc, &values)?;
+        let bitmap = Bitmap::try_from_slice(alloc, &values);
+        let (values, data_type, validity) = beside(bitmap, data_type, validity)?;
         Ok(BooleanArray {
             data_type,
             values,
@@ -146,9 +149,9 @@ impl BooleanArray {
         ensures slots { IfOk result (λ a. a.slots ≡ take count (drop offset self.now.slots)) }
         ensures memory { IfErr result (λ e. e ≡ OutOfMemory) }
     {
-        let values = self.values.slice(offset, count)?;
-        let validity = validity::slice(&self.validity, self.len(), offset, count)?;
-        let data_type = self.data_type.try_clone(alloc)?;
+        let len = self.len();
+        let parts = slice_with_type(alloc, &self.data_type, &self.validity, len, offset, count);
+        let (values, (data_type, validity)) = both(self.values.slice(offset, count), parts)?;
         Ok(BooleanArray {
             data_type,
             values,

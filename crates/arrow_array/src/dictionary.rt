@@ -10,7 +10,7 @@ ghost use Rattle.arrow_array.specs.Slots.{TellsHeld, is_held, slot_at};
 ghost use Rattle.arrow_array.specs.Parts.{IsRefusalOf};
 
 use crate::array::Array;
-use crate::drops::let_go;
+use crate::drops::{beside, both, boxed, let_go};
 use crate::keys::Keys;
 use arrow_bitmap::Bitmap;
 use arrow_core::{Box, Error, Reason, Result};
@@ -133,20 +133,16 @@ impl DictionaryArray {
             (length (array_slots values)))) }
     {
         if !fits(&data_type, &keys, &values) {
-            let_go(data_type, keys);
+            let_go((data_type, keys), values);
             return Err(Error::InvalidArgumentError(Reason::ArrayParts));
         }
-        match Box::new(alloc, values) {
-            Err(error) => {
-                let_go(data_type, keys);
-                Err(error)
-            }
-            Ok(values) => Ok(DictionaryArray {
-                data_type,
-                keys,
-                values,
-            }),
-        }
+        let values = Box::new(alloc, values);
+        let (values, data_type, keys) = beside(values, data_type, keys)?;
+        Ok(DictionaryArray {
+            data_type,
+            keys,
+            values,
+        })
     }
 
     /// How many slots there are.
@@ -221,13 +217,17 @@ impl DictionaryArray {
         requires { offset + count ≤ length self.now.slots }
         ensures data_type { IfOk result (λ a. a.data_type ≡ self.now.data_type) }
         ensures slots { IfOk result (λ a. a.slots ≡ take count (drop offset self.now.slots)) }
+        ensures keys { IfOk result (λ a. a.keys ≡ take count (drop offset self.now.keys)) }
+        ensures items { IfOk result (λ a. a.items ≡ self.now.items) }
         ensures memory { IfErr result (λ e. e ≡ OutOfMemory) }
     {
-        let keys = self.keys.slice(alloc, offset, count)?;
         let child = self.values.get();
-        let values = child.slice(alloc, 0, child.len())?;
-        let values = Box::new(alloc, values)?;
-        let data_type = self.data_type.try_clone(alloc)?;
+        let values = boxed(alloc, child.slice(alloc, 0, child.len()));
+        let parts = both(
+            self.data_type.try_clone(alloc),
+            self.keys.slice(alloc, offset, count),
+        );
+        let (values, (data_type, keys)) = both(values, parts)?;
         Ok(DictionaryArray {
             data_type,
             keys,

@@ -9,7 +9,8 @@ ghost use Rattle.arrow_array.specs.Slots.{TellsHeld, is_held, slot_at, slots_of,
 ghost use Rattle.arrow_array.specs.Parts.{FixedSizeBinaryFits, IsRefusalOf, byte_width};
 
 use crate::buffer::{Buffer, run_of};
-use crate::validity;
+use crate::drops::{beside, both, let_go};
+use crate::validity::{self, slice_with_type};
 use arrow_bitmap::Bitmap;
 use arrow_core::{Error, Reason, Result};
 use arrow_types::DataType;
@@ -88,10 +89,12 @@ impl FixedSizeBinaryArray {
             (IsRefusalOf (FixedSizeBinaryFits data_type (vec_len values) validity)) }
     {
         if !fits(&data_type, values.len(), &validity) {
+            let_go((data_type, validity), values);
             return Err(Error::InvalidArgumentError(Reason::ArrayParts));
         }
         let size = size_of_type(&data_type);
-        let values = Buffer::try_from_vec(values)?;
+        let values = Buffer::try_from_vec(values);
+        let (values, data_type, validity) = beside(values, data_type, validity)?;
         Ok(FixedSizeBinaryArray {
             data_type,
             size,
@@ -160,9 +163,9 @@ impl FixedSizeBinaryArray {
     {
         let size = self.size;
         let len = self.values.len() / size;
-        let values = self.values.slice(offset * size, count * size)?;
-        let validity = validity::slice(&self.validity, len, offset, count)?;
-        let data_type = self.data_type.try_clone(alloc)?;
+        let parts = slice_with_type(alloc, &self.data_type, &self.validity, len, offset, count);
+        let values = self.values.slice(offset * size, count * size);
+        let (values, (data_type, validity)) = both(values, parts)?;
         Ok(FixedSizeBinaryArray {
             data_type,
             size,

@@ -12,9 +12,9 @@ ghost use Rattle.arrow_array.specs.Slots.{TellsHeld, is_held, slot_at, slots_of}
 ghost use Rattle.arrow_array.specs.Parts.{IsRefusalOf};
 
 use crate::array::Array;
-use crate::drops::let_go;
+use crate::drops::{beside, both, boxed, let_go};
 use crate::part::Part;
-use crate::validity;
+use crate::validity::{self, slice_with_type};
 use arrow_bitmap::Bitmap;
 use arrow_core::{Box, Error, Reason, Result};
 use arrow_types::DataType;
@@ -126,24 +126,20 @@ impl FixedSizeListArray {
             (FixedListFits data_type (array_type values) (length (array_slots values)) validity)) }
     {
         if !fits(&data_type, &values, &validity) {
-            let_go(data_type, validity);
+            let_go((data_type, validity), values);
             return Err(Error::InvalidArgumentError(Reason::ArrayParts));
         }
         let size = size_of_type(&data_type);
         let count = values.len() / size;
-        match Box::new(alloc, values) {
-            Err(error) => {
-                let_go(data_type, validity);
-                Err(error)
-            }
-            Ok(values) => Ok(FixedSizeListArray {
-                data_type,
-                size,
-                count,
-                values,
-                validity,
-            }),
-        }
+        let values = Box::new(alloc, values);
+        let (values, data_type, validity) = beside(values, data_type, validity)?;
+        Ok(FixedSizeListArray {
+            data_type,
+            size,
+            count,
+            values,
+            validity,
+        })
     }
 
     /// How many slots there are.
@@ -212,11 +208,11 @@ impl FixedSizeListArray {
         ensures memory { IfErr result (λ e. e ≡ OutOfMemory) }
     {
         let size = self.size;
-        let validity = validity::slice(&self.validity, self.len(), offset, count)?;
         let child = self.values.get();
-        let values = child.slice(alloc, offset * size, count * size)?;
-        let values = Box::new(alloc, values)?;
-        let data_type = self.data_type.try_clone(alloc)?;
+        let values = boxed(alloc, child.slice(alloc, offset * size, count * size));
+        let len = self.count;
+        let parts = slice_with_type(alloc, &self.data_type, &self.validity, len, offset, count);
+        let (values, (data_type, validity)) = both(values, parts)?;
         Ok(FixedSizeListArray {
             data_type,
             size,

@@ -14,11 +14,11 @@ ghost use Rattle.arrow_array.specs.Parts.{IsRefusalOf};
 
 use crate::array::Array;
 use crate::buffer::Buffer;
-use crate::drops::let_go;
+use crate::drops::{beside, both, boxed, let_go};
 use crate::offsets::{are_offsets, part_bounds};
 use crate::part::Part;
 use crate::ranges::tell_offset_ranges;
-use crate::validity;
+use crate::validity::{self, slice_with_type};
 use arrow_bitmap::Bitmap;
 use arrow_core::{Box, Error, Reason, Result};
 use arrow_types::{DataType, Offset};
@@ -134,19 +134,6 @@ fn fits<O: Offset>(
     validity::fits(validity, offsets.len() - 1)
 }
 
-/// The offsets and the child, to be shared.
-///
-/// `OutOfMemory` alone.
-fn shared<T: Drop>(alloc: Global, offsets: Vec<T>, values: Array) -> Result<(Buffer<T>, Box<Array>)>
-    ensures offsets { IfOk result (λ p. p.0 ≡ offsets.items) }
-    ensures values { IfOk result (λ p. p.1 ≡ values) }
-    ensures memory { IfErr result (λ e. e ≡ OutOfMemory) }
-{
-    let values = Box::new(alloc, values)?;
-    let offsets = Buffer::try_from_vec(offsets)?;
-    Ok((offsets, values))
-}
-
 /// The slots of the child between offset `i` and the next.
 fn part_of<'a, O: Offset>(offsets: &[O], values: &'a Array, i: usize) -> Part<'a>
     requires offsets { IsOffsets (map O.number offsets.now) (length (array_slots values.now)) }
@@ -195,21 +182,17 @@ impl ListArray {
             validity)) }
     {
         if !fits(&data_type, offsets.as_slice(), &values, &validity) {
-            let_go(data_type, validity);
+            let_go((data_type, validity), (offsets, values));
             return Err(Error::InvalidArgumentError(Reason::ArrayParts));
         }
-        match shared(alloc, offsets, values) {
-            Err(error) => {
-                let_go(data_type, validity);
-                Err(error)
-            }
-            Ok((offsets, values)) => Ok(ListArray {
-                data_type,
-                offsets,
-                values,
-                validity,
-            }),
-        }
+        let shared = both(Buffer::try_from_vec(offsets), Box::new(alloc, values));
+        let ((offsets, values), data_type, validity) = beside(shared, data_type, validity)?;
+        Ok(ListArray {
+            data_type,
+            offsets,
+            values,
+            validity,
+        })
     }
 
     /// How many slots there are.
@@ -297,12 +280,12 @@ impl ListArray {
         ensures items { IfOk result (λ a. a.items ≡ self.now.items) }
         ensures memory { IfErr result (λ e. e ≡ OutOfMemory) }
     {
-        let offsets = self.offsets.slice_and_next(offset, count)?;
-        let validity = validity::slice(&self.validity, self.len(), offset, count)?;
         let child = self.values.get();
-        let values = child.slice(alloc, 0, child.len())?;
-        let values = Box::new(alloc, values)?;
-        let data_type = self.data_type.try_clone(alloc)?;
+        let values = boxed(alloc, child.slice(alloc, 0, child.len()));
+        let len = self.len();
+        let parts = slice_with_type(alloc, &self.data_type, &self.validity, len, offset, count);
+        let shared = both(self.offsets.slice_and_next(offset, count), values);
+        let ((offsets, values), (data_type, validity)) = both(shared, parts)?;
         Ok(ListArray {
             data_type,
             offsets,
@@ -343,21 +326,17 @@ impl LargeListArray {
             validity)) }
     {
         if !fits(&data_type, offsets.as_slice(), &values, &validity) {
-            let_go(data_type, validity);
+            let_go((data_type, validity), (offsets, values));
             return Err(Error::InvalidArgumentError(Reason::ArrayParts));
         }
-        match shared(alloc, offsets, values) {
-            Err(error) => {
-                let_go(data_type, validity);
-                Err(error)
-            }
-            Ok((offsets, values)) => Ok(LargeListArray {
-                data_type,
-                offsets,
-                values,
-                validity,
-            }),
-        }
+        let shared = both(Buffer::try_from_vec(offsets), Box::new(alloc, values));
+        let ((offsets, values), data_type, validity) = beside(shared, data_type, validity)?;
+        Ok(LargeListArray {
+            data_type,
+            offsets,
+            values,
+            validity,
+        })
     }
 
     /// How many slots there are.
@@ -445,12 +424,12 @@ impl LargeListArray {
         ensures items { IfOk result (λ a. a.items ≡ self.now.items) }
         ensures memory { IfErr result (λ e. e ≡ OutOfMemory) }
     {
-        let offsets = self.offsets.slice_and_next(offset, count)?;
-        let validity = validity::slice(&self.validity, self.len(), offset, count)?;
         let child = self.values.get();
-        let values = child.slice(alloc, 0, child.len())?;
-        let values = Box::new(alloc, values)?;
-        let data_type = self.data_type.try_clone(alloc)?;
+        let values = boxed(alloc, child.slice(alloc, 0, child.len()));
+        let len = self.len();
+        let parts = slice_with_type(alloc, &self.data_type, &self.validity, len, offset, count);
+        let shared = both(self.offsets.slice_and_next(offset, count), values);
+        let ((offsets, values), (data_type, validity)) = both(shared, parts)?;
         Ok(LargeListArray {
             data_type,
             offsets,

@@ -7,6 +7,7 @@ ghost use Rattle.arrow_array.specs.SlotTypes.{SlotOf};
 ghost use Rattle.arrow_array.specs.Slots.{is_held, slot_at, slots_of, null_at};
 ghost use Rattle.arrow_array.specs.Parts.{IsRefusalOf};
 
+use crate::drops::let_go;
 use arrow_bitmap::Bitmap;
 use arrow_core::{Error, Reason, Result};
 use arrow_types::DataType;
@@ -53,6 +54,7 @@ impl NullArray {
         ensures err { IfErr result (IsRefusalOf (data_type ≡ Null)) }
     {
         if !is_null_type(&data_type) {
+            let_go(data_type, count);
             return Err(Error::InvalidArgumentError(Reason::ArrayParts));
         }
         Ok(NullArray { data_type, count })

@@ -7,8 +7,9 @@ ghost use Rattle.arrow_array.specs.Slots.{TellsHeld, is_held, native_at, slot_at
 ghost use Rattle.arrow_array.specs.Parts.{IsPlain, IsRefusalOf, PrimitiveFits, is_extension};
 
 use crate::buffer::Buffer;
+use crate::drops::{beside, both, let_go};
 use crate::ranges::{Ranged, tell_ranges};
-use crate::validity;
+use crate::validity::{self, slice_with_type};
 use arrow_bitmap::Bitmap;
 use arrow_core::{Error, Reason, Result};
 use arrow_types::{DataType, NativeType, PhysicalType};
@@ -88,9 +89,11 @@ impl<T: NativeType> PrimitiveArray<T> {
             (IsRefusalOf (PrimitiveFits T.PRIMITIVE data_type (vec_len values) validity)) }
     {
         if !fits::<T>(&data_type, values.len(), &validity) {
+            let_go((data_type, validity), values);
             return Err(Error::InvalidArgumentError(Reason::ArrayParts));
         }
-        let values = Buffer::try_from_vec(values)?;
+        let values = Buffer::try_from_vec(values);
+        let (values, data_type, validity) = beside(values, data_type, validity)?;
         Ok(PrimitiveArray {
             data_type,
             values,
@@ -146,9 +149,9 @@ impl<T: NativeType> PrimitiveArray<T> {
         ensures slots { IfOk result (λ a. a.slots ≡ take count (drop offset self.now.slots)) }
         ensures memory { IfErr result (λ e. e ≡ OutOfMemory) }
     {
-        let values = self.values.slice(offset, count)?;
-        let validity = validity::slice(&self.validity, self.len(), offset, count)?;
-        let data_type = self.data_type.try_clone(alloc)?;
+        let len = self.len();
+        let parts = slice_with_type(alloc, &self.data_type, &self.validity, len, offset, count);
+        let (values, (data_type, validity)) = both(self.values.slice(offset, count), parts)?;
         Ok(PrimitiveArray {
             data_type,
             values,

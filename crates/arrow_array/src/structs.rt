@@ -10,7 +10,8 @@ ghost use Rattle.arrow_array.specs.Structs.{AreChildren, AreCuts, HaveSlots, IsS
 ghost use Rattle.arrow_array.specs.Parts.{IsRefusalOf};
 
 use crate::array::Array;
-use crate::validity;
+use crate::drops::{both, let_go};
+use crate::validity::{self, slice_with_type};
 use arrow_bitmap::Bitmap;
 use arrow_core::{Error, Reason, Result};
 use arrow_types::{DataType, Field};
@@ -121,6 +122,7 @@ impl StructArray {
         ensures err { IfErr result (IsRefusalOf (StructFits data_type values.items validity)) }
     {
         if !fits(&data_type, values.as_slice(), &validity) {
+            let_go((data_type, validity), values);
             return Err(Error::InvalidArgumentError(Reason::ArrayParts));
         }
         let count = values[0].len();
@@ -193,9 +195,10 @@ impl StructArray {
         ensures slots { IfOk result (λ a. a.slots ≡ take count (drop offset self.now.slots)) }
         ensures memory { IfErr result (λ e. e ≡ OutOfMemory) }
     {
-        let validity = validity::slice(&self.validity, self.len(), offset, count)?;
-        let values = slice_all(self.values.as_slice(), alloc, offset, count)?;
-        let data_type = self.data_type.try_clone(alloc)?;
+        let values = slice_all(self.values.as_slice(), alloc, offset, count);
+        let len = self.count;
+        let parts = slice_with_type(alloc, &self.data_type, &self.validity, len, offset, count);
+        let (values, (data_type, validity)) = both(values, parts)?;
         Ok(StructArray {
             data_type,
             values,

@@ -9,9 +9,10 @@ ghost use Rattle.arrow_array.specs.Slots.{TellsHeld, is_held, slot_at, slots_of,
 ghost use Rattle.arrow_array.specs.Parts.{Utf8Fits, IsRefusalOf, utf8_type};
 
 use crate::buffer::Buffer;
+use crate::drops::{beside, both, let_go};
 use crate::offsets::{are_offsets, offset, part_of, whole_bounds};
 use crate::ranges::{RangedOffset, tell_offset_ranges};
-use crate::validity;
+use crate::validity::{self, slice_with_type};
 use arrow_bitmap::Bitmap;
 use arrow_core::{Error, Reason, Result};
 use arrow_types::{DataType, Offset};
@@ -146,6 +147,7 @@ impl<O: Offset> Utf8Array<O> {
             validity)) }
     {
         if !fits(&data_type, offsets.as_slice(), values.as_slice(), &validity) {
+            let_go((data_type, validity), (offsets, values));
             return Err(Error::InvalidArgumentError(Reason::ArrayParts));
         }
         Utf8Array::from_parts(data_type, offsets, values, validity)
@@ -171,8 +173,8 @@ impl<O: Offset> Utf8Array<O> {
         ensures bytes { IfOk result (λ a. a.bytes ≡ values.items) }
         ensures err { IfErr result (λ e. e ≡ OutOfMemory) }
     {
-        let offsets = Buffer::try_from_vec(offsets)?;
-        let values = Buffer::try_from_vec(values)?;
+        let content = both(Buffer::try_from_vec(offsets), Buffer::try_from_vec(values));
+        let ((offsets, values), data_type, validity) = beside(content, data_type, validity)?;
         Ok(Utf8Array {
             data_type,
             offsets,
@@ -254,10 +256,13 @@ impl<O: Offset> Utf8Array<O> {
         ensures bytes { IfOk result (λ a. a.bytes ≡ self.now.bytes) }
         ensures memory { IfErr result (λ e. e ≡ OutOfMemory) }
     {
-        let offsets = self.offsets.slice_and_next(offset, count)?;
-        let values = self.values.try_clone()?;
-        let validity = validity::slice(&self.validity, self.len(), offset, count)?;
-        let data_type = self.data_type.try_clone(alloc)?;
+        let len = self.len();
+        let parts = slice_with_type(alloc, &self.data_type, &self.validity, len, offset, count);
+        let content = both(
+            self.offsets.slice_and_next(offset, count),
+            self.values.try_clone(),
+        );
+        let ((offsets, values), (data_type, validity)) = both(content, parts)?;
         Ok(Utf8Array {
             data_type,
             offsets,

@@ -4,8 +4,11 @@ ghost use Rattle.arrow_core.specs.declared.error.Error.TheVariants.{OutOfMemory}
 ghost use Rattle.arrow_array.specs.Parts.{IsCutOf, IsValidityOf};
 ghost use Rattle.arrow_array.specs.Slots.{valid_at};
 
+use crate::drops::both;
 use arrow_bitmap::Bitmap;
 use arrow_core::Result;
+use arrow_types::DataType;
+use std::alloc::Global;
 
 /// Whether a validity that is given has this length.
 pub(crate) fn fits(validity: &Option<Bitmap>, len: usize) -> bool
@@ -47,4 +50,27 @@ pub(crate) fn slice(
         None => Ok(None),
         Some(bitmap) => Ok(Some(bitmap.slice(offset, count)?)),
     }
+}
+
+/// The data type, and the `count` values from index `offset` on of a validity that is given.
+///
+/// `OutOfMemory` alone.
+pub(crate) fn slice_with_type(
+    alloc: Global,
+    data_type: &DataType,
+    validity: &Option<Bitmap>,
+    len: usize,
+    offset: usize,
+    count: usize,
+) -> Result<(DataType, Option<Bitmap>)>
+    requires fits { IsValidityOf validity.now len }
+    requires within { offset + count ≤ len }
+    ensures data_type { IfOk result (λ p. p.0 ≡ data_type.now) }
+    ensures cut { IfOk result (λ p. IsCutOf validity.now offset count p.1) }
+    ensures memory { IfErr result (λ e. e ≡ OutOfMemory) }
+{
+    both(
+        data_type.try_clone(alloc),
+        slice(validity, len, offset, count),
+    )
 }

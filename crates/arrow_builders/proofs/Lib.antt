@@ -17,3 +17,5 @@ pub mod Staying
 pub mod TightLaws
 pub mod NullBytes
 pub mod Flats
+pub mod FlatCalls
+pub mod NestedCalls

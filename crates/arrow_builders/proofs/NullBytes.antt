@@ -1,5 +1,5 @@
 -- The content bytes that come to each node of a builder with nulls.
-use Rattle.std.proofs.Common.{◌≡◌, ap, ◌∙◌, sym, subst, refl, ℕ, ◌+◌, ◌*◌, List, [], ◌∷◌, ◌++◌, length, map, arith, All, Result, OnOk}
+use Rattle.std.proofs.Common.{◌≡◌, sym, subst, refl, ℕ, ◌+◌, ◌*◌, List, [], ◌∷◌, ◌++◌, length, map, arith, All, Result, OnOk}
 use Rattle.std.proofs.lemmas.List.Elements.{All-nil, All-cons, All-head, All-tail, All-append}
 use Rattle.arrow_array.specs.FixedLists.{list_size}
 use Rattle.arrow_flat.specs.Nested.{marks_node}

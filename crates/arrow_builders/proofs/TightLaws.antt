@@ -1,20 +1,18 @@
 -- Empty builders are tight, and tight builders whose types fit make arrays.
-use Rattle.std.proofs.Common.{◌≡◌, ◌∙◌, ℕ, ◌+◌, ◌*◌, ◌<◌, ◌≤◌, List, [], ◌∷◌, ◌++◌, length, map, Option, Result, Ok, Err, refl, sym, ap, subst, arith, All, inl, inr, IfErr, OnOk}
+use Rattle.std.proofs.Common.{◌≡◌, ◌∙◌, ℕ, ◌*◌, ◌<◌, List, [], ◌∷◌, ◌++◌, length, Option, Result, Ok, Err, refl, sym, ap, subst, arith, All, inl, inr, IfErr, OnOk}
 use Rattle.std.specs.List.{AllZip}
 use Rattle.std.proofs.lemmas.List.Elements.{All-nil, All-cons, All-head, All-tail}
 use Rattle.arrow_core.specs.declared.error.Error.{Error}
 use Rattle.arrow_core.specs.declared.error.Error.TheVariants.{OutOfMemory}
 use Rattle.arrow_types.specs.declared.slot.Slot.{Slot}
 use Rattle.arrow_types.specs.declared.types.DataType.{DataType}
-use Rattle.arrow_types.specs.declared.types.Field.{Field}
-use Rattle.arrow_array.specs.FixedLists.{IsFixedListOf, list_size}
-use Rattle.arrow_array.specs.Lists.{IsListOf}
+use Rattle.arrow_array.specs.FixedLists.{list_size}
 use Rattle.arrow_array.specs.Parts.{IsRefusalOf}
-use Rattle.arrow_flat.specs.Nested.{Marks, items_of, lists_node, marks_node}
+use Rattle.arrow_flat.specs.Nested.{items_of, lists_node, marks_node}
 use Rattle.arrow_flat.specs.Nodes.{Node, Emptied, IsEmpty}
 use Rattle.arrow_builders.specs.Fits.{ChildrenFit, FitBelow, IsRecordOf, TypesFit, field_types}
-use Rattle.arrow_builders.specs.MutableArrays.{builder_type, builder_slots, slots_below, types_below, nodes, nodes_below}
-use Rattle.arrow_builders.specs.Shapes.{shape, shapes_below, shape_type}
+use Rattle.arrow_builders.specs.MutableArrays.{builder_slots, slots_below, types_below, nodes, nodes_below}
+use Rattle.arrow_builders.specs.Shapes.{shape, shapes_below}
 use Rattle.arrow_builders.specs.Tight.{IsTight, TightBelow}
 use Rattle.arrow_builders.specs.declared.array.MutableArray.{MutableArray, List', LargeList', FixedSizeList', Struct', Row_of-MutableArray, end_of-MutableArray, more_of-MutableArray}
 use Rattle.arrow_builders.specs.declared.array.MutableArray.{Null, Boolean, Int8, Int16, Int32, Int64, UInt8, UInt16, UInt32, UInt64, Int128, MonthDayNano, Utf8, LargeUtf8, Binary, LargeBinary, FixedSizeBinary, Dictionary}

@@ -2,6 +2,7 @@ pub use Rattle.arrow_flat.specs.Builders
 pub use Rattle.arrow_flat.specs.Dictionaries
 pub use Rattle.arrow_flat.specs.Nested
 pub use Rattle.arrow_flat.specs.Nodes
+pub mod Calls
 pub mod Children
 pub mod Fits
 pub mod Found

@@ -1,15 +1,10 @@
 //! What a builder of any kind does at each of its nodes.
 
-ghost use Rattle.std.specs.Prelude.{◌≡◌, ◌≤◌, [], IsOk, IfOk, IfErr, OnOk, OnErr};
-ghost use Rattle.std.specs.List.{All, AllZip};
-ghost use Rattle.arrow_core.specs.declared.error.Error.TheVariants.{OutOfMemory};
+ghost use Rattle.std.specs.Prelude.{◌≡◌};
 ghost use Rattle.arrow_array.specs.Arrays.{array_type, array_slots};
-ghost use Rattle.arrow_array.specs.Parts.{IsRefusalOf};
-ghost use Rattle.arrow_flat.specs.Nodes.{NoLessSpare, Emptied, HasSpare, IsEmpty};
-ghost use Rattle.arrow_builders.specs.Fits.{ChildrenFit};
+ghost use Rattle.arrow_builders.specs.Calls.{Boxes, Clears, PushesNull, Reserves};
 ghost use Rattle.arrow_builders.specs.Found.{found_at};
-ghost use Rattle.arrow_builders.specs.MutableArrays.{builder_type, builder_slots, nodes, slots_at};
-ghost use Rattle.arrow_builders.specs.Shapes.{shape, nulls_at, AllTake, AllGetNulls, AllGetBytes, FitsIn, BytesFitIn, IsFlat};
+ghost use Rattle.arrow_builders.specs.MutableArrays.{nodes};
 
 use crate::array::MutableArray;
 use crate::find::here_or;
@@ -35,17 +30,7 @@ impl MutableArray {
     /// `push_null`, with the nulls beneath.
     #[cycle(nulls)]
     pub(crate) fn append_null(&mut self) -> Result<()>
-        ensures shape { shape self.new ≡ shape self.old }
-        ensures below { OnOk result (AllGetNulls (nulls_at 1 self.old) (slots_at self.old) (slots_at self.new)) }
-        ensures bytes { OnOk result (AllGetBytes (nulls_at 1 self.old) (nodes self.old) (nodes self.new)) }
-        ensures refused { OnErr result (IsFlat self.old → builder_slots self.new ≡ builder_slots self.old) }
-        ensures refused_capacity { OnErr result (IsFlat self.old → AllZip NoLessSpare (nodes self.old) (nodes self.new)) }
-        ensures err { OnErr result (IsFlat self.old
-            → AllZip BytesFitIn (nulls_at 1 self.old) (nodes self.old)
-            → self.new ≡ self.old) }
-        ensures memory { IfErr result (λ e. e ≡ OutOfMemory) }
-        ensures takes { AllTake (nulls_at 1 self.old) (nodes self.old) (nodes self.new) }
-        ensures has_capacity { AllZip FitsIn (nulls_at 1 self.old) (nodes self.old) → IsOk result }
+        ensures { PushesNull self.old self.new result }
     {
         match self {
             MutableArray::List(builder) => builder.push_null(),
@@ -59,11 +44,7 @@ impl MutableArray {
     /// `reserve_for`, in the children too.
     #[cycle(reserves)]
     pub(crate) fn reserve_nodes(&mut self, bytes: usize) -> Result<()>
-        ensures shape { shape self.new ≡ shape self.old }
-        ensures slots_at { slots_at self.new ≡ slots_at self.old }
-        ensures capacity { AllZip NoLessSpare (nodes self.old) (nodes self.new) }
-        ensures ok { OnOk result (All (HasSpare bytes) (nodes self.new)) }
-        ensures memory { IfErr result (λ e. e ≡ OutOfMemory) }
+        ensures { Reserves bytes self.old self.new result }
     {
         match self {
             MutableArray::List(builder) => builder.reserve_for(bytes),
@@ -77,8 +58,7 @@ impl MutableArray {
     /// `clear`, of the children too.
     #[cycle(clears)]
     pub(crate) fn clear_nodes(&mut self)
-        ensures shape { shape self.new ≡ shape self.old }
-        ensures capacity { AllZip Emptied (nodes self.old) (nodes self.new) }
+        ensures { Clears self.old self.new }
     {
         match self {
             MutableArray::List(builder) => builder.clear(),
@@ -92,12 +72,7 @@ impl MutableArray {
     /// `as_box`, with the arrays of the children.
     #[cycle(boxes)]
     pub(crate) fn box_nodes(&mut self) -> Result<Array>
-        ensures shape { shape self.new ≡ shape self.old }
-        ensures array_type { IfOk result (λ a. array_type a ≡ builder_type self.old) }
-        ensures array_slots { IfOk result (λ a. array_slots a ≡ builder_slots self.old) }
-        ensures emptied { OnOk result (All IsEmpty (nodes self.new)) }
-        ensures fits { OnOk result (ChildrenFit self.old) }
-        ensures err { IfErr result (IsRefusalOf (ChildrenFit self.old)) }
+        ensures { Boxes array_type array_slots self.old self.new result }
     {
         match self {
             MutableArray::List(builder) => match builder.as_box() {

@@ -2,18 +2,15 @@
 
 ghost use Rattle.std.specs.Prelude.{◌≡◌, ◌+◌, ◌*◌, ◌≤◌, ◌++◌, ◌∷◌, [], true, length, drop, IsOk, IfOk, IfErr, OnOk, OnErr};
 ghost use Rattle.std.specs.Borrow.{sem};
-ghost use Rattle.std.specs.List.{All, AllZip};
 ghost use Rattle.arrow_core.specs.declared.error.Error.TheVariants.{OutOfMemory};
 ghost use Rattle.arrow_types.specs.declared.slot.Slot.TheVariants.{List as ListSlot};
 ghost use Rattle.arrow_array.specs.FixedLists.{list_size};
-ghost use Rattle.arrow_array.specs.Parts.{IsRefusalOf};
-ghost use Rattle.arrow_builders.specs.Fits.{ChildrenFit};
+ghost use Rattle.arrow_builders.specs.Calls.{Boxes, Clears, PushesNulls, Reserves};
 ghost use Rattle.arrow_builders.specs.Found.{found_at};
 ghost use Rattle.arrow_builders.specs.Lending.{LendsFixedSizeListValues};
-ghost use Rattle.arrow_builders.specs.MutableArrays.{builder_type, builder_slots, nodes, slots_at};
+ghost use Rattle.arrow_builders.specs.MutableArrays.{builder_type, builder_slots, nodes};
 ghost use Rattle.arrow_flat.specs.Nested.{marks_node};
-ghost use Rattle.arrow_flat.specs.Nodes.{Takes, NoLessSpare, Emptied, HasSpare, IsEmpty};
-ghost use Rattle.arrow_builders.specs.Shapes.{shape, nulls_at, AllTake, AllGetNulls, AllGetBytes, FitsIn};
+ghost use Rattle.arrow_flat.specs.Nodes.{Takes};
 ghost use Rattle.arrow_builders.specs.Tight.{IsTight};
 ghost use Rattle.arrow_builders.specs.declared.array.MutableArray.{FixedSizeList};
 
@@ -133,38 +130,26 @@ impl MutableFixedSizeListArray {
     /// After `OutOfMemory` the child may have taken some of them.
     #[cycle(nulls)]
     pub(crate) fn push_null(&mut self) -> Result<()>
-        ensures shape { shape (FixedSizeList self.new) ≡ shape (FixedSizeList self.old) }
-        ensures below { OnOk result (AllGetNulls (nulls_at 1 (FixedSizeList self.old)) (slots_at (FixedSizeList self.old)) (slots_at (FixedSizeList self.new))) }
-        ensures bytes { OnOk result (AllGetBytes (nulls_at 1 (FixedSizeList self.old)) (nodes (FixedSizeList self.old)) (nodes (FixedSizeList self.new))) }
-        ensures memory { IfErr result (λ e. e ≡ OutOfMemory) }
-        ensures takes { AllTake (nulls_at 1 (FixedSizeList self.old)) (nodes (FixedSizeList self.old)) (nodes (FixedSizeList self.new)) }
-        ensures has_capacity { AllZip FitsIn (nulls_at 1 (FixedSizeList self.old)) (nodes (FixedSizeList self.old)) → IsOk result }
+        ensures { PushesNulls 1 (FixedSizeList self.old) (FixedSizeList self.new) result }
     {
         let size = list_size_of(self.marks.data_type());
         push_nulls(&mut self.values, size)?;
-        self.marks.push(false)?;
-        Ok(())
+        self.marks.push(false)
     }
 
     /// Makes spare capacity for so many more lists, and as much in the child.
     #[cycle(reserves)]
     pub(crate) fn reserve_for(&mut self, bytes: usize) -> Result<()>
-        ensures shape { shape (FixedSizeList self.new) ≡ shape (FixedSizeList self.old) }
-        ensures slots_at { slots_at (FixedSizeList self.new) ≡ slots_at (FixedSizeList self.old) }
-        ensures capacity { AllZip NoLessSpare (nodes (FixedSizeList self.old)) (nodes (FixedSizeList self.new)) }
-        ensures ok { OnOk result (All (HasSpare bytes) (nodes (FixedSizeList self.new))) }
-        ensures memory { IfErr result (λ e. e ≡ OutOfMemory) }
+        ensures { Reserves bytes (FixedSizeList self.old) (FixedSizeList self.new) result }
     {
         self.marks.reserve_for(bytes)?;
-        self.values.reserve_nodes(bytes)?;
-        Ok(())
+        self.values.reserve_nodes(bytes)
     }
 
     /// Drops every slot, those of the child too, and keeps the capacity.
     #[cycle(clears)]
     pub(crate) fn clear(&mut self)
-        ensures shape { shape (FixedSizeList self.new) ≡ shape (FixedSizeList self.old) }
-        ensures capacity { AllZip Emptied (nodes (FixedSizeList self.old)) (nodes (FixedSizeList self.new)) }
+        ensures { Clears (FixedSizeList self.old) (FixedSizeList self.new) }
     {
         self.marks.clear();
         self.values.clear_nodes();
@@ -173,12 +158,7 @@ impl MutableFixedSizeListArray {
     /// The array of the slots. The builder and its child are then empty.
     #[cycle(boxes)]
     pub(crate) fn as_box(&mut self) -> Result<FixedSizeListArray>
-        ensures shape { shape (FixedSizeList self.new) ≡ shape (FixedSizeList self.old) }
-        ensures array_type { IfOk result (λ a. a.data_type ≡ builder_type (FixedSizeList self.old)) }
-        ensures array_slots { IfOk result (λ a. a.slots ≡ builder_slots (FixedSizeList self.old)) }
-        ensures emptied { OnOk result (All IsEmpty (nodes (FixedSizeList self.new))) }
-        ensures fits { OnOk result (ChildrenFit (FixedSizeList self.old)) }
-        ensures err { IfErr result (IsRefusalOf (ChildrenFit (FixedSizeList self.old))) }
+        ensures { Boxes (λ a. a.data_type) (λ a. a.slots) (FixedSizeList self.old) (FixedSizeList self.new) result }
     {
         let alloc = self.marks.alloc();
         let values = self.values.box_nodes()?;
@@ -190,12 +170,7 @@ impl MutableFixedSizeListArray {
 /// Appends so many nulls. After `OutOfMemory` some of them may be there.
 #[cycle(nulls)]
 fn push_nulls(builder: &mut MutableArray, count: usize) -> Result<()>
-    ensures shape { shape builder.new ≡ shape builder.old }
-    ensures below { OnOk result (AllGetNulls (nulls_at count builder.old) (slots_at builder.old) (slots_at builder.new)) }
-    ensures bytes { OnOk result (AllGetBytes (nulls_at count builder.old) (nodes builder.old) (nodes builder.new)) }
-    ensures memory { IfErr result (λ e. e ≡ OutOfMemory) }
-    ensures takes { AllTake (nulls_at count builder.old) (nodes builder.old) (nodes builder.new) }
-    ensures has_capacity { AllZip FitsIn (nulls_at count builder.old) (nodes builder.old) → IsOk result }
+    ensures { PushesNulls count builder.old builder.new result }
 {
     for _ in 0..count {
         builder.append_null()?;

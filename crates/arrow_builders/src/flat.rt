@@ -1,12 +1,10 @@
 //! What a builder of any kind without children does.
 
-ghost use Rattle.std.specs.Prelude.{◌≡◌, ◌≤◌, ◌∷◌, [], map, IsOk, IfOk, IfErr, OnOk, OnErr};
-ghost use Rattle.std.specs.List.{All, AllZip};
-ghost use Rattle.arrow_core.specs.declared.error.Error.TheVariants.{OutOfMemory};
+ghost use Rattle.std.specs.Prelude.{◌≡◌, ◌∷◌, [], map};
 ghost use Rattle.arrow_array.specs.Arrays.{array_type, array_slots};
-ghost use Rattle.arrow_flat.specs.Nodes.{NoLessSpare, Emptied, HasSpare, IsEmpty};
-ghost use Rattle.arrow_builders.specs.MutableArrays.{builder_type, builder_slots, nodes, lengths_of, slots_at};
-ghost use Rattle.arrow_builders.specs.Shapes.{shape, nulls_at, AllTake, AllGetNulls, AllGetBytes, FitsIn, BytesFitIn, IsFlat};
+ghost use Rattle.arrow_builders.specs.Calls.{Boxes, Clears, PushesNull, Reserves};
+ghost use Rattle.arrow_builders.specs.MutableArrays.{nodes, lengths_of};
+ghost use Rattle.arrow_builders.specs.Shapes.{IsFlat};
 
 use crate::array::MutableArray;
 use arrow_array::Array;
@@ -55,15 +53,7 @@ impl MutableArray {
     /// Appends a null.
     pub(crate) fn append_flat_null(&mut self) -> Result<()>
         requires { IsFlat self.old }
-        ensures shape { shape self.new ≡ shape self.old }
-        ensures below { OnOk result (AllGetNulls (nulls_at 1 self.old) (slots_at self.old) (slots_at self.new)) }
-        ensures bytes { OnOk result (AllGetBytes (nulls_at 1 self.old) (nodes self.old) (nodes self.new)) }
-        ensures refused { OnErr result (builder_slots self.new ≡ builder_slots self.old) }
-        ensures refused_capacity { OnErr result (AllZip NoLessSpare (nodes self.old) (nodes self.new)) }
-        ensures err { OnErr result (AllZip BytesFitIn (nulls_at 1 self.old) (nodes self.old) → self.new ≡ self.old) }
-        ensures memory { IfErr result (λ e. e ≡ OutOfMemory) }
-        ensures takes { AllTake (nulls_at 1 self.old) (nodes self.old) (nodes self.new) }
-        ensures has_capacity { AllZip FitsIn (nulls_at 1 self.old) (nodes self.old) → IsOk result }
+        ensures { PushesNull self.old self.new result }
     {
         for_each_flat_kind!(self, builder => builder.push_null())
     }
@@ -71,11 +61,7 @@ impl MutableArray {
     /// Makes spare capacity for so many more slots and content bytes.
     pub(crate) fn reserve_flat(&mut self, bytes: usize) -> Result<()>
         requires { IsFlat self.old }
-        ensures shape { shape self.new ≡ shape self.old }
-        ensures slots_at { slots_at self.new ≡ slots_at self.old }
-        ensures capacity { AllZip NoLessSpare (nodes self.old) (nodes self.new) }
-        ensures ok { OnOk result (All (HasSpare bytes) (nodes self.new)) }
-        ensures memory { IfErr result (λ e. e ≡ OutOfMemory) }
+        ensures { Reserves bytes self.old self.new result }
     {
         for_each_flat_kind!(self, builder => builder.reserve_for(bytes))
     }
@@ -83,8 +69,7 @@ impl MutableArray {
     /// Drops every slot and keeps the capacity.
     pub(crate) fn clear_flat(&mut self)
         requires { IsFlat self.old }
-        ensures shape { shape self.new ≡ shape self.old }
-        ensures capacity { AllZip Emptied (nodes self.old) (nodes self.new) }
+        ensures { Clears self.old self.new }
     {
         for_each_flat_kind!(self, builder => builder.clear())
     }
@@ -92,11 +77,7 @@ impl MutableArray {
     /// The array of the slots. The builder is then empty.
     pub(crate) fn box_flat(&mut self) -> Result<Array>
         requires { IsFlat self.old }
-        ensures shape { shape self.new ≡ shape self.old }
-        ensures array_type { IfOk result (λ a. array_type a ≡ builder_type self.old) }
-        ensures array_slots { IfOk result (λ a. array_slots a ≡ builder_slots self.old) }
-        ensures emptied { OnOk result (All IsEmpty (nodes self.new)) }
-        ensures memory { IfErr result (λ e. e ≡ OutOfMemory) }
+        ensures { Boxes array_type array_slots self.old self.new result }
     {
         match self {
             MutableArray::Null(builder) => Ok(Array::Null(builder.as_box()?)),

@@ -2,18 +2,15 @@
 
 ghost use Rattle.std.specs.Prelude.{◌≡◌, ◌<◌, ◌≤◌, ◌++◌, ◌∷◌, [], ◌⊎◌, ◌↔◌, false, length, drop, Err, IsOk, IfOk, IfErr, OnOk, OnErr};
 ghost use Rattle.std.specs.Borrow.{sem};
-ghost use Rattle.std.specs.List.{All, AllZip};
 ghost use Rattle.arrow_core.specs.declared.error.Error.TheVariants.{OutOfMemory, Overflow};
 ghost use Rattle.arrow_types.specs.Numbers.{greatest_offset};
 ghost use Rattle.arrow_types.specs.declared.slot.Slot.TheVariants.{List as ListSlot};
-ghost use Rattle.arrow_array.specs.Parts.{IsRefusalOf};
-ghost use Rattle.arrow_builders.specs.Fits.{ChildrenFit};
+ghost use Rattle.arrow_builders.specs.Calls.{Boxes, Clears, PushesNulls, Reserves};
 ghost use Rattle.arrow_builders.specs.Found.{found_at};
 ghost use Rattle.arrow_builders.specs.Lending.{LendsListValues};
-ghost use Rattle.arrow_builders.specs.MutableArrays.{builder_type, builder_slots, nodes, slots_at};
+ghost use Rattle.arrow_builders.specs.MutableArrays.{builder_type, builder_slots, nodes};
 ghost use Rattle.arrow_flat.specs.Nested.{items_of, lists_node};
-ghost use Rattle.arrow_flat.specs.Nodes.{Takes, NoLessSpare, Emptied, HasSpare, IsEmpty};
-ghost use Rattle.arrow_builders.specs.Shapes.{shape, nulls_at, AllTake, AllGetNulls, AllGetBytes, FitsIn};
+ghost use Rattle.arrow_flat.specs.Nodes.{Takes};
 ghost use Rattle.arrow_builders.specs.Tight.{IsTight};
 ghost use Rattle.arrow_builders.specs.declared.array.MutableArray.{List};
 
@@ -122,36 +119,24 @@ impl DynMutableListArray {
 
     /// Appends a null, which has no items.
     pub(crate) fn push_null(&mut self) -> Result<()>
-        ensures shape { shape (List self.new) ≡ shape (List self.old) }
-        ensures below { OnOk result (AllGetNulls (nulls_at 1 (List self.old)) (slots_at (List self.old)) (slots_at (List self.new))) }
-        ensures bytes { OnOk result (AllGetBytes (nulls_at 1 (List self.old)) (nodes (List self.old)) (nodes (List self.new))) }
-        ensures memory { IfErr result (λ e. e ≡ OutOfMemory) }
-        ensures takes { AllTake (nulls_at 1 (List self.old)) (nodes (List self.old)) (nodes (List self.new)) }
-        ensures has_capacity { AllZip FitsIn (nulls_at 1 (List self.old)) (nodes (List self.old)) → IsOk result }
+        ensures { PushesNulls 1 (List self.old) (List self.new) result }
     {
-        self.lists.push_null()?;
-        Ok(())
+        self.lists.push_null()
     }
 
     /// Makes spare capacity for so many more lists, and as much in the child.
     #[cycle(reserves)]
     pub(crate) fn reserve_for(&mut self, bytes: usize) -> Result<()>
-        ensures shape { shape (List self.new) ≡ shape (List self.old) }
-        ensures slots_at { slots_at (List self.new) ≡ slots_at (List self.old) }
-        ensures capacity { AllZip NoLessSpare (nodes (List self.old)) (nodes (List self.new)) }
-        ensures ok { OnOk result (All (HasSpare bytes) (nodes (List self.new))) }
-        ensures memory { IfErr result (λ e. e ≡ OutOfMemory) }
+        ensures { Reserves bytes (List self.old) (List self.new) result }
     {
         self.lists.reserve_for(bytes)?;
-        self.values.reserve_nodes(bytes)?;
-        Ok(())
+        self.values.reserve_nodes(bytes)
     }
 
     /// Drops every slot, those of the child too, and keeps the capacity.
     #[cycle(clears)]
     pub(crate) fn clear(&mut self)
-        ensures shape { shape (List self.new) ≡ shape (List self.old) }
-        ensures capacity { AllZip Emptied (nodes (List self.old)) (nodes (List self.new)) }
+        ensures { Clears (List self.old) (List self.new) }
     {
         self.lists.clear();
         self.values.clear_nodes();
@@ -160,12 +145,7 @@ impl DynMutableListArray {
     /// The array of the slots. The builder and its child are then empty.
     #[cycle(boxes)]
     pub(crate) fn as_box(&mut self) -> Result<ListArray>
-        ensures shape { shape (List self.new) ≡ shape (List self.old) }
-        ensures array_type { IfOk result (λ a. a.data_type ≡ builder_type (List self.old)) }
-        ensures array_slots { IfOk result (λ a. a.slots ≡ builder_slots (List self.old)) }
-        ensures emptied { OnOk result (All IsEmpty (nodes (List self.new))) }
-        ensures fits { OnOk result (ChildrenFit (List self.old)) }
-        ensures err { IfErr result (IsRefusalOf (ChildrenFit (List self.old))) }
+        ensures { Boxes (λ a. a.data_type) (λ a. a.slots) (List self.old) (List self.new) result }
     {
         let alloc = self.lists.alloc();
         let values = self.values.box_nodes()?;

@@ -1,21 +1,16 @@
 //! A builder of structs.
 
-ghost use Rattle.std.specs.Prelude.{◌≡◌, ◌-◌, ◌<◌, ◌≤◌, ◌++◌, ◌∷◌, [], true, length, map, get_or, vec_len, IsOk, IfOk, IfErr, OnOk, OnErr};
+ghost use Rattle.std.specs.Prelude.{◌≡◌, ◌<◌, ◌≤◌, ◌++◌, ◌∷◌, [], true, length, map, get_or, vec_len, IsOk, IfOk, IfErr, OnOk, OnErr};
 ghost use Rattle.std.specs.Borrow.{sem};
-ghost use Rattle.std.specs.List.{All, AllZip};
 ghost use Rattle.arrow_core.specs.declared.error.Error.TheVariants.{OutOfMemory};
-ghost use Rattle.arrow_types.specs.declared.slot.Slot.TheVariants.{Null as NullSlot};
-ghost use Rattle.arrow_array.specs.Arrays.{array_type, array_slots};
-ghost use Rattle.arrow_array.specs.Parts.{IsRefusalOf};
 ghost use Rattle.arrow_array.specs.Structs.{record_at};
-ghost use Rattle.arrow_builders.specs.Children.{all_nodes, all_nulls, all_slots, AllFit};
-ghost use Rattle.arrow_builders.specs.Fits.{ChildrenFit};
+ghost use Rattle.arrow_builders.specs.Calls.{AllBox, AllClear, AllPushNull, AllReserve, Boxes, Clears, PushesNulls, Reserves};
+ghost use Rattle.arrow_builders.specs.Children.{all_nodes};
 ghost use Rattle.arrow_builders.specs.Found.{found_at};
 ghost use Rattle.arrow_builders.specs.Lending.{LendsField};
-ghost use Rattle.arrow_builders.specs.MutableArrays.{builder_type, builder_slots, nodes, slots_at};
+ghost use Rattle.arrow_builders.specs.MutableArrays.{builder_type, builder_slots, nodes};
 ghost use Rattle.arrow_flat.specs.Nested.{marks_node};
-ghost use Rattle.arrow_flat.specs.Nodes.{Takes, NoLessSpare, Emptied, HasSpare, IsEmpty};
-ghost use Rattle.arrow_builders.specs.Shapes.{shape, nulls_at, AllTake, AllGetNulls, AllGetBytes, FitsIn};
+ghost use Rattle.arrow_flat.specs.Nodes.{Takes};
 ghost use Rattle.arrow_builders.specs.Tight.{IsTight, AllTight};
 ghost use Rattle.arrow_builders.specs.declared.array.MutableArray.{Struct};
 
@@ -117,37 +112,25 @@ impl DynMutableStructArray {
     /// After `OutOfMemory` some children may have taken one.
     #[cycle(nulls)]
     pub(crate) fn push_null(&mut self) -> Result<()>
-        ensures shape { shape (Struct self.new) ≡ shape (Struct self.old) }
-        ensures below { OnOk result (AllGetNulls (nulls_at 1 (Struct self.old)) (slots_at (Struct self.old)) (slots_at (Struct self.new))) }
-        ensures bytes { OnOk result (AllGetBytes (nulls_at 1 (Struct self.old)) (nodes (Struct self.old)) (nodes (Struct self.new))) }
-        ensures memory { IfErr result (λ e. e ≡ OutOfMemory) }
-        ensures takes { AllTake (nulls_at 1 (Struct self.old)) (nodes (Struct self.old)) (nodes (Struct self.new)) }
-        ensures has_capacity { AllZip FitsIn (nulls_at 1 (Struct self.old)) (nodes (Struct self.old)) → IsOk result }
+        ensures { PushesNulls 1 (Struct self.old) (Struct self.new) result }
     {
         push_null_all(&mut self.values)?;
-        self.marks.push(false)?;
-        Ok(())
+        self.marks.push(false)
     }
 
     /// Makes spare capacity for so many more structs, and as much in each child.
     #[cycle(reserves)]
     pub(crate) fn reserve_for(&mut self, bytes: usize) -> Result<()>
-        ensures shape { shape (Struct self.new) ≡ shape (Struct self.old) }
-        ensures slots_at { slots_at (Struct self.new) ≡ slots_at (Struct self.old) }
-        ensures capacity { AllZip NoLessSpare (nodes (Struct self.old)) (nodes (Struct self.new)) }
-        ensures ok { OnOk result (All (HasSpare bytes) (nodes (Struct self.new))) }
-        ensures memory { IfErr result (λ e. e ≡ OutOfMemory) }
+        ensures { Reserves bytes (Struct self.old) (Struct self.new) result }
     {
         self.marks.reserve_for(bytes)?;
-        reserve_all(&mut self.values, bytes)?;
-        Ok(())
+        reserve_all(&mut self.values, bytes)
     }
 
     /// Drops every slot, those of the children too, and keeps the capacity.
     #[cycle(clears)]
     pub(crate) fn clear(&mut self)
-        ensures shape { shape (Struct self.new) ≡ shape (Struct self.old) }
-        ensures capacity { AllZip Emptied (nodes (Struct self.old)) (nodes (Struct self.new)) }
+        ensures { Clears (Struct self.old) (Struct self.new) }
     {
         self.marks.clear();
         clear_all(&mut self.values);
@@ -156,12 +139,7 @@ impl DynMutableStructArray {
     /// The array of the slots. The builder and its children are then empty.
     #[cycle(boxes)]
     pub(crate) fn as_box(&mut self) -> Result<StructArray>
-        ensures shape { shape (Struct self.new) ≡ shape (Struct self.old) }
-        ensures array_type { IfOk result (λ a. a.data_type ≡ builder_type (Struct self.old)) }
-        ensures array_slots { IfOk result (λ a. a.slots ≡ builder_slots (Struct self.old)) }
-        ensures emptied { OnOk result (All IsEmpty (nodes (Struct self.new))) }
-        ensures fits { OnOk result (ChildrenFit (Struct self.old)) }
-        ensures err { IfErr result (IsRefusalOf (ChildrenFit (Struct self.old))) }
+        ensures { Boxes (λ a. a.data_type) (λ a. a.slots) (Struct self.old) (Struct self.new) result }
     {
         let alloc = self.marks.alloc();
         let values = box_all(alloc, &mut self.values)?;
@@ -188,14 +166,7 @@ fn find_below(children: &[MutableArray], node: usize) -> std::result::Result<Nod
 /// Appends a null to each child. After `OutOfMemory` some may have taken one.
 #[cycle(nulls)]
 fn push_null_all(children: &mut [MutableArray]) -> Result<()>
-    ensures shapes { map shape children.new ≡ map shape children.old }
-    ensures ok { OnOk result (map builder_slots children.new
-        ≡ map (λ b. builder_slots b ++ NullSlot ∷ []) children.old) }
-    ensures below { OnOk result (AllGetNulls (all_nulls 1 children.old) (all_slots children.old) (all_slots children.new)) }
-    ensures bytes { OnOk result (AllGetBytes (all_nulls 1 children.old) (all_nodes children.old) (all_nodes children.new)) }
-    ensures memory { IfErr result (λ e. e ≡ OutOfMemory) }
-    ensures takes { AllTake (all_nulls 1 children.old) (all_nodes children.old) (all_nodes children.new) }
-    ensures has_capacity { AllZip FitsIn (all_nulls 1 children.old) (all_nodes children.old) → IsOk result }
+    ensures { AllPushNull children.old children.new result }
 {
     for i in 0..children.len() {
         children[i].append_null()?;
@@ -206,12 +177,7 @@ fn push_null_all(children: &mut [MutableArray]) -> Result<()>
 /// Makes spare capacity in each child.
 #[cycle(reserves)]
 fn reserve_all(children: &mut [MutableArray], bytes: usize) -> Result<()>
-    ensures shapes { map shape children.new ≡ map shape children.old }
-    ensures slots { map builder_slots children.new ≡ map builder_slots children.old }
-    ensures slots_at { all_slots children.new ≡ all_slots children.old }
-    ensures capacity { AllZip NoLessSpare (all_nodes children.old) (all_nodes children.new) }
-    ensures ok { OnOk result (All (HasSpare bytes) (all_nodes children.new)) }
-    ensures memory { IfErr result (λ e. e ≡ OutOfMemory) }
+    ensures { AllReserve bytes children.old children.new result }
 {
     for i in 0..children.len() {
         children[i].reserve_nodes(bytes)?;
@@ -222,8 +188,7 @@ fn reserve_all(children: &mut [MutableArray], bytes: usize) -> Result<()>
 /// Drops every slot of each child and keeps the capacity.
 #[cycle(clears)]
 fn clear_all(children: &mut [MutableArray])
-    ensures shapes { map shape children.new ≡ map shape children.old }
-    ensures capacity { AllZip Emptied (all_nodes children.old) (all_nodes children.new) }
+    ensures { AllClear children.old children.new }
 {
     for i in 0..children.len() {
         children[i].clear_nodes();
@@ -233,12 +198,7 @@ fn clear_all(children: &mut [MutableArray])
 /// The arrays of the children's slots. The children are then empty.
 #[cycle(boxes)]
 fn box_all(alloc: Global, children: &mut [MutableArray]) -> Result<Vec<Array>>
-    ensures shapes { map shape children.new ≡ map shape children.old }
-    ensures array_types { IfOk result (λ arrays. map array_type arrays.items ≡ map builder_type children.old) }
-    ensures array_slots { IfOk result (λ arrays. map array_slots arrays.items ≡ map builder_slots children.old) }
-    ensures emptied { OnOk result (All IsEmpty (all_nodes children.new)) }
-    ensures fits { OnOk result (AllFit children.old) }
-    ensures err { IfErr result (IsRefusalOf (AllFit children.old)) }
+    ensures { AllBox (λ v. v.items) children.old children.new result }
 {
     let mut arrays = Vec::with_capacity(alloc, children.len())?;
     for i in 0..children.len() {

@@ -1,41 +1,181 @@
--- How the nodes of builders grow, and that their capacity lasts.
-use Rattle.std.proofs.Common.{◌≡◌, ℕ, zero, suc, ◌+◌, ◌<◌, ◌≤◌, List, [], ◌∷◌, length, get_or, set, All, Result, refl, arith}
+-- What builders hold after a block, and that their capacity lasts.
+use Rattle.std.proofs.Common.{◌≡◌, ◌∙◌, ℕ, zero, suc, ◌+◌, ◌<◌, ◌≤◌, Bool, true, false, List, [], ◌∷◌, length, get_or, map, All, refl, sym, ap, subst, arith}
+use Rattle.std.specs.Prelude.{IsTrue, if◌then◌else◌}
 use Rattle.std.specs.List.{AllZip}
-use Rattle.std.proofs.lemmas.List.Sums.{sum_by-set, sum_by-cons}
 use Rattle.std.proofs.lemmas.List.Elements.{All-cons}
+use Rattle.arrow_types.specs.declared.slot.Slot.{Slot}
 use Rattle.arrow_builders.specs.declared.array.MutableArray.{MutableArray}
-use Rattle.arrow_builders.specs.declared.array.MutableArray.{Boolean, Int32, Int64, Utf8}
-use Rattle.arrow_builders.specs.MutableArrays.{builder_kind, builder_slots, nodes}
+use Rattle.arrow_builders.specs.MutableArrays.{builder_type, builder_slots, nodes}
 use Rattle.arrow_builders.specs.Nodes.{Node, HasSpare, KeepsCapacity, IsEmpty, Emptied}
+use Rattle.arrow_builders.specs.Fits.{TypesFit}
+use Rattle.arrow_builders.specs.Shapes.{shape}
+use Rattle.arrow_builders.proofs.Heads.{no_slots, same_type}
+use Rattle.avro_schema.specs.declared.schema.AvroField.{AvroField}
 use Rattle.avro_grammar.specs.ValidBlock.{small_limit}
-use Rattle.avro_decode.specs.declared.fault.DecodeFault.{DecodeFault}
-use Rattle.avro_decode.specs.Costs.{passed, Moves, CostsNumber}
-use Rattle.avro_decode.specs.Capacity.{content, AtNodes, BetweenNodes, total_content, ReservedCapacityStays}
-use Rattle.avro_decode.specs.Growing.{HasMemory, OffsetsReach, Fills, Grows, AllGrow}
-use Rattle.avro_decode.specs.Supported.{IsSupportedKind}
-use Rattle.avro_decode.proofs.Counting.{not_longer}
-use Rattle.avro_decode.proofs.Pushes.{fills, fills_none, content_cons}
+use Rattle.avro_skip.specs.Costs.{passed}
+use Rattle.avro_decode.specs.Capacity.{AtNodes, BetweenNodes, ReservedCapacityStays}
+use Rattle.avro_decode.specs.Growth.{Fills, AllFill, Reaches, AllReach, HaveSpare, BothFill, ChildrenGrow, ChildrenReach, ChildrenHaveSpare}
+use Rattle.avro_decode.specs.Masks.{mask, paid, later, content, total, AllPaid}
+use Rattle.avro_decode.proofs.Columns.{AreEmpty}
 
--- ---- one node
+-- ---- empty nodes
 
-pub fills_more : (m n p : ℕ) (x y z : Node) → Fills m x y → Fills n y z → m + n ≤ p → Fills p x z
-fills_more m n p x y z h k le = record {
-  slots_added = omega (arith, h.slots_added, k.slots_added, le);
-  slots_kept = omega (arith, h.slots_kept, k.slots_kept);
-  bytes_added = omega (arith, h.bytes_added, k.bytes_added, le);
-  bytes_kept = omega (arith, h.bytes_kept, k.bytes_kept);
-  slot_capacity = omega (arith, h.slot_capacity, k.slot_capacity);
-  byte_capacity = omega (arith, h.byte_capacity, k.byte_capacity);
-}
+rest_of : {A : Type 0} (P : A → Type 0) (x : A) (xs : List A) → All P (x ∷ xs) → P x × All P xs
+rest_of P x xs h = (h 0 x (omega arith), λ k d lt. h (suc k) d (omega (arith, lt)))
 
-capacity_less : (m n : ℕ) (x : Node) → n ≤ m → HasSpare m x → HasSpare n x
-capacity_less m n x le h = record { slots = omega (arith, le, h.slots); bytes = omega (arith, le, h.bytes) }
+one_reach : (p : Bool) (n : ℕ) (x : Node) → n ≤ small_limit → IsEmpty x → Reaches p n x
+one_reach true n x le e = (omega (arith, le, e.slots), omega (arith, le, e.bytes))
+one_reach false n x le e = (omega (arith, le, e.slots), tt)
 
-capacity_after : (m n k : ℕ) (x y : Node) → Fills k x y → k + n ≤ m → HasSpare m x → HasSpare n y
-capacity_after m n k x y f le h = record {
-  slots = omega (arith, le, h.slots, f.slots_added, f.slot_capacity);
-  bytes = omega (arith, le, h.bytes, f.bytes_added, f.byte_capacity);
-}
+nodes_reach : (ms : List Bool) (n : ℕ) (xs : List Node) → n ≤ small_limit → All IsEmpty xs → AllReach ms n xs
+nodes_reach ms n [] le h = tt
+nodes_reach ms n (x ∷ xs) le h =
+    let r = rest_of IsEmpty x xs h in
+    (one_reach (paid ms) n x le r.0, nodes_reach (later ms) n xs le r.1)
+
+pub empty_reach : (n : ℕ) (fs : List AvroField) (bs : List MutableArray) → n ≤ small_limit → AtNodes IsEmpty bs → ChildrenReach n fs bs
+empty_reach n [] bs le h = tt
+empty_reach n (f ∷ fs) [] le h = tt
+empty_reach n (f ∷ fs) (b ∷ bs) le h =
+    let r = rest_of (λ (c : MutableArray). All IsEmpty (nodes c)) b bs h in
+    (nodes_reach (mask true f.schema) n (nodes b) le r.0, empty_reach n fs bs le r.1)
+
+pub slots_empty : (bs : List MutableArray) → AtNodes IsEmpty bs → AreEmpty (map builder_slots bs)
+slots_empty [] h = tt
+slots_empty (b ∷ bs) h =
+    let r = rest_of (λ (c : MutableArray). All IsEmpty (nodes c)) b bs h in
+    (no_slots b r.0, slots_empty bs r.1)
+
+no_content : (ms : List Bool) (xs : List Node) → All IsEmpty xs → content ms xs ≡ 0
+no_content ms [] h = refl
+no_content ms (x ∷ xs) h =
+    let r = rest_of IsEmpty x xs h in
+    let one = from (paid ms) r.0.bytes in
+    let more = no_content (later ms) xs r.1 in
+    omega (arith, one, more)
+  where
+    from : (p : Bool) → x.bytes ≡ 0 → (if p then x.bytes else 0) ≡ 0
+    from true e = e
+    from false e = refl
+
+no_total : (fs : List AvroField) (bs : List MutableArray) → AtNodes IsEmpty bs → total fs bs ≡ 0
+no_total [] bs h = refl
+no_total (f ∷ fs) [] h = refl
+no_total (f ∷ fs) (b ∷ bs) h =
+    let r = rest_of (λ (c : MutableArray). All IsEmpty (nodes c)) b bs h in
+    let one = no_content (mask false f.schema) (nodes b) r.0 in
+    let more = no_total fs bs r.1 in
+    omega (arith, one, more)
+
+-- ---- where nothing was read
+
+pub few_slots_left : (bytes : List ℕ) (bs : List MutableArray) → AtNodes IsEmpty bs → AtNodes (λ x. x.slots ≤ length bytes) bs
+few_slots_left bytes bs h = λ i b lt. λ j x less. omega (arith, (h i b lt j x less).slots)
+
+pub few_content_left : (bytes : List ℕ) (fs : List AvroField) (bs : List MutableArray) → AtNodes IsEmpty bs → total fs bs ≤ length bytes
+few_content_left bytes fs bs h = let z = no_total fs bs h in omega (arith, z)
+
+same_capacity : (xs : List Node) → AllZip KeepsCapacity xs xs
+same_capacity [] = tt
+same_capacity (x ∷ xs) = (record { slots = omega arith; bytes = omega arith }, same_capacity xs)
+
+pub capacity_left : (bs : List MutableArray) → BetweenNodes KeepsCapacity bs bs
+capacity_left [] = tt
+capacity_left (b ∷ bs) = (same_capacity (nodes b), capacity_left bs)
+
+-- ---- where something was
+
+one_few : (p : Bool) (n : ℕ) (x y : Node) → Fills p n x y → IsEmpty x → y.slots ≤ n
+one_few true n x y t e = omega (arith, t.slots_added, e.slots)
+one_few false n x y t e = omega (arith, t.1.slots_added, e.slots)
+
+nodes_few : (ms : List Bool) (m n : ℕ) (xs ys : List Node) → m ≤ n → AllFill ms m xs ys → All IsEmpty xs → All (λ y. y.slots ≤ n) ys
+nodes_few ms m n [] [] le f h = λ k d lt. absurd (omega (arith, lt))
+nodes_few ms m n [] (y ∷ ys) le f h = absurd f
+nodes_few ms m n (x ∷ xs) [] le f h = absurd f
+nodes_few ms m n (x ∷ xs) (y ∷ ys) le f h =
+    let r = rest_of IsEmpty x xs h in
+    let o = one_few (paid ms) m x y f.0 r.0 in
+    All-cons (λ (z : Node). z.slots ≤ n) y ys (omega (arith, o, le)) (nodes_few (later ms) m n xs ys le f.1 r.1)
+
+few_slots : (m n : ℕ) (fs : List AvroField) (bs cs : List MutableArray) → m ≤ n → BothFill m fs bs cs → AtNodes IsEmpty bs → AtNodes (λ x. x.slots ≤ n) cs
+few_slots m n [] [] [] le g h = λ k d lt. absurd (omega (arith, lt))
+few_slots m n [] [] (c ∷ cs) le g h = absurd g
+few_slots m n [] (b ∷ bs) cs le g h = absurd g
+few_slots m n (f ∷ fs) [] cs le g h = absurd g
+few_slots m n (f ∷ fs) (b ∷ bs) [] le g h = absurd g
+few_slots m n (f ∷ fs) (b ∷ bs) (c ∷ cs) le g h =
+    let r = rest_of (λ (d : MutableArray). All IsEmpty (nodes d)) b bs h in
+    All-cons (λ (d : MutableArray). All (λ x. x.slots ≤ n) (nodes d)) c cs (nodes_few (mask false f.schema) m n (nodes b) (nodes c) le g.0 r.0) (few_slots m n fs bs cs le g.1 r.1)
+
+pub few_slots_passed : (start rest : List ℕ) (fs : List AvroField) (bs cs : List MutableArray) → ChildrenGrow (passed start rest) fs bs cs → AtNodes IsEmpty bs → AtNodes (λ x. x.slots ≤ length start) cs
+few_slots_passed start rest fs bs cs g h = few_slots (passed start rest) (length start) fs bs cs (omega arith) g.each h
+
+pub few_content_passed : (start rest : List ℕ) (fs : List AvroField) (bs cs : List MutableArray) → ChildrenGrow (passed start rest) fs bs cs → AtNodes IsEmpty bs → total fs cs ≤ length start
+few_content_passed start rest fs bs cs g h = let z = no_total fs bs h in omega (arith, g.all, z)
+
+one_kept : (p : Bool) (n : ℕ) (x y : Node) → Fills p n x y → KeepsCapacity x y
+one_kept true n x y t = record { slots = t.slot_capacity; bytes = t.byte_capacity }
+one_kept false n x y t = record { slots = t.1.slot_capacity; bytes = t.1.byte_capacity }
+
+nodes_kept : (ms : List Bool) (n : ℕ) (xs ys : List Node) → AllFill ms n xs ys → AllZip KeepsCapacity xs ys
+nodes_kept ms n [] [] f = tt
+nodes_kept ms n [] (y ∷ ys) f = absurd f
+nodes_kept ms n (x ∷ xs) [] f = absurd f
+nodes_kept ms n (x ∷ xs) (y ∷ ys) f = (one_kept (paid ms) n x y f.0, nodes_kept (later ms) n xs ys f.1)
+
+both_kept : (n : ℕ) (fs : List AvroField) (bs cs : List MutableArray) → BothFill n fs bs cs → BetweenNodes KeepsCapacity bs cs
+both_kept n [] [] [] g = tt
+both_kept n [] [] (c ∷ cs) g = absurd g
+both_kept n [] (b ∷ bs) cs g = absurd g
+both_kept n (f ∷ fs) [] cs g = absurd g
+both_kept n (f ∷ fs) (b ∷ bs) [] g = absurd g
+both_kept n (f ∷ fs) (b ∷ bs) (c ∷ cs) g = (nodes_kept (mask false f.schema) n (nodes b) (nodes c) g.0, both_kept n fs bs cs g.1)
+
+pub capacity_kept : (n : ℕ) (fs : List AvroField) (bs cs : List MutableArray) → ChildrenGrow n fs bs cs → BetweenNodes KeepsCapacity bs cs
+capacity_kept n fs bs cs g = both_kept n fs bs cs g.each
+
+-- ---- spare capacity
+
+nodes_spare : (ms : List Bool) (n : ℕ) (xs : List Node) → All IsTrue ms → All (HasSpare n) xs → HaveSpare ms n xs
+nodes_spare ms n [] t h = tt
+nodes_spare [] n (x ∷ xs) t h =
+    let r = rest_of (HasSpare n) x xs h in
+    (refl, r.0, nodes_spare [] n xs t r.1)
+nodes_spare (m ∷ ms) n (x ∷ xs) t h =
+    let r = rest_of (HasSpare n) x xs h in
+    let q = rest_of IsTrue m ms t in
+    (q.0, r.0, nodes_spare ms n xs q.1 r.1)
+
+pub all_spare : (n : ℕ) (fs : List AvroField) (bs : List MutableArray) → AtNodes (HasSpare n) bs → AllPaid fs → ChildrenHaveSpare n fs bs
+all_spare n [] bs h p = tt
+all_spare n (f ∷ fs) [] h p = tt
+all_spare n (f ∷ fs) (b ∷ bs) h p =
+    let r = rest_of (λ (c : MutableArray). All (HasSpare n) (nodes c)) b bs h in
+    let q = rest_of (λ (g : AvroField). All IsTrue (mask false g.schema)) f fs p in
+    (nodes_spare (mask false f.schema) n (nodes b) q.0 r.0, all_spare n fs bs r.1 q.1)
+
+-- ---- data types, by shapes
+
+heads_and_tails : {A : Type 0} (x y : A) (xs ys : List A) → x ∷ xs ≡ y ∷ ys → (x ≡ y) × (xs ≡ ys)
+heads_and_tails x y xs ys e = (cc, cc)
+
+pub types_stay : (bs cs : List MutableArray) → map shape cs ≡ map shape bs → map builder_type cs ≡ map builder_type bs
+types_stay [] [] e = refl
+types_stay [] (c ∷ cs) e = absurd cc
+types_stay (b ∷ bs) [] e = absurd cc
+types_stay (b ∷ bs) (c ∷ cs) e =
+    let p = heads_and_tails (shape c) (shape b) (map shape cs) (map shape bs) e in
+    rw (same_type b c p.0, types_stay bs cs p.1) refl
+
+pub fits_stay : (bs cs : List MutableArray) → map shape cs ≡ map shape bs → All (λ b. TypesFit (shape b)) bs → All (λ b. TypesFit (shape b)) cs
+fits_stay [] [] e h = h
+fits_stay [] (c ∷ cs) e h = absurd cc
+fits_stay (b ∷ bs) [] e h = absurd cc
+fits_stay (b ∷ bs) (c ∷ cs) e h =
+    let p = heads_and_tails (shape c) (shape b) (map shape cs) (map shape bs) e in
+    let r = rest_of (λ (d : MutableArray). TypesFit (shape d)) b bs h in
+    All-cons (λ (d : MutableArray). TypesFit (shape d)) c cs (subst TypesFit (sym p.0) r.0) (fits_stay bs cs p.1 r.1)
 
 -- ---- lists of nodes
 
@@ -62,165 +202,6 @@ zip_more R S T [] (y ∷ ys) zs f r s = absurd r
 zip_more R S T (x ∷ xs) [] zs f r s = absurd r
 zip_more R S T (x ∷ xs) (y ∷ ys) [] f r s = absurd s
 zip_more R S T (x ∷ xs) (y ∷ ys) (z ∷ zs) f r s = (f x y z r.0 s.0, zip_more R S T xs ys zs f r.1 s.1)
-
-zip_same : {A : Type 0} (R : A → A → Type 0) (xs : List A) → ((x : A) → R x x) → AllZip R xs xs
-zip_same R [] f = tt
-zip_same R (x ∷ xs) f = (f x, zip_same R xs f)
-
--- ---- the nodes of one builder
-
-pub grows_none : (n : ℕ) (xs : List Node) → Grows n xs xs
-grows_none n xs = record { each = zip_same (Fills n) xs (fills_none n); all = omega arith }
-
-pub grows_wider : (m n : ℕ) (xs ys : List Node) → Grows m xs ys → m ≤ n → Grows n xs ys
-grows_wider m n xs ys g le = record {
-  each = zip_of (Fills m) (Fills n) xs ys (λ x y f. fills m m n x y f le le) g.each;
-  all = omega (arith, g.all, le);
-}
-
-pub one_grows : (n : ℕ) (x y : Node) → Fills n x y → Grows n (x ∷ []) (y ∷ [])
-one_grows n x y f = record { each = (f, tt); all = omega (arith, f.bytes_added) }
-
-pub spare_for_less : (m n : ℕ) (xs : List Node) → n ≤ m → All (HasSpare m) xs → All (HasSpare n) xs
-spare_for_less m n xs le = all_of (HasSpare m) (HasSpare n) xs (λ x h. capacity_less m n x le h)
-
-pub reach : (m n : ℕ) (xs : List Node) → n ≤ m → All (OffsetsReach m) xs → All (OffsetsReach n) xs
-reach m n xs le = all_of (OffsetsReach m) (OffsetsReach n) xs (λ x h. omega (arith, le, h))
-
--- a flat builder has one node
-pub flat_has_memory : (n : ℕ) (x : Node) (r : Result (Unit {0}) DecodeFault) → (HasSpare n x → HasMemory r) → All (HasSpare n) (x ∷ []) → HasMemory r
-flat_has_memory n x r has_capacity h = has_capacity (h 0 x (omega arith))
-
-pub flat_reach : (n : ℕ) (x : Node) → All (OffsetsReach n) (x ∷ []) → OffsetsReach n x
-flat_reach n x h = h 0 x (omega arith)
-
--- what holds with a byte more
-pub grows_one_wider : (m : ℕ) (xs ys : List Node) → Grows m xs ys → Grows (m + 1) xs ys
-grows_one_wider m xs ys g = grows_wider m (m + 1) xs ys g (omega arith)
-
-pub memory_with_one_more : (n : ℕ) (xs : List Node) (r : Result (Unit {0}) DecodeFault) → (All (HasSpare n) xs → HasMemory r) → All (HasSpare (n + 1)) xs → HasMemory r
-memory_with_one_more n xs r has_capacity h = has_capacity (spare_for_less (n + 1) n xs (omega arith) h)
-
--- a union's member after its number
-module _ {X : Type 0} (rest : X → List ℕ) (shown calls : X → ℕ) (x y : X) (number : CostsNumber rest shown calls x y) where
-  pub member_reach : (xs : List Node) → All (OffsetsReach (length (rest x))) xs → All (OffsetsReach (length (rest y))) xs
-  member_reach xs h = let s = number.shorter in reach (length (rest x)) (length (rest y)) xs (omega (arith, s)) h
-
-  pub member_grows : (z : X) (xs ys : List Node) → Moves rest calls y z → Grows (passed (rest y) (rest z) + 1) xs ys → Grows (passed (rest x) (rest z)) xs ys
-  member_grows z xs ys m g =
-      let s = number.shorter in
-      let l = not_longer (rest y) (rest z) m.forward in
-      grows_wider (passed (rest y) (rest z) + 1) (passed (rest x) (rest z)) xs ys g (omega (arith, s, l))
-
-  pub member_has_memory : (xs : List Node) (r : Result (Unit {0}) DecodeFault) → (All (HasSpare (length (rest y) + 1)) xs → HasMemory r) → All (HasSpare (length (rest x))) xs → HasMemory r
-  member_has_memory xs r has_capacity h = let s = number.shorter in has_capacity (spare_for_less (length (rest x)) (length (rest y) + 1) xs (omega (arith, s)) h)
-
-pub first_of : (P : Node → Type 0) (x : Node) → All P (x ∷ []) → P x
-first_of P x h = h 0 x (omega arith)
-
--- ---- builders side by side
-
-pub all_none : (n : ℕ) (bs : List MutableArray) → AllGrow n bs bs
-all_none n bs = record { each = zip_same (λ b c. AllZip (Fills n) (nodes b) (nodes c)) bs (λ b. zip_same (Fills n) (nodes b) (fills_none n)); all = omega arith }
-
-pub all_wider : (m n : ℕ) (old new : List MutableArray) → AllGrow m old new → m ≤ n → AllGrow n old new
-all_wider m n old new g le = record {
-  each = zip_of (λ b c. AllZip (Fills m) (nodes b) (nodes c)) (λ b c. AllZip (Fills n) (nodes b) (nodes c)) old new (λ b c f. zip_of (Fills m) (Fills n) (nodes b) (nodes c) (λ x y t. fills m m n x y t le le) f) g.each;
-  all = omega (arith, g.all, le);
-}
-
-pub all_more : (m n p : ℕ) (old now new : List MutableArray) → AllGrow m old now → AllGrow n now new → m + n ≤ p → AllGrow p old new
-all_more m n p old now new g h le = record {
-  each = zip_more (λ b c. AllZip (Fills m) (nodes b) (nodes c)) (λ b c. AllZip (Fills n) (nodes b) (nodes c)) (λ b c. AllZip (Fills p) (nodes b) (nodes c)) old now new (λ a b c f k. zip_more (Fills m) (Fills n) (Fills p) (nodes a) (nodes b) (nodes c) (λ x y z t u. fills_more m n p x y z t u le) f k) g.each h.each;
-  all = omega (arith, g.all, h.all, le);
-}
-
--- one of them grows
-zip_set : (n : ℕ) (bs : List MutableArray) (k : ℕ) (d c : MutableArray) → k < length bs → AllZip (Fills n) (nodes (get_or bs k d)) (nodes c) → BetweenNodes (Fills n) bs (set bs k c)
-zip_set n [] k d c lt f = absurd (omega (arith, lt))
-zip_set n (b ∷ bs) zero d c lt f = (f, zip_same (λ a e. AllZip (Fills n) (nodes a) (nodes e)) bs (λ a. zip_same (Fills n) (nodes a) (fills_none n)))
-zip_set n (b ∷ bs) (suc k) d c lt f = (zip_same (Fills n) (nodes b) (fills_none n), zip_set n bs k d c (omega (arith, lt)) f)
-
-pub one_of_all : (n : ℕ) (bs : List MutableArray) (k : ℕ) (d c : MutableArray) → k < length bs → Grows n (nodes (get_or bs k d)) (nodes c) → AllGrow n bs (set bs k c)
-one_of_all n bs k d c lt g =
-    let s = sum_by-set (λ (b : MutableArray). content (nodes b)) bs k c d lt in
-    record { each = zip_set n bs k d c lt g.each; all = omega (arith, s, g.all) }
-
-pub capacity_there : (n : ℕ) (bs : List MutableArray) (k : ℕ) (d : MutableArray) → k < length bs → AtNodes (HasSpare n) bs → All (HasSpare n) (nodes (get_or bs k d))
-capacity_there n bs k d lt h = h k d lt
-
--- what has spare capacity for m more, and offsets that reach so far, has them for what is left
-module _ (m n k : ℕ) (old new : List MutableArray) (g : AllGrow k old new) (le : k + n ≤ m) where
-  pub all_have_capacity : AtNodes (HasSpare m) old → AtNodes (HasSpare n) new
-  all_have_capacity h =
-      all_after (λ b. All (HasSpare m) (nodes b)) (λ b. All (HasSpare n) (nodes b)) (λ b c. AllZip (Fills k) (nodes b) (nodes c)) old new
-      (λ b c f p. all_after (HasSpare m) (HasSpare n) (Fills k) (nodes b) (nodes c) (λ x y t q. capacity_after m n k x y t le q) f p) g.each h
-
-  pub all_reach : AtNodes (OffsetsReach m) old → AtNodes (OffsetsReach n) new
-  all_reach h =
-      all_after (λ b. All (OffsetsReach m) (nodes b)) (λ b. All (OffsetsReach n) (nodes b)) (λ b c. AllZip (Fills k) (nodes b) (nodes c)) old new
-      (λ b c f p. all_after (OffsetsReach m) (OffsetsReach n) (Fills k) (nodes b) (nodes c) (λ x y t q. omega (arith, le, q, t.bytes_added)) f p) g.each h
-
--- ---- builders that were empty
-
-pub empty_reach : (n : ℕ) (bs : List MutableArray) → n ≤ small_limit → AtNodes IsEmpty bs → AtNodes (OffsetsReach n) bs
-empty_reach n bs le h = λ k d lt. all_of IsEmpty (OffsetsReach n) (nodes (get_or bs k d)) (λ x e. omega (arith, e.bytes, le)) (h k d lt)
-
-pub few_slots_left : (bytes : List ℕ) (bs : List MutableArray) → AtNodes IsEmpty bs → AtNodes (λ x. x.slots ≤ length bytes) bs
-few_slots_left bytes bs h = λ k d lt. all_of IsEmpty (λ x. x.slots ≤ length bytes) (nodes (get_or bs k d)) (λ x e. omega (arith, e.slots)) (h k d lt)
-
-all_few_slots : (n : ℕ) (old new : List MutableArray) → AllGrow n old new → AtNodes IsEmpty old → AtNodes (λ x. x.slots ≤ n) new
-all_few_slots n old new g h =
-    all_after (λ b. All IsEmpty (nodes b)) (λ b. All (λ x. x.slots ≤ n) (nodes b)) (λ b c. AllZip (Fills n) (nodes b) (nodes c)) old new
-    (λ b c f p. all_after IsEmpty (λ x. x.slots ≤ n) (Fills n) (nodes b) (nodes c) (λ x y t e. omega (arith, t.slots_added, e.slots)) f p) g.each h
-
-pub few_slots_passed : (start rest : List ℕ) (old new : List MutableArray) → AllGrow (passed start rest) old new → AtNodes IsEmpty old → AtNodes (λ x. x.slots ≤ length start) new
-few_slots_passed start rest old new g h = all_few_slots (length start) old new (all_wider (passed start rest) (length start) old new g (omega arith)) h
-
-no_content : (xs : List Node) → All IsEmpty xs → content xs ≡ 0
-no_content [] h = refl
-no_content (x ∷ xs) h =
-    let e = (h 0 x (omega arith)).bytes in
-    let r = no_content xs (λ k d lt. h (suc k) d (omega (arith, lt))) in
-    let s = content_cons x xs in
-    omega (arith, e, r, s)
-
-pub no_total : (bs : List MutableArray) → AtNodes IsEmpty bs → total_content bs ≡ 0
-no_total [] h = refl
-no_total (b ∷ bs) h =
-    let e = no_content (nodes b) (h 0 b (omega arith)) in
-    let r = no_total bs (λ k d lt. h (suc k) d (omega (arith, lt))) in
-    let s = sum_by-cons (λ (c : MutableArray). content (nodes c)) b bs in
-    omega (arith, e, r, s)
-
-few_content : (n : ℕ) (old new : List MutableArray) → AllGrow n old new → AtNodes IsEmpty old → total_content new ≤ n
-few_content n old new g h = let z = no_total old h in omega (arith, g.all, z)
-
-pub few_content_left : (bytes : List ℕ) (bs : List MutableArray) → AtNodes IsEmpty bs → total_content bs ≤ length bytes
-few_content_left bytes bs h = let z = no_total bs h in omega (arith, z)
-
-pub few_content_passed : (start rest : List ℕ) (old new : List MutableArray) → AllGrow (passed start rest) old new → AtNodes IsEmpty old → total_content new ≤ length start
-few_content_passed start rest old new g h = few_content (length start) old new (all_wider (passed start rest) (length start) old new g (omega arith)) h
-
-pub capacity_kept : (n : ℕ) (old new : List MutableArray) → AllGrow n old new → BetweenNodes KeepsCapacity old new
-capacity_kept n old new g =
-    zip_of (λ b c. AllZip (Fills n) (nodes b) (nodes c)) (λ b c. AllZip KeepsCapacity (nodes b) (nodes c)) old new
-    (λ b c f. zip_of (Fills n) KeepsCapacity (nodes b) (nodes c) (λ x y t. record { slots = t.slot_capacity; bytes = t.byte_capacity }) f) g.each
-
-pub capacity_left : (bs : List MutableArray) → BetweenNodes KeepsCapacity bs bs
-capacity_left bs = capacity_kept 0 bs bs (all_none 0 bs)
-
--- an empty node is an empty builder's
-no_slots : {A : Type 0} (xs : List A) → length xs ≡ 0 → xs ≡ []
-no_slots [] e = refl
-no_slots (x ∷ xs) e = absurd (omega (arith, e))
-
-pub empty_slots : (b : MutableArray) → IsSupportedKind (builder_kind b) → All IsEmpty (nodes b) → builder_slots b ≡ []
-empty_slots (Boolean b) t h = no_slots b.slots (first_of IsEmpty _ h).slots
-empty_slots (Int32 b) t h = no_slots b.slots (first_of IsEmpty _ h).slots
-empty_slots (Int64 b) t h = no_slots b.slots (first_of IsEmpty _ h).slots
-empty_slots (Utf8 b) t h = no_slots b.slots (first_of IsEmpty _ h).slots
-empty_slots _ t h = absurd t
 
 -- ---- builders that are filled and cleared, again and again
 

@@ -1,27 +1,27 @@
 -- One step of the loops over fields and over rows.
-use Rattle.std.proofs.Common.{◌≡◌, ◌∙◌, ℕ, zero, suc, ◌+◌, ◌-◌, ◌<◌, ◌≤◌, Bool, true, false, List, [], ◌∷◌, ◌++◌, length, get_or, set, drop, map, Option, Some, None, Ok, Err, refl, sym, ap, subst, add-one, arith}
+use Rattle.std.proofs.Common.{◌≡◌, ◌∙◌, ℕ, zero, suc, ◌+◌, ◌-◌, ◌<◌, ◌≤◌, Bool, true, false, List, [], ◌∷◌, ◌++◌, length, get_or, set, drop, map, All, Option, Some, None, Result, Ok, Err, refl, sym, ap, subst, add-one, arith}
 use Rattle.std.proofs.lemmas.List.{length-map, map-set, get_or-map, map-append, length-append}
-use Rattle.std.proofs.lemmas.Option.{some_pair_parts}
 use Rattle.std.proofs.Math.Seq.{drop-cons}
-use Rattle.arrow_types.specs.declared.physical.PhysicalType.{PhysicalType}
 use Rattle.arrow_types.specs.declared.slot.Slot.{Slot}
 use Rattle.arrow_builders.specs.declared.array.MutableArray.{MutableArray}
-use Rattle.arrow_builders.specs.MutableArrays.{builder_slots, builder_kind}
+use Rattle.arrow_builders.specs.MutableArrays.{builder_slots}
 use Rattle.avro_schema.specs.declared.schema.AvroField.{AvroField}
+use Rattle.avro_grammar.specs.Carried.{Carried, CarriedList}
 use Rattle.avro_grammar.specs.Skips.{Passed}
 use Rattle.avro_grammar.specs.Rows.{Pieces, no_pieces, total_kept, total_seen, total_hidden}
+use Rattle.avro_grammar.specs.ValidBlock.{kept}
 use Rattle.avro_reference.specs.Read.{read, push_one}
-use Rattle.avro_reference.specs.Skip.{Bad, skip}
+use Rattle.avro_reference.specs.Skip.{Fault, Bad, Negative, skip}
 use Rattle.avro_reference.specs.Block.{row, rows, rows_after, block, add_kept, add_skipped}
 use Rattle.avro_reference.proofs.RowSteps.{row_left, kept_next, kept_bad, skipped_next, skipped_err, row_done, rows_next, rows_err, rows_done, block_ended, block_left, block_err}
-use Rattle.avro_decode.specs.Decoding.{grown, grown_by}
-use Rattle.avro_decode.specs.Costs.{Costs, CostsKept}
-use Rattle.avro_decode.specs.Supported.{SupportedSchema, AllSupported, kind_of, kept_kinds}
-use Rattle.avro_decode.specs.Decoding.{Fails, IsBad, AreWide}
-use Rattle.avro_decode.specs.declared.fault.DecodeFault.{DecodeFault}
-use Rattle.avro_decode.specs.declared.fault.DecodeFault.TheVariants.{Bytes, Memory}
-use Rattle.avro_decode.proofs.Counting.{costs_none, kept_more, skipped_more, rows_more}
-use Rattle.avro_decode.proofs.Growth.{grown_none, length-grown, grown_next, grown_by_next, wide_next}
+use Rattle.avro_skip.specs.Costs.{Costs, CostsKept}
+use Rattle.avro_skip.proofs.Counting.{costs_none}
+use Rattle.avro_decode.specs.Decoding.{grown, grown_by, FieldFails, IsFault, AreWide}
+use Rattle.avro_decode.specs.declared.fault.BlockFault.{BlockFault}
+use Rattle.avro_decode.specs.declared.fault.BlockFault.TheVariants.{Bytes, NegativeSize, Memory}
+use Rattle.avro_decode.proofs.RowCosts.{kept_more, skipped_more, rows_more}
+use Rattle.avro_decode.proofs.Columns.{grown_none, length-grown, grown_next, grown_by_next, wide_next}
+use Rattle.avro_decode.proofs.Reading.{push_parts, push_none_parts}
 
 -- ---- the fields of a row
 
@@ -32,16 +32,6 @@ RowSoFar rest shown calls start here k i fields projection before now =
 
 pub row_begun : {X : Type 0} (rest : X → List ℕ) (shown calls : X → ℕ) (start : X) (fields : List AvroField) (projection : List Bool) (before : List (List Slot)) → RowSoFar rest shown calls start start 0 0 fields projection before before
 row_begun rest shown calls start fields projection before = (no_pieces, refl, sym (grown_none before), refl, costs_none rest shown calls start)
-
-push_parts : (old new : List Slot) (o : Option (Slot × List ℕ)) (rest : List ℕ) → push_one old o ≡ Some (new, rest) → (x : Slot) × (o ≡ Some (x, rest)) × (new ≡ old ++ x ∷ [])
-unfolding push_one
-push_parts old new None rest h = absurd cc
-push_parts old new (Some (x, r)) rest h = let p = some_pair_parts (old ++ x ∷ []) new r rest h in (x, rw p.1 refl, sym p.0)
-
-push_none_parts : (old : List Slot) (o : Option (Slot × List ℕ)) → push_one old o ≡ None → o ≡ None
-unfolding push_one
-push_none_parts old None h = refl
-push_none_parts old (Some (x, r)) h = absurd cc
 
 module _ {X : Type 0} (rest : X → List ℕ) (shown calls : X → ℕ) (start here : X) (k i : ℕ) (fields : List AvroField) (projection : List Bool) (before now : List (List Slot)) (f : AvroField) (lt : i < length fields) (same : length fields ≡ length projection) (is : f ≡ get_or fields i f) (so : RowSoFar rest shown calls start here k i fields projection before now) where
   pub kept_step : get_or projection i false ≡ true → k < length before → (new : List Slot) (next : X) → push_one (get_or now k []) (read f.schema (rest here)) ≡ Some (new, rest next) → CostsKept rest shown calls here next → RowSoFar rest shown calls start next (k + 1) (i + 1) fields projection before (set now k new)
@@ -56,9 +46,10 @@ module _ {X : Type 0} (rest : X → List ℕ) (shown calls : X → ℕ) (start h
       length_more : (xs : List Slot) (x : Slot) (m : ℕ) → length xs ≡ m → length (xs ++ x ∷ []) ≡ m + 1
       length_more xs x m h = omega (arith, h, length-append xs (x ∷ []))
 
-  pub kept_fault : get_or projection i false ≡ true → (d : DecodeFault) → Fails d (push_one (get_or now k []) (read f.schema (rest here))) → IsBad d (row fields projection (rest start))
+  pub kept_fault : get_or projection i false ≡ true → (d : BlockFault) → FieldFails d (push_one (get_or now k []) (read f.schema (rest here))) → IsFault d (row fields projection (rest start))
   kept_fault taken Bytes e =
       sym so.1 ∙ kept_bad i fields projection f so.0 (rest here) lt same is taken (push_none_parts (get_or now k []) (read f.schema (rest here)) e)
+  kept_fault taken NegativeSize e = absurd e
   kept_fault taken Memory e = tt
 
   pub skipped_step : get_or projection i false ≡ false → (next : X) → (p : Passed) × (skip f.schema (rest here) ≡ Ok (p, rest next)) × Costs rest shown calls here next p.seen p.hidden → RowSoFar rest shown calls start next k (i + 1) fields projection before now
@@ -67,8 +58,9 @@ module _ {X : Type 0} (rest : X → List ℕ) (shown calls : X → ℕ) (start h
       let p = q.0 in
       (add_skipped old p, sym (skipped_next i fields projection f old (rest here) lt same is passed p (rest next) q.1) ∙ so.1, so.2, so.3, skipped_more rest shown calls start here next old.kept old.passed.seen old.passed.hidden p.seen p.hidden so.4 q.2)
 
-  pub skipped_fault : get_or projection i false ≡ false → (d : DecodeFault) → IsBad d (skip f.schema (rest here)) → IsBad d (row fields projection (rest start))
+  pub skipped_fault : get_or projection i false ≡ false → (d : BlockFault) → IsFault d (skip f.schema (rest here)) → IsFault d (row fields projection (rest start))
   skipped_fault passed Bytes e = sym so.1 ∙ skipped_err i fields projection f so.0 (rest here) lt same is passed Bad e
+  skipped_fault passed NegativeSize e = sym so.1 ∙ skipped_err i fields projection f so.0 (rest here) lt same is passed Negative e
   skipped_fault passed Memory e = tt
 
 pub row_ended : {X : Type 0} (rest : X → List ℕ) (shown calls : X → ℕ) (start here : X) (k i : ℕ) (fields : List AvroField) (projection : List Bool) (before now : List (List Slot)) → length fields ≤ i → length fields ≡ length projection → length before ≡ k → RowSoFar rest shown calls start here k i fields projection before now → (y : Pieces) × (row fields projection (rest start) ≡ Ok (y, rest here)) × (now ≡ grown before y.slots) × (length y.slots ≡ length now) × Costs rest shown calls start here (y.kept + y.passed.seen) y.passed.hidden
@@ -76,19 +68,19 @@ row_ended rest shown calls start here k i fields projection before now le same a
     let l : length now ≡ length before = ap length so.2 ∙ length-grown before so.0.slots in
     (so.0, sym so.1 ∙ row_done i fields projection so.0 (rest here) le same, so.2, so.3 ∙ sym all ∙ sym l, so.4)
 
--- ---- the kinds of the builders that are left
+-- ---- the kept fields that are left
 
-module _ (i k : ℕ) (fields : List AvroField) (projection : List Bool) (f : AvroField) (lt : i < length fields) (same : length fields ≡ length projection) (is : f ≡ get_or fields i f) (ks : List PhysicalType) (left : drop k ks ≡ kept_kinds (drop i fields) (drop i projection)) where
+module _ (i k : ℕ) (fields : List AvroField) (projection : List Bool) (f : AvroField) (lt : i < length fields) (same : length fields ≡ length projection) (is : f ≡ get_or fields i f) (ks : List AvroField) (left : drop k ks ≡ kept (drop i fields) (drop i projection)) where
   field_at : drop i fields ≡ f ∷ drop (i + 1) fields
   field_at = drop-cons fields i f lt ∙ ap (λ (x : AvroField). x ∷ drop (suc i) fields) (sym is) ∙ ap (λ (j : ℕ). f ∷ drop j fields) (sym (add-one i))
 
   choice_at : drop i projection ≡ get_or projection i false ∷ drop (i + 1) projection
   choice_at = drop-cons projection i false (omega (arith, lt, same)) ∙ ap (λ (j : ℕ). get_or projection i false ∷ drop j projection) (sym (add-one i))
 
-  here : drop k ks ≡ kept_kinds (f ∷ drop (i + 1) fields) (get_or projection i false ∷ drop (i + 1) projection)
+  here : drop k ks ≡ kept (f ∷ drop (i + 1) fields) (get_or projection i false ∷ drop (i + 1) projection)
   here = left ∙ (rw (field_at, choice_at) refl)
 
-  parts : (xs : List PhysicalType) (j : ℕ) → drop j xs ≡ kind_of f.schema ∷ kept_kinds (drop (i + 1) fields) (drop (i + 1) projection) → (j < length xs) × (get_or xs j (kind_of f.schema) ≡ kind_of f.schema) × (drop (j + 1) xs ≡ kept_kinds (drop (i + 1) fields) (drop (i + 1) projection))
+  parts : (xs : List AvroField) (j : ℕ) → drop j xs ≡ f ∷ kept (drop (i + 1) fields) (drop (i + 1) projection) → (j < length xs) × (get_or xs j f ≡ f) × (drop (j + 1) xs ≡ kept (drop (i + 1) fields) (drop (i + 1) projection))
   parts [] zero q = absurd cc
   parts [] (suc j) q = absurd cc
   parts (x ∷ xs) zero q = (omega arith, cc, cc)
@@ -97,16 +89,11 @@ module _ (i k : ℕ) (fields : List AvroField) (projection : List Bool) (f : Avr
       let n : suc j + 1 ≡ suc (j + 1) = omega arith in
       (omega (arith, h.0), h.1, rw n h.2)
 
-  pub kinds_next : get_or projection i false ≡ true → (k < length ks) × (get_or ks k (kind_of f.schema) ≡ kind_of f.schema) × (drop (k + 1) ks ≡ kept_kinds (drop (i + 1) fields) (drop (i + 1) projection))
-  kinds_next taken = parts ks k (here ∙ ap (λ (v : Bool). kept_kinds (f ∷ drop (i + 1) fields) (v ∷ drop (i + 1) projection)) taken)
+  pub kept_here : get_or projection i false ≡ true → (k < length ks) × (get_or ks k f ≡ f) × (drop (k + 1) ks ≡ kept (drop (i + 1) fields) (drop (i + 1) projection))
+  kept_here taken = parts ks k (here ∙ ap (λ (v : Bool). kept (f ∷ drop (i + 1) fields) (v ∷ drop (i + 1) projection)) taken)
 
-  pub kinds_skip : get_or projection i false ≡ false → drop k ks ≡ kept_kinds (drop (i + 1) fields) (drop (i + 1) projection)
-  kinds_skip passed = here ∙ ap (λ (v : Bool). kept_kinds (f ∷ drop (i + 1) fields) (v ∷ drop (i + 1) projection)) passed
-
-pub kind_here : (k : ℕ) (builders : List MutableArray) (d : MutableArray) (n : PhysicalType) (ks : List PhysicalType) → map builder_kind builders ≡ ks → k < length ks → get_or ks k n ≡ n → (k < length builders) × (builder_kind (get_or builders k d) ≡ n)
-kind_here k builders d n ks e lt g =
-    let l : k < length builders = omega (arith, length-map builders builder_kind, ap length e, lt) in
-    (l, sym (get_or-map builder_kind builders k d n l) ∙ ap (λ (xs : List PhysicalType). get_or xs k n) e ∙ g)
+  pub kept_later : get_or projection i false ≡ false → drop k ks ≡ kept (drop (i + 1) fields) (drop (i + 1) projection)
+  kept_later passed = here ∙ ap (λ (v : Bool). kept (f ∷ drop (i + 1) fields) (v ∷ drop (i + 1) projection)) passed
 
 none_left : {A : Type 0} (xs : List A) (k : ℕ) → length xs ≤ k → drop k xs ≡ []
 none_left [] zero h = refl
@@ -119,9 +106,8 @@ all_dropped [] k h = omega arith
 all_dropped (x ∷ xs) zero h = absurd cc
 all_dropped (x ∷ xs) (suc k) h = let r = all_dropped xs k h in omega (arith, r)
 
-pub kinds_ended : (i k : ℕ) (fields : List AvroField) (projection : List Bool) (ks : List PhysicalType) → length fields ≤ i → drop k ks ≡ kept_kinds (drop i fields) (drop i projection) → length ks ≤ k
-kinds_ended i k fields projection ks le left =
-    all_dropped ks k (left ∙ (rw (none_left fields i le) refl))
+pub kept_ended : (i k : ℕ) (fields : List AvroField) (projection : List Bool) (ks : List AvroField) → length fields ≤ i → drop k ks ≡ kept (drop i fields) (drop i projection) → length ks ≤ k
+kept_ended i k fields projection ks le left = all_dropped ks k (left ∙ (rw (none_left fields i le) refl))
 
 -- ---- one builder of many
 
@@ -135,12 +121,12 @@ module _ {X : Type 0} (rest : X → List ℕ) (shown calls : X → ℕ) (start h
       let h = kept_step rest shown calls start here k i fields projection before (map builder_slots builders) f lt same is so taken lb (builder_slots b) next (rw (slots_here k builders d lk) e) c in
       (h.0, h.1, map-set builder_slots builders k b ∙ h.2, h.3, h.4)
 
-  pub builder_fault : (t : DecodeFault) → Fails t (push_one (builder_slots (get_or builders k d)) (read f.schema (rest here))) → IsBad t (row fields projection (rest start))
+  pub builder_fault : (t : BlockFault) → FieldFails t (push_one (builder_slots (get_or builders k d)) (read f.schema (rest here))) → IsFault t (row fields projection (rest start))
   builder_fault t e =
       kept_fault rest shown calls start here k i fields projection before (map builder_slots builders) f lt same is so taken t (rw (slots_here k builders d lk) e)
 
-pub carried_at : (fields : List AvroField) (i : ℕ) (f : AvroField) → i < length fields → f ≡ get_or fields i f → AllSupported fields → SupportedSchema f.schema
-carried_at fields i f lt is all = subst (λ (x : AvroField). SupportedSchema x.schema) (sym is) (all i f lt)
+pub carried_at : (fields : List AvroField) (i : ℕ) (f : AvroField) → i < length fields → f ≡ get_or fields i f → CarriedList fields → Carried f.schema
+carried_at fields i f lt is all = subst (λ (x : AvroField). Carried x.schema) (sym is) (all i f lt)
 
 -- ---- rows
 
@@ -169,9 +155,11 @@ module _ {X : Type 0} (rest : X → List ℕ) (shown calls : X → ℕ) (start h
       let wide = wide_next (length new) (map (λ (q : Pieces). q.slots) ys) y.slots (wide_same (length now) (length new) (map (λ (q : Pieces). q.slots) ys) (sym same) so.3) g.3 in
       (ys ++ y ∷ [], e, rw more grow, rw more wide, rows_more rest shown calls start here next ys y so.4 g.4)
 
-  pub rows_fault : (d : DecodeFault) → IsBad d (row fields projection (rest here)) → IsBad d (rows n fields projection (rest start))
+  pub rows_fault : (d : BlockFault) → IsFault d (row fields projection (rest here)) → IsFault d (rows n fields projection (rest start))
   rows_fault Bytes e =
       sym so.1 ∙ ap (λ (j : ℕ). rows_after so.0 j fields projection (rest here)) s ∙ rows_err l fields projection so.0 (rest here) Bad e
+  rows_fault NegativeSize e =
+      sym so.1 ∙ ap (λ (j : ℕ). rows_after so.0 j fields projection (rest here)) s ∙ rows_err l fields projection so.0 (rest here) Negative e
   rows_fault Memory e = tt
 
 pub rows_ended : {X : Type 0} (rest : X → List ℕ) (shown calls : X → ℕ) (start here : X) (n m : ℕ) (fields : List AvroField) (projection : List Bool) (before now : List (List Slot)) → m ≡ 0 → RowsSoFar rest shown calls start here n m fields projection before now → (ys : List Pieces) × (rows n fields projection (rest start) ≡ Ok (ys, rest here)) × (now ≡ grown_by before (map (λ y. y.slots) ys)) × AreWide (length now) (map (λ y. y.slots) ys) × Costs rest shown calls start here (total_kept ys + total_seen ys) (total_hidden ys)
@@ -193,6 +181,7 @@ module _ {X : Type 0} (rest : X → List ℕ) (shown calls : X → ℕ) (start h
   pub block_more : 0 < length (rest here) → block n fields projection (rest start) ≡ Err Bad
   block_more some = block_left n fields projection (rest start) enough g.0 (rest here) some g.1
 
-pub block_fault : (n : ℕ) (fields : List AvroField) (projection : List Bool) (start : List ℕ) → n ≤ length start → (d : DecodeFault) → IsBad d (rows n fields projection start) → IsBad d (block n fields projection start)
+pub block_fault : (n : ℕ) (fields : List AvroField) (projection : List Bool) (start : List ℕ) → n ≤ length start → (d : BlockFault) → IsFault d (rows n fields projection start) → IsFault d (block n fields projection start)
 block_fault n fields projection start enough Bytes e = block_err n fields projection start enough Bad e
+block_fault n fields projection start enough NegativeSize e = block_err n fields projection start enough Negative e
 block_fault n fields projection start enough Memory e = tt

@@ -8,31 +8,20 @@ use Rattle.arrow_types.specs.declared.slot.Slot.{Slot}
 use Rattle.arrow_array.specs.declared.array.Array.{Array}
 use Rattle.arrow_array.specs.Arrays.{array_slots}
 use Rattle.arrow_array.specs.Chunks.{AreSameLength}
-use Rattle.arrow_builders.specs.declared.array.MutableArray.{MutableArray}
-use Rattle.arrow_builders.specs.Nodes.{IsEmpty}
-use Rattle.arrow_builders.specs.MutableArrays.{builder_kind, builder_slots}
 use Rattle.avro_schema.specs.declared.schema.AvroField.{AvroField}
 use Rattle.avro_grammar.specs.Rows.{Pieces, Rows, column, total_kept, total_seen, total_hidden}
-use Rattle.avro_reference.specs.Skip.{Bad}
+use Rattle.avro_grammar.specs.NegativeSize.{NegativeSize}
+use Rattle.avro_reference.specs.Skip.{Bad, Negative}
 use Rattle.avro_reference.specs.Block.{block}
-use Rattle.avro_reference.proofs.Exact.{block_gives_rows, block_is_bad}
+use Rattle.avro_reference.proofs.Exact.{block_gives_rows, block_is_bad, block_is_negative}
 use Rattle.avro_decode.specs.Columns.{columns, AreColumns}
-use Rattle.avro_decode.specs.Decoding.{grown_by}
 use Rattle.avro_decode.specs.Counting.{ShowsAtMost, CallsAtMost}
-use Rattle.avro_decode.specs.Costs.{Costs}
-use Rattle.avro_decode.specs.Decoding.{IsBad, AreWide}
-use Rattle.avro_decode.specs.Capacity.{AtNodes}
-use Rattle.avro_decode.specs.declared.fault.DecodeFault.{DecodeFault}
-use Rattle.avro_decode.specs.declared.fault.DecodeFault.TheVariants.{Bytes}
+use Rattle.avro_skip.specs.Costs.{Costs}
+use Rattle.avro_decode.specs.Decoding.{grown_by, IsFault, AreWide}
+use Rattle.avro_decode.specs.declared.fault.BlockFault.{BlockFault}
+use Rattle.avro_decode.specs.declared.fault.BlockFault.TheVariants.{Bytes, NegativeSize as BelowZero}
 use Rattle.avro_decode.specs.Refusals.{AreCounted}
-use Rattle.avro_decode.specs.Supported.{IsSupportedKind}
-use Rattle.avro_decode.proofs.Capacity.{empty_slots}
-use Rattle.avro_decode.proofs.Growth.{AreEmpty, grown_columns, length-grown_by}
-
-pub slots_empty : (builders : List MutableArray) → All IsSupportedKind (map builder_kind builders) → AtNodes IsEmpty builders → AreEmpty (map builder_slots builders)
-slots_empty [] t h = tt
-slots_empty (b ∷ bs) t h =
-    (empty_slots b (t 0 (builder_kind b) (omega arith)) (h 0 b (omega arith)), slots_empty bs (λ k d lt. t (suc k) d (omega (arith, lt))) (λ k d lt. h (suc k) d (omega (arith, lt))))
+use Rattle.avro_decode.proofs.Columns.{AreEmpty, grown_columns, length-grown_by}
 
 wide_same : (m n : ℕ) (rs : List (List Slot)) → m ≡ n → AreWide m rs → AreWide n rs
 wide_same m n rs e w = rw (sym e) w
@@ -44,10 +33,16 @@ block_columns n fields projection before now start h g =
     let l : length now ≡ length before = ap length g.2 ∙ length-grown_by table before in
     (table, rows.1, g.2 ∙ grown_columns table before h (wide_same (length now) (length before) table l g.3) ∙ ap (λ (cs : List (List Slot)). columns (length cs) table) (sym g.2))
 
-pub block_refused : (n : ℕ) (fields : List AvroField) (projection : List Bool) (start : List ℕ) (d : DecodeFault) → d ≡ Bytes → AreCounted n start → IsBad d (block n fields projection start) → AreCounted n start × ((table : List (List Slot)) → Rows n fields projection start table → ⊥)
+pub block_refused : (n : ℕ) (fields : List AvroField) (projection : List Bool) (start : List ℕ) (d : BlockFault) → d ≡ Bytes → AreCounted n start → IsFault d (block n fields projection start) → AreCounted n start × ((table : List (List Slot)) → Rows n fields projection start table → ⊥) × (NegativeSize n fields projection start → ⊥)
 block_refused n fields projection start d is c e =
-    let bad : block n fields projection start ≡ Err Bad = subst (λ (x : DecodeFault). IsBad x (block n fields projection start)) is e in
-    (c, λ table r. ((block_is_bad n fields projection start).0 bad).0 table c.1 r)
+    let bad : block n fields projection start ≡ Err Bad = subst (λ (x : BlockFault). IsFault x (block n fields projection start)) is e in
+    let b = (block_is_bad n fields projection start).0 bad in
+    (c, λ table r. b.0 table c.1 r, b.1)
+
+pub block_negative : (n : ℕ) (fields : List AvroField) (projection : List Bool) (start : List ℕ) (d : BlockFault) → d ≡ BelowZero → AreCounted n start → IsFault d (block n fields projection start) → AreCounted n start × NegativeSize n fields projection start
+block_negative n fields projection start d is c e =
+    let negative : block n fields projection start ≡ Err Negative = subst (λ (x : BlockFault). IsFault x (block n fields projection start)) is e in
+    (c, (block_is_negative n fields projection start).0 negative)
 
 -- ---- what a block costs
 

@@ -1,13 +1,9 @@
 -- What builders hold, and the spare capacity that they have, at each of their nodes.
-use Rattle.std.specs.Prelude.{ℕ, List, All, sum_by}
+use Rattle.std.specs.Prelude.{ℕ, List, All}
 use Rattle.std.specs.List.{AllZip}
 use Rattle.arrow_builders.specs.Nodes.{Node, KeepsCapacity, Emptied, HasSpare, IsEmpty}
 use Rattle.arrow_builders.specs.declared.array.MutableArray.{MutableArray}
 use Rattle.arrow_builders.specs.MutableArrays.{nodes}
-
--- the content bytes of nodes
-abbrev pub content : List Node → ℕ
-content xs = sum_by (λ x. x.bytes) xs
 
 -- each node of each builder has P
 abbrev pub AtNodes : (Node → Type 0) → List MutableArray → Type 0
@@ -16,9 +12,6 @@ AtNodes P builders = All (λ b. All P (nodes b)) builders
 -- R holds between each node of each builder and the same node later
 abbrev pub BetweenNodes : (Node → Node → Type 0) → List MutableArray → List MutableArray → Type 0
 BetweenNodes R old new = AllZip (λ b c. AllZip R (nodes b) (nodes c)) old new
-
-abbrev pub total_content : List MutableArray → ℕ
-total_content builders = sum_by (λ b. content (nodes b)) builders
 
 -- Builders that had spare capacity for n, then lost none of it but by growing, and then were emptied, are
 -- empty and have spare capacity for n.

@@ -1,67 +1,45 @@
 -- What a call of the decoder gives, in terms of a reading function on the bytes ahead; out of memory says nothing
 -- of the bytes. Contracts of private functions alone cite this file: what `deserialize` promises is told without it.
-use Rattle.std.specs.Prelude.{◌≡◌, ◌+◌, ℕ, ℤ, pos, negsuc, List, [], ◌∷◌, ◌++◌, length, map, Option, Some, None, Result, Ok, Err, if◌then◌else◌}
-use Rattle.std.specs.Str.{IsUtf8}
+use Rattle.std.specs.Prelude.{◌≡◌, ℕ, zero, suc, ◌+◌, ◌-◌, ℤ, pos, Bool, true, false, List, [], ◌∷◌, ◌++◌, length, map, Option, Some, None, Result, Ok, Err, if◌then◌else◌}
 use Rattle.arrow_types.specs.declared.slot.Slot.{Slot}
 use Rattle.arrow_types.specs.declared.slot.Slot.TheVariants as slot
 use Rattle.avro_schema.specs.declared.schema.Schema.{Schema}
+use Rattle.avro_grammar.specs.Skips.{Passed}
 use Rattle.avro_grammar.specs.Rows.{Pieces, total_kept, total_seen, total_hidden}
-use Rattle.avro_grammar.specs.Skips.{nothing, Passed}
 use Rattle.avro_grammar.specs.AndThen.{◌>>=◌}
-use Rattle.avro_reference.specs.Prefix.{Reader, number_at}
-use Rattle.avro_grammar.specs.Encodes.{is_null}
-use Rattle.avro_reference.specs.Read.{read}
-use Rattle.avro_reference.specs.Skip.{Fault, Bad, Parser, skip}
-use Rattle.avro_decode.specs.Costs.{Costs}
-use Rattle.avro_decode.specs.declared.fault.DecodeFault.{DecodeFault}
-use Rattle.avro_decode.specs.declared.fault.DecodeFault.TheVariants.{Bytes, Memory}
+use Rattle.avro_reference.specs.Prefix.{Reader, number_at, is_count}
+use Rattle.avro_reference.specs.Read.{items, blocks, read}
+use Rattle.avro_reference.specs.Skip.{Fault, Bad, Negative}
+use Rattle.avro_skip.specs.Costs.{Costs}
+use Rattle.avro_flat.specs.Decoding.{Fails}
+use Rattle.avro_flat.specs.declared.fault.DecodeFault.{DecodeFault}
+use Rattle.avro_decode.specs.declared.fault.BlockFault.{BlockFault}
+use Rattle.avro_decode.specs.declared.fault.BlockFault.TheVariants.{Bytes, NegativeSize, Memory}
 
-abbrev pub Fails : {Y : Type 0} → DecodeFault → Option Y → Type 0
-Fails Bytes reading = reading ≡ None
-Fails Memory reading = Unit {0}
+-- ---- values with parts
 
-abbrev pub Gives : {X Y : Type 0} → (X → Y) → Result X DecodeFault → Option Y → Type 0
-Gives view (Ok x) reading = reading ≡ Some (view x)
-Gives view (Err e) reading = Fails e reading
+-- null, which has no bytes, or a value
+abbrev pub null_or : Bool → Schema → Reader Slot
+null_or null s bytes = if null then Some (slot.Null, bytes) else read s bytes
 
--- why a string is not pushed
-abbrev pub IsStringFault : DecodeFault → List ℕ → Type 0
-IsStringFault Bytes string = IsUtf8 string → ⊥
-IsStringFault Memory string = Unit {0}
+-- the member at an index, where null is the first one or the second
+abbrev pub pair_at : ℤ → Bool → Schema → Reader Slot
+pair_at (pos zero) null_first s bytes = null_or null_first s bytes
+pair_at (pos (suc zero)) null_first s bytes = null_or (if null_first then false else true) s bytes
+pair_at _ null_first s bytes = None
 
--- a length is a number of 0 or more
-abbrev pub as_length : ℤ → Option ℕ
-as_length (pos n) = Some n
-as_length (negsuc n) = None
+-- n items behind their size in bytes
+abbrev pub sized_items : Reader Slot → ℕ → List Slot → Reader (List Slot)
+sized_items f n old bytes = do
+  size ← number_at bytes
+  xs ← items f n old size.1
+  if is_count size.0 (length size.1 - length xs.1) then Some xs else None
 
-unfoldable pub length_at : Reader ℕ
-length_at bytes = do
-  v ← number_at bytes
-  n ← as_length v.0
-  Some (n, v.1)
+-- enough fuel for each block
+abbrev pub all_blocks : Reader Slot → List Slot → Reader (List Slot)
+all_blocks f old bytes = blocks f (suc (length bytes)) old bytes
 
--- a union's member, where null has no bytes
-abbrev pub member_at : Schema → Reader Slot
-member_at s bytes = if is_null s then Some (slot.Null, bytes) else read s bytes
-
-abbrev pub passed_member : Schema → Parser Passed
-passed_member s bytes = if is_null s then Ok (nothing, bytes) else skip s bytes
-
--- ---- values that are skipped, rows, and blocks: no size below 0 is ever the fault
-
-abbrev pub IsBad : {Y : Type 0} → DecodeFault → Result Y Fault → Type 0
-IsBad Bytes parsing = parsing ≡ Err Bad
-IsBad Memory parsing = Unit {0}
-
--- rest is what is after the bytes
-abbrev pub Jumps : {X : Type 0} → List ℕ → Result X DecodeFault → Result (List ℕ) Fault → Type 0
-Jumps rest (Ok _) jumping = jumping ≡ Ok rest
-Jumps rest (Err e) jumping = IsBad e jumping
-
--- the value is passed, for what it costs
-abbrev pub Passes : {X Y : Type 0} → (X → List ℕ) → (X → ℕ) → (X → ℕ) → X → X → Result Y DecodeFault → Result (Passed × List ℕ) Fault → Type 0
-Passes rest shown calls old new (Ok _) parsing = (p : Passed) × (parsing ≡ Ok (p, rest new)) × Costs rest shown calls old new p.seen p.hidden
-Passes rest shown calls old new (Err e) parsing = IsBad e parsing
+-- ---- columns
 
 -- each column with its slot of a row at its end
 abbrev pub grown : List (List Slot) → List Slot → List (List Slot)
@@ -73,23 +51,55 @@ abbrev pub grown_by : List (List Slot) → List (List Slot) → List (List Slot)
 grown_by cs [] = cs
 grown_by cs (row ∷ rows) = grown_by (grown cs row) rows
 
+-- the fields of a record: each child's column has its slot of the row at its end
+abbrev pub GivesFields : {X : Type 0} → List (List Slot) → List (List Slot) → List ℕ → Result X DecodeFault → Option (List Slot × List ℕ) → Type 0
+GivesFields before now rest (Ok x) reading = (row : List Slot) × (reading ≡ Some (row, rest)) × (now ≡ grown before row) × (length row ≡ length before)
+GivesFields before now rest (Err e) reading = Fails e reading
+
+-- ---- rows, and blocks
+
+abbrev pub IsFault : {Y : Type 0} → BlockFault → Result Y Fault → Type 0
+IsFault Bytes parsing = parsing ≡ Err Bad
+IsFault NegativeSize parsing = parsing ≡ Err Negative
+IsFault Memory parsing = Unit {0}
+
+-- the answer is not out of memory
+abbrev pub BlockHasMemory : {X : Type 0} → Result X BlockFault → Type 0
+BlockHasMemory (Err Memory) = ⊥
+BlockHasMemory _ = Unit {0}
+
+-- what reading a kept field gives
+abbrev pub FieldFails : {Y : Type 0} → BlockFault → Option Y → Type 0
+FieldFails Bytes reading = reading ≡ None
+FieldFails NegativeSize reading = ⊥
+FieldFails Memory reading = Unit {0}
+
+abbrev pub GivesField : {X Y : Type 0} → (X → Y) → Result X BlockFault → Option Y → Type 0
+GivesField view (Ok x) reading = reading ≡ Some (view x)
+GivesField view (Err e) reading = FieldFails e reading
+
+-- what passing another field gives
+abbrev pub PassesField : {X Y : Type 0} → (X → List ℕ) → (X → ℕ) → (X → ℕ) → X → X → Result Y BlockFault → Result (Passed × List ℕ) Fault → Type 0
+PassesField rest shown calls old new (Ok _) parsing = (p : Passed) × (parsing ≡ Ok (p, rest new)) × Costs rest shown calls old new p.seen p.hidden
+PassesField rest shown calls old new (Err e) parsing = IsFault e parsing
+
 -- the columns before and now: each kept field's slot has come to the end of its column
-abbrev pub GivesRow : {X Y : Type 0} → (X → List ℕ) → (X → ℕ) → (X → ℕ) → X → X → List (List Slot) → List (List Slot) → Result Y DecodeFault → Result (Pieces × List ℕ) Fault → Type 0
+abbrev pub GivesRow : {X Y : Type 0} → (X → List ℕ) → (X → ℕ) → (X → ℕ) → X → X → List (List Slot) → List (List Slot) → Result Y BlockFault → Result (Pieces × List ℕ) Fault → Type 0
 GivesRow rest shown calls old new before now (Ok _) parsing =
     (y : Pieces) × (parsing ≡ Ok (y, rest new)) × (now ≡ grown before y.slots) × (length y.slots ≡ length now) × Costs rest shown calls old new (y.kept + y.passed.seen) y.passed.hidden
-GivesRow rest shown calls old new before now (Err e) parsing = IsBad e parsing
+GivesRow rest shown calls old new before now (Err e) parsing = IsFault e parsing
 
 abbrev pub AreWide : ℕ → List (List Slot) → Type 0
 AreWide n [] = Unit {0}
 AreWide n (row ∷ rows) = (length row ≡ n) × AreWide n rows
 
-abbrev pub GivesRows : {X Y : Type 0} → (X → List ℕ) → (X → ℕ) → (X → ℕ) → X → X → List (List Slot) → List (List Slot) → Result Y DecodeFault → Result (List Pieces × List ℕ) Fault → Type 0
+abbrev pub GivesRows : {X Y : Type 0} → (X → List ℕ) → (X → ℕ) → (X → ℕ) → X → X → List (List Slot) → List (List Slot) → Result Y BlockFault → Result (List Pieces × List ℕ) Fault → Type 0
 GivesRows rest shown calls old new before now (Ok _) parsing =
     (ys : List Pieces) × (parsing ≡ Ok (ys, rest new)) × (now ≡ grown_by before (map (λ y. y.slots) ys)) × AreWide (length now) (map (λ y. y.slots) ys) × Costs rest shown calls old new (total_kept ys + total_seen ys) (total_hidden ys)
-GivesRows rest shown calls old new before now (Err e) parsing = IsBad e parsing
+GivesRows rest shown calls old new before now (Err e) parsing = IsFault e parsing
 
 -- nothing is after a block
-abbrev pub GivesBlock : {X Y : Type 0} → (X → List ℕ) → (X → ℕ) → (X → ℕ) → X → X → List (List Slot) → List (List Slot) → Result Y DecodeFault → Result (List Pieces) Fault → Type 0
+abbrev pub GivesBlock : {X Y : Type 0} → (X → List ℕ) → (X → ℕ) → (X → ℕ) → X → X → List (List Slot) → List (List Slot) → Result Y BlockFault → Result (List Pieces) Fault → Type 0
 GivesBlock rest shown calls old new before now (Ok _) reading =
     (rest new ≡ []) × (ys : List Pieces) × (reading ≡ Ok ys) × (now ≡ grown_by before (map (λ y. y.slots) ys)) × AreWide (length now) (map (λ y. y.slots) ys) × Costs rest shown calls old new (total_kept ys + total_seen ys) (total_hidden ys)
-GivesBlock rest shown calls old new before now (Err e) reading = IsBad e reading
+GivesBlock rest shown calls old new before now (Err e) reading = IsFault e reading

@@ -1,9 +1,10 @@
 pub mod Capacity
 pub mod Columns
-pub mod Costs
 pub mod Counting
 pub mod Decoding
-pub mod Growing
-pub mod Inference
+pub mod Growth
+pub mod Making
+pub mod Masks
 pub mod Refusals
+pub mod Suits
 pub mod Supported

@@ -3,27 +3,33 @@ use Rattle.std.specs.Prelude.{◌≡◌, ℕ, ◌<◌, ◌≤◌, ◌⊎◌, Lis
 use Rattle.arrow_types.specs.declared.types.Field.{Field}
 use Rattle.arrow_types.specs.declared.slot.Slot.{Slot}
 use Rattle.arrow_core.specs.declared.error.Error.{Error}
-use Rattle.arrow_core.specs.declared.error.Error.TheVariants.{InvalidArgumentError, NotYetImplemented, ExternalFormat, Overflow, OutOfMemory}
+use Rattle.arrow_core.specs.declared.error.Error.TheVariants.{InvalidArgumentError, NotYetImplemented, ExternalFormat, OutOfSpec, Overflow, OutOfMemory}
 use Rattle.arrow_core.specs.declared.error.Reason.TheVariants as reason
 use Rattle.avro_schema.specs.declared.schema.AvroField.{AvroField}
+use Rattle.avro_grammar.specs.Carried.{CarriedList}
+use Rattle.avro_grammar.specs.NegativeSize.{NegativeSize}
 use Rattle.avro_grammar.specs.Rows.{Rows}
-use Rattle.avro_grammar.specs.ValidBlock.{HaveSameLength, small_limit, ValidBlock}
+use Rattle.avro_grammar.specs.ValidBlock.{kept, HaveSameLength, small_limit, ValidBlock}
 use Rattle.avro_decode.specs.Supported.{AllSupported, AllTyped}
 
--- the fields, the Avro fields and the projection belong together: what `CanBeColumns` asks of them, of schemas
--- that the decoder supports and of small types alone
+-- the schemas are carried, and the kept ones supported
+abbrev pub AreSupported : List AvroField → List Bool → Type 0
+AreSupported avro_fields projection = CarriedList avro_fields × AllSupported (kept avro_fields projection)
+
+-- the fields, the Avro fields and the projection belong together: what `CanBeColumns` asks of them, of small types
+-- alone, and of kept schemas that the decoder supports
 pub record BelongTogether (fields : List Field) (avro_fields : List AvroField) (projection : List Bool) : Type 0 where
   pub lengths : HaveSameLength fields avro_fields projection
   pub some : 0 < length fields
-  pub supported : AllSupported avro_fields
+  pub supported : AreSupported avro_fields projection
   pub typed : AllTyped fields avro_fields
 
 -- why they do not, in this order
 abbrev pub FieldsRefused : List Field → List AvroField → List Bool → Error → Type 0
 FieldsRefused fields avro_fields projection (InvalidArgumentError reason.Lengths) = HaveSameLength fields avro_fields projection → ⊥
 FieldsRefused fields avro_fields projection (NotYetImplemented reason.NoField) = HaveSameLength fields avro_fields projection × (fields ≡ [])
-FieldsRefused fields avro_fields projection (NotYetImplemented reason.NotCarried) = HaveSameLength fields avro_fields projection × (0 < length fields) × (AllSupported avro_fields → ⊥)
-FieldsRefused fields avro_fields projection (InvalidArgumentError reason.FieldType) = HaveSameLength fields avro_fields projection × (0 < length fields) × AllSupported avro_fields × (AllTyped fields avro_fields → ⊥)
+FieldsRefused fields avro_fields projection (NotYetImplemented reason.NotCarried) = HaveSameLength fields avro_fields projection × (0 < length fields) × (AreSupported avro_fields projection → ⊥)
+FieldsRefused fields avro_fields projection (InvalidArgumentError reason.FieldType) = HaveSameLength fields avro_fields projection × (0 < length fields) × AreSupported avro_fields projection × (AllTyped fields avro_fields → ⊥)
 FieldsRefused fields avro_fields projection OutOfMemory = Unit {0}
 FieldsRefused fields avro_fields projection _ = ⊥
 
@@ -35,7 +41,8 @@ AreCounted n bytes = (length bytes ≤ small_limit) × (n ≤ length bytes)
 abbrev pub BytesRefused : ℕ → List AvroField → List Bool → List ℕ → Error → Type 0
 BytesRefused n avro_fields projection bytes Overflow = small_limit < length bytes
 BytesRefused n avro_fields projection bytes (ExternalFormat reason.Rows) = (length bytes ≤ small_limit) × (length bytes < n)
-BytesRefused n avro_fields projection bytes (ExternalFormat reason.BlockBytes) = AreCounted n bytes × ((table : List (List Slot)) → Rows n avro_fields projection bytes table → ⊥)
+BytesRefused n avro_fields projection bytes (ExternalFormat reason.BlockBytes) = AreCounted n bytes × ((table : List (List Slot)) → Rows n avro_fields projection bytes table → ⊥) × (NegativeSize n avro_fields projection bytes → ⊥)
+BytesRefused n avro_fields projection bytes (OutOfSpec reason.NegativeSize) = AreCounted n bytes × NegativeSize n avro_fields projection bytes
 BytesRefused n avro_fields projection bytes OutOfMemory = Unit {0}
 BytesRefused n avro_fields projection bytes _ = ⊥
 
@@ -47,11 +54,11 @@ BlockRefused fields n avro_fields projection bytes e =
 -- ---- valid blocks
 
 -- what the decoder supports: its schemas, small types, and no more bytes than offsets of 32 bits count
-pub record Supports (fields : List Field) (avro_fields : List AvroField) (bytes : List ℕ) : Type 0 where
-  pub schemas : AllSupported avro_fields
+pub record Supports (fields : List Field) (avro_fields : List AvroField) (projection : List Bool) (bytes : List ℕ) : Type 0 where
+  pub schemas : AllSupported (kept avro_fields projection)
   pub types : AllTyped fields avro_fields
   pub few : length bytes ≤ small_limit
 
 -- a valid block that the decoder supports is refused for out of memory alone
 abbrev pub ValidBlocksAreRead : Type 0
-ValidBlocksAreRead = (fields : List Field) (n : ℕ) (avro_fields : List AvroField) (projection : List Bool) (bytes : List ℕ) (e : Error) → ValidBlock n bytes fields avro_fields projection → Supports fields avro_fields bytes → BlockRefused fields n avro_fields projection bytes e → e ≡ OutOfMemory
+ValidBlocksAreRead = (fields : List Field) (n : ℕ) (avro_fields : List AvroField) (projection : List Bool) (bytes : List ℕ) (e : Error) → ValidBlock n bytes fields avro_fields projection → Supports fields avro_fields projection bytes → BlockRefused fields n avro_fields projection bytes e → e ≡ OutOfMemory

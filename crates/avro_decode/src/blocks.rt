@@ -3,17 +3,27 @@
 ghost use Rattle.std.specs.Prelude.{◌≡◌, ◌≤◌, ◌+◌, ◌*◌, [], length, map, All, OnOk, IfOk, IfErr};
 ghost use Rattle.arrow_core.specs.declared.error.Error.TheVariants.{OutOfMemory};
 ghost use Rattle.arrow_array.specs.Arrays.{array_type, array_slots};
+ghost use Rattle.arrow_builders.specs.Fits.{TypesFit};
 ghost use Rattle.arrow_builders.specs.Nodes.{IsEmpty, KeepsCapacity, HasSpare};
-ghost use Rattle.arrow_builders.specs.MutableArrays.{builder_type, builder_slots, builder_kind};
-ghost use Rattle.avro_decode.specs.Supported.{AllSupported, AllTyped, IsSupportedKind, kept_kinds, kept_types};
+ghost use Rattle.arrow_builders.specs.MutableArrays.{builder_type, builder_slots};
+ghost use Rattle.arrow_builders.specs.Shapes.{shape};
+ghost use Rattle.arrow_builders.specs.Tight.{IsTight};
 ghost use Rattle.avro_schema.specs.Number.{MovesForward};
-ghost use Rattle.avro_grammar.specs.ValidBlock.{ValidBlock};
+ghost use Rattle.avro_grammar.specs.Carried.{CarriedList};
+ghost use Rattle.avro_grammar.specs.ValidBlock.{kept, ValidBlock};
+ghost use Rattle.avro_reference.specs.Block.{block};
+ghost use Rattle.avro_skip.specs.Costs.{passed, Moves};
+ghost use Rattle.avro_decode.specs.Capacity.{AtNodes, BetweenNodes};
 ghost use Rattle.avro_decode.specs.Columns.{AreColumns};
 ghost use Rattle.avro_decode.specs.Counting.{ShowsAtMost, CallsAtMost};
+ghost use Rattle.avro_decode.specs.Decoding.{BlockHasMemory, GivesBlock};
+ghost use Rattle.avro_decode.specs.Growth.{ChildrenGrow, ChildrenReach, ChildrenHaveSpare};
+ghost use Rattle.avro_decode.specs.Masks.{total, AllPaid};
 ghost use Rattle.avro_decode.specs.Refusals.{BelongTogether, AreCounted, BytesRefused, BlockRefused};
-ghost use Rattle.avro_decode.specs.Capacity.{AtNodes, BetweenNodes, total_content};
+ghost use Rattle.avro_decode.specs.Suits.{AllSuit};
+ghost use Rattle.avro_decode.specs.Supported.{AllTyped, kept_types};
 
-use crate::fault::DecodeFault;
+use crate::fault::BlockFault;
 use crate::prepare::make_builders;
 use crate::rows::decode_block;
 use arrow_array::{Array, Chunk};
@@ -21,7 +31,9 @@ use arrow_builders::MutableArray;
 use arrow_core::{Error, Reason, Result};
 use arrow_types::Field;
 use avro_schema::{AvroField, Block, Cursor, SliceCursor};
+use avro_skip::Lent;
 use std::alloc::Global;
+use std::marker::PhantomData;
 
 /// The most bytes of a block.
 const MOST_BYTES: usize = 2_147_483_647;
@@ -33,10 +45,12 @@ const MOST_BYTES: usize = 2_147_483_647;
 /// the kept slots of its rows. In this order:
 /// `InvalidArgumentError(Lengths)` where the lengths of the three lists differ,
 /// `NotYetImplemented(NoField)` where there is no field, `NotYetImplemented(NotCarried)` where a
-/// schema isn't carried, `InvalidArgumentError(FieldType)` where a field hasn't the type and the
-/// nullability of its schema, `Overflow` where the block has more than 2147483647 bytes,
-/// `ExternalFormat(Rows)` where it states more rows than it has bytes, and
-/// `ExternalFormat(BlockBytes)` where its bytes aren't its rows. `OutOfMemory` at any time.
+/// schema isn't carried or a kept one isn't supported, `InvalidArgumentError(FieldType)` where a
+/// field hasn't the type and the nullability of its schema, `Overflow` where the block has more
+/// than 2147483647 bytes, `ExternalFormat(Rows)` where it states more rows than it has bytes,
+/// `OutOfSpec(NegativeSize)` where after whole rows, and whole fields of one more, a block of
+/// an array that isn't kept states a size below 0, and `ExternalFormat(BlockBytes)` where its bytes
+/// aren't its rows otherwise. `OutOfMemory` at any time.
 pub fn deserialize(
     alloc: Global,
     block: &Block,
@@ -65,18 +79,22 @@ pub fn deserialize(
 
 /// Reads `rows` rows from all bytes ahead, each kept value into one more slot of its builder.
 ///
-/// The builders are empty at every node, and of the kinds and data types that `make_builders` gives
-/// for these lists. Ok: no byte is left, and the builders hold the columns. The refusals are those
-/// of `deserialize` from `Overflow` on, over the bytes ahead, and `OutOfMemory`.
+/// The builders are as `make_builders` gives them for these lists, or as `clear` leaves such: of
+/// kinds that suit their schemas, of the fields' data types, tight, and empty at every node. Ok: no
+/// byte is left, and the builders hold the columns. The refusals are those of `deserialize` from
+/// `Overflow` on, over the bytes ahead, and `OutOfMemory`.
 ///
-/// With n bytes ahead, on every answer: kinds and data types of the builders stay; no node has more
+/// With n bytes ahead, on every answer: kinds and data types stay at every node; no node has more
 /// than n slots, all nodes together have no more than n content bytes, and none has lost capacity;
-/// the cursor has only moved forward, and was called at most 2n + 1 times. With spare capacity for
-/// n slots and n content bytes at each node there is no `OutOfMemory`. After an Err the builders
-/// take only `node_lengths`, `clear` and drop.
+/// the cursor has only moved forward, and was called at most 2n + 1 times. Of content bytes those
+/// of fixed-size binary values beneath a union are left out: these are as many as their slots times
+/// their size. With spare capacity for n slots and n content bytes at each node, and no such
+/// values, there is no `OutOfMemory`. After an Err the builders' slots aren't told; `clear` makes
+/// them usable again.
 ///
-/// On Ok no more bytes were shown than those of kept fields and those that tell how long the others
-/// are: strings that aren't kept are skipped.
+/// On Ok no more bytes were shown than those of kept fields, those that tell how long the others
+/// are, and one for each skipped boolean: what isn't kept is skipped. Bytes and calls are told as
+/// the cursor counts them, up to the last value of its counts.
 #[tactic(auto, using(crate::proofs::Sets::wholes))]
 pub fn deserialize_into<'a, C: Cursor<'a>>(
     cursor: &mut C,
@@ -87,12 +105,14 @@ pub fn deserialize_into<'a, C: Cursor<'a>>(
     builders: &mut [MutableArray],
 ) -> Result<()>
     requires lengths { length avro_fields.now ≡ length projection.now }
-    requires supported { AllSupported avro_fields.now }
+    requires carried { CarriedList avro_fields.now }
     requires typed { AllTyped fields.now avro_fields.now }
     requires data_types { map builder_type builders.old ≡ kept_types fields.now projection.now }
-    requires kinds { map builder_kind builders.old ≡ kept_kinds avro_fields.now projection.now }
+    requires suits { AllSuit (kept avro_fields.now projection.now) builders.old }
+    requires tight { All IsTight builders.old }
     requires empty { AtNodes IsEmpty builders.old }
-    ensures kinds { map builder_kind builders.new ≡ map builder_kind builders.old }
+    ensures shapes { map shape builders.new ≡ map shape builders.old }
+    ensures tight { OnOk result (All IsTight builders.new) }
     ensures data_types { map builder_type builders.new ≡ map builder_type builders.old }
     ensures counted { OnOk result (AreCounted rows (C.rest cursor.old)) }
     ensures columns { OnOk result (AreColumns rows avro_fields.now projection.now
@@ -111,9 +131,11 @@ pub fn deserialize_into<'a, C: Cursor<'a>>(
 
     // Growth is bounded by the bytes, and within reserved capacity memory never runs out.
     ensures slots { AtNodes (λ x. x.slots ≤ length (C.rest cursor.old)) builders.new }
-    ensures content { total_content builders.new ≤ length (C.rest cursor.old) }
+    ensures content { total (kept avro_fields.now projection.now) builders.new
+        ≤ length (C.rest cursor.old) }
     ensures capacity { BetweenNodes KeepsCapacity builders.old builders.new }
     ensures has_capacity { AtNodes (HasSpare (length (C.rest cursor.old))) builders.old
+        → AllPaid (kept avro_fields.now projection.now)
         → IfErr result (λ e. e ≡ OutOfMemory → ⊥) }
 {
     if cursor.left() > MOST_BYTES {
@@ -122,17 +144,51 @@ pub fn deserialize_into<'a, C: Cursor<'a>>(
     if rows > cursor.left() {
         return Err(Error::ExternalFormat(Reason::Rows));
     }
-    match decode_block(cursor, rows, avro_fields, projection, builders) {
+    match decode_lent(cursor, rows, avro_fields, projection, builders) {
         Ok(()) => Ok(()),
-        Err(DecodeFault::Bytes) => Err(Error::ExternalFormat(Reason::BlockBytes)),
-        Err(DecodeFault::Memory) => Err(Error::OutOfMemory),
+        Err(BlockFault::Bytes) => Err(Error::ExternalFormat(Reason::BlockBytes)),
+        Err(BlockFault::NegativeSize) => Err(Error::OutOfSpec(Reason::NegativeSize)),
+        Err(BlockFault::Memory) => Err(Error::OutOfMemory),
     }
 }
 
+/// Reads the rows of a whole block from a cursor that is lent once.
+fn decode_lent<'a, C: Cursor<'a>>(
+    cursor: &mut C,
+    rows: usize,
+    avro_fields: &[AvroField],
+    projection: &[bool],
+    builders: &mut [MutableArray],
+) -> std::result::Result<(), BlockFault>
+    requires lengths { length avro_fields.now ≡ length projection.now }
+    requires carried { CarriedList avro_fields.now }
+    requires suits { AllSuit (kept avro_fields.now projection.now) builders.old }
+    requires tight { All IsTight builders.old }
+    requires offsets { ChildrenReach (length (C.rest cursor.old))
+        (kept avro_fields.now projection.now) builders.old }
+    requires enough { rows ≤ length (C.rest cursor.old) }
+    ensures shapes { map shape builders.new ≡ map shape builders.old }
+    ensures tight { OnOk result (All IsTight builders.new) }
+    ensures grows { ChildrenGrow (passed (C.rest cursor.old) (C.rest cursor.new))
+        (kept avro_fields.now projection.now) builders.old builders.new }
+    ensures has_capacity { ChildrenHaveSpare (length (C.rest cursor.old))
+        (kept avro_fields.now projection.now) builders.old → BlockHasMemory result }
+    ensures moves { Moves C.rest C.calls cursor.old cursor.new }
+    ensures reads { GivesBlock C.rest C.shown C.calls cursor.old cursor.new
+        (map builder_slots builders.old) (map builder_slots builders.new) result
+        (block rows avro_fields.now projection.now (C.rest cursor.old)) }
+{
+    let mut lent = Lent {
+        cursor: &mut *cursor,
+        of: &PhantomData,
+    };
+    decode_block(&mut lent, rows, avro_fields, projection, builders)
+}
+
 /// The arrays of the builders, in order.
-#[tactic(auto, using(crate::proofs::Sets::frozen))]
 fn freeze(alloc: Global, builders: &mut [MutableArray]) -> Result<Vec<Array>>
-    requires supported { All IsSupportedKind (map builder_kind builders.old) }
+    requires tight { All IsTight builders.old }
+    requires types_fit { All (λ b. TypesFit (shape b)) builders.old }
     ensures data_types { IfOk result (λ arrays. map array_type arrays.items
         ≡ map builder_type builders.old) }
     ensures slots { IfOk result (λ arrays. map array_slots arrays.items

@@ -1,73 +1,95 @@
 //! Kept values, from the start of the bytes into builders.
 
-ghost use Rattle.std.specs.Prelude.{◌+◌, ◌≤◌, length, ◌≡◌, ◌⊎◌, Some, None, ◌++◌, ◌∷◌, [], All, MatchOption, MatchResult, OnSome, OnOk, OnErr, IsOk, IfErr};
-ghost use Rattle.std.specs.Str.{IsUtf8};
-ghost use Rattle.arrow_core.specs.declared.error.Error.TheVariants.{OutOfMemory};
-ghost use Rattle.arrow_types.specs.declared.slot.Slot.TheVariants.{String as StringSlot};
-ghost use Rattle.avro_grammar.specs.Encodes.{IsNull};
-ghost use Rattle.avro_reference.specs.Prefix.{number_at};
-ghost use Rattle.avro_reference.specs.Read.{push_one, boolean_at, int_at, long_at, string_at, read};
-ghost use Rattle.avro_reference.specs.Listed.{read_union_of};
-ghost use Rattle.arrow_builders.specs.Builders.{plain_node, content_node};
-ghost use Rattle.arrow_builders.specs.Nodes.{Takes, HasSpare};
-ghost use Rattle.arrow_builders.specs.MutableArrays.{builder_type, builder_slots, builder_kind, nodes};
-ghost use Rattle.avro_decode.specs.Supported.{IsSupportedFlat, SupportedSchema, SupportedMembersOf, IsSupportedKind, flat_kind, kind_of, members_kind_of};
-ghost use Rattle.avro_decode.specs.Costs.{passed, Moves, CostsKept, CostsNumber};
-ghost use Rattle.avro_decode.specs.Decoding.{Gives, IsStringFault, length_at, member_at};
-ghost use Rattle.avro_decode.specs.Growing.{OffsetsReach, Fills, Grows, HasMemory};
+ghost use Rattle.std.specs.Prelude.{◌+◌, ◌≤◌, ◌<◌, length, ◌≡◌, ◌≢◌, ◌++◌, ◌∷◌, [], map, drop, true, false, pos, OnOk, IfErr};
+ghost use Rattle.arrow_types.specs.declared.slot.Slot.TheVariants.{List as ListSlot};
+ghost use Rattle.arrow_builders.specs.Nested.{items_of, lists_node};
+ghost use Rattle.arrow_builders.specs.Nodes.{Takes};
+ghost use Rattle.arrow_builders.specs.MutableArrays.{builder_kind, builder_slots, nodes};
+ghost use Rattle.arrow_builders.specs.Shapes.{shape};
+ghost use Rattle.arrow_builders.specs.declared.array.MutableArray.{List, Struct};
+ghost use Rattle.avro_schema.specs.declared.schema.Schema.{Array};
+ghost use Rattle.avro_reference.specs.Read.{push_one, items, block_items, read};
+ghost use Rattle.avro_grammar.specs.ValidBlock.{small_limit};
+ghost use Rattle.avro_reference.specs.Listed.{read_union_of, read_fields_of, read_record_of};
+ghost use Rattle.avro_skip.specs.Costs.{passed, Moves, CostsKept};
+ghost use Rattle.avro_flat.specs.Decoding.{Gives, HasMemory};
+ghost use Rattle.avro_decode.specs.Decoding.{GivesFields, null_or, pair_at, sized_items, all_blocks};
+ghost use Rattle.avro_decode.specs.Masks.{mask};
+ghost use Rattle.avro_decode.specs.Growth.{mask_pair, masks, Grows, AllReach, HaveSpare, ChildrenGrow, ChildrenReach, ChildrenHaveSpare};
+ghost use Rattle.avro_decode.specs.Suits.{Suits, AllSuit};
+ghost use Rattle.avro_decode.specs.Growth.{SuitsPair, HasKindOf};
+ghost use Rattle.arrow_builders.specs.Tight.{IsTight, AllTight};
 
-use crate::carried::is_null;
-use crate::fault::DecodeFault;
-use crate::utf8::is_utf8;
-use arrow_builders::{MutableArray, MutableBooleanArray, MutablePrimitiveArray, MutableUtf8Array};
-use arrow_core::Error;
-use avro_schema::{AvroSchema, Cursor, next_number};
+use crate::flat::{decode_flat, is_null};
+use arrow_builders::{DynMutableListArray, DynMutableStructArray, MutableArray};
+use avro_flat::{DecodeFault, pushed};
+use avro_schema::{AvroField, AvroSchema};
+use avro_skip::Ahead;
 
-/// Reads one value of a supported schema into one more slot.
-#[inline(always)]
-#[tactic(auto, using(crate::proofs::Sets::unions))]
-pub fn decode_value<'a, C: Cursor<'a>>(
+/// Reads one value of a schema into one more slot.
+#[cycle(decode)]
+#[tactic(auto, using(crate::proofs::Sets::values))]
+pub fn decode_value<C: Ahead>(
     cursor: &mut C,
     schema: &AvroSchema,
     builder: &mut MutableArray,
 ) -> Result<(), DecodeFault>
-    requires supported { SupportedSchema schema.now }
-    requires kind { builder_kind builder.old ≡ kind_of schema.now }
-    requires offsets { All (OffsetsReach (length (C.rest cursor.old))) (nodes builder.old) }
-    ensures kind { builder_kind builder.new ≡ builder_kind builder.old }
-    ensures data_type { builder_type builder.new ≡ builder_type builder.old }
-    ensures grows { Grows (passed (C.rest cursor.old) (C.rest cursor.new)) (nodes builder.old)
-        (nodes builder.new) }
-    ensures has_capacity { All (HasSpare (length (C.rest cursor.old))) (nodes builder.old)
-        → HasMemory result }
+    requires kind { HasKindOf schema.now (builder_kind builder.old) }
+    requires suits { Suits schema.now (shape builder.old) }
+    requires tight { IsTight builder.old }
+    requires offsets { AllReach (mask true schema.now) (length (C.rest cursor.old))
+        (nodes builder.old) }
+    ensures shape { shape builder.new ≡ shape builder.old }
+    ensures tight { OnOk result (IsTight builder.new) }
+    ensures grows { Grows (mask false schema.now) (passed (C.rest cursor.old) (C.rest cursor.new))
+        (nodes builder.old) (nodes builder.new) }
+    ensures has_capacity { HaveSpare (mask false schema.now) (length (C.rest cursor.old))
+        (nodes builder.old) → HasMemory result }
+    ensures same { C.whose cursor.new ≡ C.whose cursor.old }
     ensures moves { Moves C.rest C.calls cursor.old cursor.new }
+    ensures shorter { OnOk result (length (C.rest cursor.new) < length (C.rest cursor.old)) }
     ensures costs { OnOk result (CostsKept C.rest C.shown C.calls cursor.old cursor.new) }
     ensures reads { Gives (λ _. (builder_slots builder.new, C.rest cursor.new)) result
         (push_one (builder_slots builder.old) (read schema.now (C.rest cursor.old))) }
 {
     match schema {
         AvroSchema::Union(members) => decode_union(cursor, members.as_slice(), builder),
+        AvroSchema::Array(item) => {
+            let MutableArray::List(lists) = builder else {
+                unreachable!()
+            };
+            decode_array(cursor, item.get(), lists)
+        }
+        AvroSchema::Record(record) => {
+            let MutableArray::Struct(records) = builder else {
+                unreachable!()
+            };
+            decode_record(cursor, record.fields.as_slice(), records)
+        }
         _ => decode_flat(cursor, schema, builder),
     }
 }
 
-#[inline(always)]
-#[tactic(auto, using(crate::proofs::Sets::choices))]
-fn decode_union<'a, C: Cursor<'a>>(
+#[cycle(decode)]
+#[tactic(auto, using(crate::proofs::Sets::values))]
+fn decode_union<C: Ahead>(
     cursor: &mut C,
     members: &[AvroSchema],
     builder: &mut MutableArray,
 ) -> Result<(), DecodeFault>
-    requires supported { SupportedMembersOf members.now }
-    requires kind { builder_kind builder.old ≡ members_kind_of members.now }
-    requires offsets { All (OffsetsReach (length (C.rest cursor.old))) (nodes builder.old) }
-    ensures kind { builder_kind builder.new ≡ builder_kind builder.old }
-    ensures data_type { builder_type builder.new ≡ builder_type builder.old }
-    ensures grows { Grows (passed (C.rest cursor.old) (C.rest cursor.new)) (nodes builder.old)
-        (nodes builder.new) }
-    ensures has_capacity { All (HasSpare (length (C.rest cursor.old))) (nodes builder.old)
-        → HasMemory result }
+    requires suits { SuitsPair members.now (shape builder.old) }
+    requires tight { IsTight builder.old }
+    requires offsets { AllReach (mask_pair members.now) (length (C.rest cursor.old))
+        (nodes builder.old) }
+    ensures shape { shape builder.new ≡ shape builder.old }
+    ensures tight { OnOk result (IsTight builder.new) }
+    ensures grows { Grows (mask_pair members.now) (passed (C.rest cursor.old) (C.rest cursor.new))
+        (nodes builder.old) (nodes builder.new) }
+    ensures has_capacity { HaveSpare (mask_pair members.now) (length (C.rest cursor.old))
+        (nodes builder.old) → HasMemory result }
+    ensures same { C.whose cursor.new ≡ C.whose cursor.old }
     ensures moves { Moves C.rest C.calls cursor.old cursor.new }
+    ensures shorter { OnOk result (length (C.rest cursor.new) < length (C.rest cursor.old)) }
     ensures costs { OnOk result (CostsKept C.rest C.shown C.calls cursor.old cursor.new) }
     ensures reads { Gives (λ _. (builder_slots builder.new, C.rest cursor.new)) result
         (push_one (builder_slots builder.old) (read_union_of members.now (C.rest cursor.old))) }
@@ -75,253 +97,322 @@ fn decode_union<'a, C: Cursor<'a>>(
     let [first, second] = members else {
         unreachable!()
     };
-    let Some(member) = read_number(cursor) else {
+    let Some(index) = cursor.number() else {
         return Err(DecodeFault::Bytes);
     };
-    if member == 0 {
-        decode_member(cursor, first, builder)
-    } else if member == 1 {
-        decode_member(cursor, second, builder)
+    if is_null(first) {
+        decode_pair(cursor, index, true, second, builder)
+    } else {
+        decode_pair(cursor, index, false, first, builder)
+    }
+}
+
+/// Reads the value of the member at a index, where null is the first one or the second.
+#[cycle(decode)]
+#[tactic(auto, using(crate::proofs::Sets::values))]
+fn decode_pair<C: Ahead>(
+    cursor: &mut C,
+    index: i64,
+    null_first: bool,
+    schema: &AvroSchema,
+    builder: &mut MutableArray,
+) -> Result<(), DecodeFault>
+    requires suits { Suits schema.now (shape builder.old) }
+    requires tight { IsTight builder.old }
+    requires offsets { AllReach (mask true schema.now) (length (C.rest cursor.old) + 1)
+        (nodes builder.old) }
+    ensures shape { shape builder.new ≡ shape builder.old }
+    ensures tight { OnOk result (IsTight builder.new) }
+    ensures grows { Grows (mask true schema.now) (passed (C.rest cursor.old) (C.rest cursor.new) + 1) (nodes builder.old) (nodes builder.new) }
+    ensures has_capacity { HaveSpare (mask true schema.now) (length (C.rest cursor.old) + 1)
+        (nodes builder.old) → HasMemory result }
+    ensures same { C.whose cursor.new ≡ C.whose cursor.old }
+    ensures moves { Moves C.rest C.calls cursor.old cursor.new }
+    ensures costs { OnOk result (CostsKept C.rest C.shown C.calls cursor.old cursor.new) }
+    ensures reads { Gives (λ _. (builder_slots builder.new, C.rest cursor.new)) result
+        (push_one (builder_slots builder.old) (pair_at index null_first schema.now (C.rest cursor.old))) }
+{
+    if index == 0 {
+        decode_member(cursor, null_first, schema, builder)
+    } else if index == 1 {
+        decode_member(cursor, !null_first, schema, builder)
     } else {
         Err(DecodeFault::Bytes)
     }
 }
 
-/// Reads the value of one member. Null has no bytes.
-#[inline(always)]
-#[tactic(auto, using(crate::proofs::Sets::nulls))]
-fn decode_member<'a, C: Cursor<'a>>(
+/// Reads one member. A null has no bytes.
+#[cycle(decode)]
+#[tactic(auto, using(crate::proofs::Sets::values))]
+fn decode_member<C: Ahead>(
     cursor: &mut C,
+    null: bool,
     schema: &AvroSchema,
     builder: &mut MutableArray,
 ) -> Result<(), DecodeFault>
-    requires supported { IsSupportedKind (builder_kind builder.old) }
-    requires member { IsNull schema.now ⊎ (IsSupportedFlat schema.now ×
-        (builder_kind builder.old ≡ flat_kind schema.now)) }
-    requires offsets { All (OffsetsReach (length (C.rest cursor.old))) (nodes builder.old) }
-    ensures kind { builder_kind builder.new ≡ builder_kind builder.old }
-    ensures data_type { builder_type builder.new ≡ builder_type builder.old }
-    ensures grows { Grows (passed (C.rest cursor.old) (C.rest cursor.new) + 1) (nodes builder.old)
-        (nodes builder.new) }
-    ensures has_capacity { All (HasSpare (length (C.rest cursor.old) + 1)) (nodes builder.old)
-        → HasMemory result }
+    requires suits { Suits schema.now (shape builder.old) }
+    requires tight { IsTight builder.old }
+    requires offsets { AllReach (mask true schema.now) (length (C.rest cursor.old) + 1)
+        (nodes builder.old) }
+    ensures shape { shape builder.new ≡ shape builder.old }
+    ensures tight { OnOk result (IsTight builder.new) }
+    ensures grows { Grows (mask true schema.now) (passed (C.rest cursor.old) (C.rest cursor.new) + 1) (nodes builder.old) (nodes builder.new) }
+    ensures has_capacity { HaveSpare (mask true schema.now) (length (C.rest cursor.old) + 1)
+        (nodes builder.old) → HasMemory result }
+    ensures same { C.whose cursor.new ≡ C.whose cursor.old }
     ensures moves { Moves C.rest C.calls cursor.old cursor.new }
     ensures costs { OnOk result (CostsKept C.rest C.shown C.calls cursor.old cursor.new) }
     ensures reads { Gives (λ _. (builder_slots builder.new, C.rest cursor.new)) result
-        (push_one (builder_slots builder.old) (member_at schema.now (C.rest cursor.old))) }
+        (push_one (builder_slots builder.old) (null_or null schema.now (C.rest cursor.old))) }
 {
-    if is_null(schema) {
+    if null {
         pushed(builder.push_null())
     } else {
-        decode_flat(cursor, schema, builder)
+        decode_value(cursor, schema, builder)
     }
 }
 
-#[inline(always)]
-#[tactic(auto, using(crate::proofs::Sets::kinds))]
-fn decode_flat<'a, C: Cursor<'a>>(
+/// Reads an array: the child takes its items, and then the list of them is pushed.
+#[cycle(decode)]
+#[tactic(auto, using(crate::proofs::Sets::values))]
+fn decode_array<C: Ahead>(
     cursor: &mut C,
-    schema: &AvroSchema,
-    builder: &mut MutableArray,
+    item: &AvroSchema,
+    lists: &mut DynMutableListArray,
 ) -> Result<(), DecodeFault>
-    requires flat { IsSupportedFlat schema.now }
-    requires kind { builder_kind builder.old ≡ flat_kind schema.now }
-    requires offsets { All (OffsetsReach (length (C.rest cursor.old))) (nodes builder.old) }
-    ensures kind { builder_kind builder.new ≡ builder_kind builder.old }
-    ensures data_type { builder_type builder.new ≡ builder_type builder.old }
-    ensures grows { Grows (passed (C.rest cursor.old) (C.rest cursor.new)) (nodes builder.old)
-        (nodes builder.new) }
-    ensures has_capacity { All (HasSpare (length (C.rest cursor.old))) (nodes builder.old)
-        → HasMemory result }
+    requires suits { Suits (Array item.now) (shape (List lists.old)) }
+    requires tight { IsTight (List lists.old) }
+    requires offsets { AllReach (mask true (Array item.now)) (length (C.rest cursor.old))
+        (nodes (List lists.old)) }
+    ensures shape { shape (List lists.new) ≡ shape (List lists.old) }
+    ensures tight { OnOk result (IsTight (List lists.new)) }
+    ensures grows { Grows (mask false (Array item.now)) (passed (C.rest cursor.old) (C.rest cursor.new)) (nodes (List lists.old)) (nodes (List lists.new)) }
+    ensures has_capacity { HaveSpare (mask false (Array item.now)) (length (C.rest cursor.old))
+        (nodes (List lists.old)) → HasMemory result }
+    ensures same { C.whose cursor.new ≡ C.whose cursor.old }
     ensures moves { Moves C.rest C.calls cursor.old cursor.new }
+    ensures shorter { OnOk result (length (C.rest cursor.new) < length (C.rest cursor.old)) }
     ensures costs { OnOk result (CostsKept C.rest C.shown C.calls cursor.old cursor.new) }
-    ensures reads { Gives (λ _. (builder_slots builder.new, C.rest cursor.new)) result
-        (push_one (builder_slots builder.old) (read schema.now (C.rest cursor.old))) }
+    ensures reads { Gives (λ _. (builder_slots (List lists.new), C.rest cursor.new)) result
+        (push_one (builder_slots (List lists.old)) (read (Array item.now) (C.rest cursor.old))) }
 {
-    match schema {
-        AvroSchema::Boolean => {
-            let MutableArray::Boolean(values) = builder else {
-                unreachable!()
-            };
-            decode_boolean(cursor, values)
+    decode_blocks(cursor, item, lists.mut_values())?;
+    pushed_list(lists)
+}
+
+/// Reads blocks of items, up to the number 0 that ends them.
+#[cycle(decode)]
+#[tactic(auto, using(crate::proofs::Sets::values))]
+fn decode_blocks<C: Ahead>(
+    cursor: &mut C,
+    item: &AvroSchema,
+    child: &mut MutableArray,
+) -> Result<(), DecodeFault>
+    requires suits { Suits item.now (shape child.old) }
+    requires tight { IsTight child.old }
+    requires offsets { AllReach (mask true item.now) (length (C.rest cursor.old))
+        (nodes child.old) }
+    ensures shape { shape child.new ≡ shape child.old }
+    ensures tight { OnOk result (IsTight child.new) }
+    ensures grows { Grows (mask false item.now) (passed (C.rest cursor.old) (C.rest cursor.new))
+        (nodes child.old) (nodes child.new) }
+    ensures has_capacity { HaveSpare (mask false item.now) (length (C.rest cursor.old))
+        (nodes child.old) → HasMemory result }
+    ensures same { C.whose cursor.new ≡ C.whose cursor.old }
+    ensures moves { Moves C.rest C.calls cursor.old cursor.new }
+    ensures shorter { OnOk result (length (C.rest cursor.new) < length (C.rest cursor.old)) }
+    ensures costs { OnOk result (CostsKept C.rest C.shown C.calls cursor.old cursor.new) }
+    ensures reads { Gives (λ _. (builder_slots child.new, C.rest cursor.new)) result
+        (all_blocks (read item.now) (builder_slots child.old) (C.rest cursor.old)) }
+{
+    loop {
+        let Some(count) = cursor.number() else {
+            return Err(DecodeFault::Bytes);
+        };
+        if count == 0 {
+            return Ok(());
         }
-        AvroSchema::Int(_) => {
-            let MutableArray::Int32(values) = builder else {
-                unreachable!()
-            };
-            decode_int(cursor, values)
-        }
-        AvroSchema::Long(_) => {
-            let MutableArray::Int64(values) = builder else {
-                unreachable!()
-            };
-            decode_long(cursor, values)
-        }
-        AvroSchema::String(_) => {
-            let MutableArray::Utf8(values) = builder else {
-                unreachable!()
-            };
-            decode_string(cursor, values)
-        }
-        _ => unreachable!(),
+        decode_block_items(cursor, item, count, child)?;
     }
 }
 
-// The functions above are inlined into the loop over rows. This one and `decode_string` are not:
-// with them the loop would be too large for the compiler to inline anything into it.
-#[inline(never)]
-#[tactic(auto, using(crate::proofs::Sets::flats))]
-fn decode_boolean<'a, C: Cursor<'a>>(
+/// Reads the items of a block after its count; where this is below 0, after their size too.
+#[cycle(decode)]
+#[tactic(auto, using(crate::proofs::Sets::values))]
+fn decode_block_items<C: Ahead>(
     cursor: &mut C,
-    values: &mut MutableBooleanArray,
+    item: &AvroSchema,
+    count: i64,
+    child: &mut MutableArray,
 ) -> Result<(), DecodeFault>
-    ensures data_type { values.new.data_type ≡ values.old.data_type }
-    ensures grows { Fills (passed (C.rest cursor.old) (C.rest cursor.new)) (plain_node values.old)
-        (plain_node values.new) }
-    ensures has_capacity { HasSpare (length (C.rest cursor.old)) (plain_node values.old)
-        → HasMemory result }
+    requires some { count ≢ pos 0 }
+    requires suits { Suits item.now (shape child.old) }
+    requires tight { IsTight child.old }
+    requires offsets { AllReach (mask true item.now) (length (C.rest cursor.old))
+        (nodes child.old) }
+    ensures shape { shape child.new ≡ shape child.old }
+    ensures tight { OnOk result (IsTight child.new) }
+    ensures grows { Grows (mask false item.now) (passed (C.rest cursor.old) (C.rest cursor.new))
+        (nodes child.old) (nodes child.new) }
+    ensures has_capacity { HaveSpare (mask false item.now) (length (C.rest cursor.old))
+        (nodes child.old) → HasMemory result }
+    ensures same { C.whose cursor.new ≡ C.whose cursor.old }
     ensures moves { Moves C.rest C.calls cursor.old cursor.new }
     ensures costs { OnOk result (CostsKept C.rest C.shown C.calls cursor.old cursor.new) }
-    ensures reads { Gives (λ _. (values.new.slots, C.rest cursor.new)) result
-        (push_one values.old.slots (boolean_at (C.rest cursor.old))) }
+    ensures reads { Gives (λ _. (builder_slots child.new, C.rest cursor.new)) result
+        (block_items (read item.now) count (builder_slots child.old) (C.rest cursor.old)) }
 {
-    let Some(byte) = cursor.byte() else {
+    if count > 0 {
+        decode_items(cursor, item, count as u64, child)
+    } else {
+        let Some(items) = count.checked_neg() else {
+            return Err(DecodeFault::Bytes);
+        };
+        decode_sized(cursor, item, items as u64, child)
+    }
+}
+
+#[cycle(decode)]
+#[tactic(auto, using(crate::proofs::Sets::values))]
+fn decode_sized<C: Ahead>(
+    cursor: &mut C,
+    item: &AvroSchema,
+    count: u64,
+    child: &mut MutableArray,
+) -> Result<(), DecodeFault>
+    requires suits { Suits item.now (shape child.old) }
+    requires tight { IsTight child.old }
+    requires offsets { AllReach (mask true item.now) (length (C.rest cursor.old))
+        (nodes child.old) }
+    ensures shape { shape child.new ≡ shape child.old }
+    ensures tight { OnOk result (IsTight child.new) }
+    ensures grows { Grows (mask false item.now) (passed (C.rest cursor.old) (C.rest cursor.new))
+        (nodes child.old) (nodes child.new) }
+    ensures has_capacity { HaveSpare (mask false item.now) (length (C.rest cursor.old))
+        (nodes child.old) → HasMemory result }
+    ensures same { C.whose cursor.new ≡ C.whose cursor.old }
+    ensures moves { Moves C.rest C.calls cursor.old cursor.new }
+    ensures costs { OnOk result (CostsKept C.rest C.shown C.calls cursor.old cursor.new) }
+    ensures reads { Gives (λ _. (builder_slots child.new, C.rest cursor.new)) result
+        (sized_items (read item.now) count (builder_slots child.old) (C.rest cursor.old)) }
+{
+    let Some(size) = cursor.number() else {
         return Err(DecodeFault::Bytes);
     };
-    if byte > 1 {
+    let start = cursor.left();
+    decode_items(cursor, item, count, child)?;
+    if usize::try_from(size) != Ok(start - cursor.left()) {
         return Err(DecodeFault::Bytes);
     }
-    pushed(values.push(Some(byte == 1)))
+    Ok(())
 }
 
-#[inline(always)]
-#[tactic(auto, using(crate::proofs::Sets::flats))]
-fn decode_int<'a, C: Cursor<'a>>(
+#[cycle(decode)]
+#[tactic(auto, using(crate::proofs::Sets::values))]
+fn decode_items<C: Ahead>(
     cursor: &mut C,
-    values: &mut MutablePrimitiveArray<i32>,
+    item: &AvroSchema,
+    count: u64,
+    child: &mut MutableArray,
 ) -> Result<(), DecodeFault>
-    ensures data_type { values.new.data_type ≡ values.old.data_type }
-    ensures grows { Fills (passed (C.rest cursor.old) (C.rest cursor.new)) (plain_node values.old)
-        (plain_node values.new) }
-    ensures has_capacity { HasSpare (length (C.rest cursor.old)) (plain_node values.old)
-        → HasMemory result }
+    requires suits { Suits item.now (shape child.old) }
+    requires tight { IsTight child.old }
+    requires offsets { AllReach (mask true item.now) (length (C.rest cursor.old))
+        (nodes child.old) }
+    ensures shape { shape child.new ≡ shape child.old }
+    ensures tight { OnOk result (IsTight child.new) }
+    ensures grows { Grows (mask false item.now) (passed (C.rest cursor.old) (C.rest cursor.new))
+        (nodes child.old) (nodes child.new) }
+    ensures has_capacity { HaveSpare (mask false item.now) (length (C.rest cursor.old))
+        (nodes child.old) → HasMemory result }
+    ensures same { C.whose cursor.new ≡ C.whose cursor.old }
     ensures moves { Moves C.rest C.calls cursor.old cursor.new }
     ensures costs { OnOk result (CostsKept C.rest C.shown C.calls cursor.old cursor.new) }
-    ensures reads { Gives (λ _. (values.new.slots, C.rest cursor.new)) result
-        (push_one values.old.slots (int_at (C.rest cursor.old))) }
+    ensures reads { Gives (λ _. (builder_slots child.new, C.rest cursor.new)) result
+        (items (read item.now) count (builder_slots child.old) (C.rest cursor.old)) }
 {
-    let Some(number) = read_number(cursor) else {
-        return Err(DecodeFault::Bytes);
-    };
-    match i32::try_from(number) {
-        Ok(value) => pushed(values.push(Some(value))),
-        Err(_) => Err(DecodeFault::Bytes),
+    for _ in 0..count {
+        decode_value(cursor, item, child)?;
     }
+    Ok(())
 }
 
-#[inline(always)]
-#[tactic(auto, using(crate::proofs::Sets::flats))]
-fn decode_long<'a, C: Cursor<'a>>(
+/// Reads a record: each child takes its field, and then the record of them is pushed.
+#[cycle(decode)]
+#[tactic(auto, using(crate::proofs::Sets::values))]
+fn decode_record<C: Ahead>(
     cursor: &mut C,
-    values: &mut MutablePrimitiveArray<i64>,
+    fields: &[AvroField],
+    records: &mut DynMutableStructArray,
 ) -> Result<(), DecodeFault>
-    ensures data_type { values.new.data_type ≡ values.old.data_type }
-    ensures grows { Fills (passed (C.rest cursor.old) (C.rest cursor.new)) (plain_node values.old)
-        (plain_node values.new) }
-    ensures has_capacity { HasSpare (length (C.rest cursor.old)) (plain_node values.old)
-        → HasMemory result }
+    requires some { 0 < length fields.now }
+    requires suits { AllSuit fields.now records.old.values.items }
+    requires tight { IsTight (Struct records.old) }
+    requires offsets { AllReach (true ∷ masks true fields.now) (length (C.rest cursor.old))
+        (nodes (Struct records.old)) }
+    ensures shape { shape (Struct records.new) ≡ shape (Struct records.old) }
+    ensures tight { OnOk result (IsTight (Struct records.new)) }
+    ensures grows { Grows (true ∷ masks false fields.now) (passed (C.rest cursor.old) (C.rest cursor.new)) (nodes (Struct records.old)) (nodes (Struct records.new)) }
+    ensures has_capacity { HaveSpare (true ∷ masks false fields.now) (length (C.rest cursor.old))
+        (nodes (Struct records.old)) → HasMemory result }
+    ensures same { C.whose cursor.new ≡ C.whose cursor.old }
     ensures moves { Moves C.rest C.calls cursor.old cursor.new }
+    ensures shorter { OnOk result (length (C.rest cursor.new) < length (C.rest cursor.old)) }
     ensures costs { OnOk result (CostsKept C.rest C.shown C.calls cursor.old cursor.new) }
-    ensures reads { Gives (λ _. (values.new.slots, C.rest cursor.new)) result
-        (push_one values.old.slots (long_at (C.rest cursor.old))) }
+    ensures reads { Gives (λ _. (builder_slots (Struct records.new), C.rest cursor.new)) result
+        (push_one (builder_slots (Struct records.old)) (read_record_of
+        fields.now (C.rest cursor.old))) }
 {
-    match read_number(cursor) {
-        Some(number) => pushed(values.push(Some(number))),
-        None => Err(DecodeFault::Bytes),
-    }
+    decode_fields(cursor, fields, records)?;
+    pushed(records.try_push_valid())
 }
 
-#[inline(never)]
-#[tactic(auto, using(crate::proofs::Sets::strings))]
-fn decode_string<'a, C: Cursor<'a>>(
+#[cycle(decode)]
+#[tactic(auto, using(crate::proofs::Sets::values))]
+fn decode_fields<C: Ahead>(
     cursor: &mut C,
-    values: &mut MutableUtf8Array<i32>,
+    fields: &[AvroField],
+    records: &mut DynMutableStructArray,
 ) -> Result<(), DecodeFault>
-    requires offsets { OffsetsReach (length (C.rest cursor.old)) (content_node values.old) }
-    ensures data_type { values.new.data_type ≡ values.old.data_type }
-    ensures grows { Fills (passed (C.rest cursor.old) (C.rest cursor.new)) (content_node values.old)
-        (content_node values.new) }
-    ensures has_capacity { HasSpare (length (C.rest cursor.old)) (content_node values.old)
-        → HasMemory result }
+    requires suits { AllSuit fields.now records.old.values.items }
+    requires tight { AllTight (length records.old.marks.booleans) records.old.values.items }
+    requires offsets { ChildrenReach (length (C.rest cursor.old))
+        fields.now records.old.values.items }
+    ensures marks { records.new.marks ≡ records.old.marks }
+    ensures shapes { map shape records.new.values.items ≡ map shape records.old.values.items }
+    ensures tight { OnOk result
+        (AllTight (length records.old.marks.booleans + 1) records.new.values.items) }
+    ensures grows { ChildrenGrow (passed (C.rest cursor.old) (C.rest cursor.new)) fields.now
+        records.old.values.items records.new.values.items }
+    ensures has_capacity { ChildrenHaveSpare (length (C.rest cursor.old))
+        fields.now records.old.values.items → HasMemory result }
+    ensures same { C.whose cursor.new ≡ C.whose cursor.old }
     ensures moves { Moves C.rest C.calls cursor.old cursor.new }
+    ensures shorter { OnOk result (length (C.rest cursor.new) + length
+        fields.now ≤ length (C.rest cursor.old)) }
     ensures costs { OnOk result (CostsKept C.rest C.shown C.calls cursor.old cursor.new) }
-    ensures reads { Gives (λ _. (values.new.slots, C.rest cursor.new)) result
-        (push_one values.old.slots (string_at (C.rest cursor.old))) }
+    ensures reads { GivesFields (map builder_slots records.old.values.items)
+        (map builder_slots records.new.values.items) (C.rest cursor.new) result
+        (read_fields_of fields.now [] (C.rest cursor.old)) }
 {
-    let Some(length) = read_length(cursor) else {
-        return Err(DecodeFault::Bytes);
-    };
-    let Some(bytes) = cursor.take(length) else {
-        return Err(DecodeFault::Bytes);
-    };
-    push_string(values, bytes)
-}
-
-/// Pushes a string, which has to be UTF-8.
-#[inline(always)]
-#[tactic(auto, using(crate::proofs::Pushes::takes_none))]
-fn push_string(values: &mut MutableUtf8Array<i32>, bytes: &[u8]) -> Result<(), DecodeFault>
-    requires offsets { OffsetsReach (length bytes.now) (content_node values.old) }
-    ensures data_type { values.new.data_type ≡ values.old.data_type }
-    ensures grows { Takes 1 (length bytes.now) (content_node values.old) (content_node values.new) }
-    ensures has_capacity { 1 ≤ values.old.spare → length bytes.now ≤ values.old.byte_spare
-        → HasMemory result }
-    ensures string { MatchResult result
-        (λ _. IsUtf8 bytes.now × (values.new.slots ≡ values.old.slots ++ StringSlot bytes.now ∷ []))
-        (λ e. IsStringFault e bytes.now) }
-{
-    if !is_utf8(bytes) {
-        return Err(DecodeFault::Bytes);
+    for i in 0..fields.len() {
+        decode_value(cursor, &fields[i].schema, records.mut_values(i))?;
     }
-    let string = unsafe { std::str::from_utf8_unchecked(bytes) };
-    pushed(values.push(Some(string)))
+    Ok(())
 }
 
-/// The number at the start of the bytes ahead (Avro 1.11, "Primitive Types").
-#[inline(always)]
-#[tactic(auto, using(crate::proofs::Sets::numbers))]
-pub fn read_number<'a, C: Cursor<'a>>(cursor: &mut C) -> Option<i64>
-    ensures moves { Moves C.rest C.calls cursor.old cursor.new }
-    ensures costs { OnSome result (CostsNumber C.rest C.shown C.calls cursor.old cursor.new) }
-    ensures reads { MatchOption result (number_at (C.rest cursor.old) ≡ None)
-        (λ v. number_at (C.rest cursor.old) ≡ Some (v, C.rest cursor.new)) }
-{
-    next_number(cursor)
-}
-
-/// The length of a string or a binary value at the start of the bytes ahead: a number of 0 or
-/// more.
-#[inline(always)]
-#[tactic(auto, unfolding(crate::specs::Decoding::length_at))]
-pub fn read_length<'a, C: Cursor<'a>>(cursor: &mut C) -> Option<usize>
-    ensures moves { Moves C.rest C.calls cursor.old cursor.new }
-    ensures costs { OnSome result (CostsNumber C.rest C.shown C.calls cursor.old cursor.new) }
-    ensures reads { MatchOption result (length_at (C.rest cursor.old) ≡ None)
-        (λ n. length_at (C.rest cursor.old) ≡ Some (n, C.rest cursor.new)) }
-{
-    usize::try_from(read_number(cursor)?).ok()
-}
-
-/// The answer of a push that only out of memory can refuse, as the decoder tells it.
-#[inline(always)]
-fn pushed(answer: Result<(), Error>) -> Result<(), DecodeFault>
-    requires memory { IfErr answer (λ e. e ≡ OutOfMemory) }
-    ensures ok { OnOk result (OnErr answer ⊥) }
+/// Pushes the list of what the child took. Offsets of 32 bits reach.
+fn pushed_list(lists: &mut DynMutableListArray) -> Result<(), DecodeFault>
+    requires order { items_of lists.old.lists.lens ≤ length (builder_slots lists.old.values.value) }
+    requires reach { length (builder_slots lists.old.values.value) ≤ small_limit }
+    ensures data_type { lists.new.lists.data_type ≡ lists.old.lists.data_type }
+    ensures values { lists.new.values ≡ lists.old.values }
+    ensures ok { OnOk result (builder_slots (List lists.new) ≡ builder_slots (List lists.old)
+        ++ ListSlot (drop (items_of lists.old.lists.lens) (builder_slots lists.old.values.value)) ∷ []) }
+    ensures end { OnOk result (items_of lists.new.lists.lens ≡ length (builder_slots lists.old.values.value)) }
     ensures err { IfErr result (λ e. e ≡ DecodeFault.Memory) }
-    ensures answered { IsOk answer → HasMemory result }
+    ensures takes { Takes 1 0 (lists_node lists.old.lists) (lists_node lists.new.lists) }
+    ensures has_capacity { 1 ≤ lists.old.lists.spare → HasMemory result }
 {
-    match answer {
-        Ok(()) => Ok(()),
-        Err(_) => Err(DecodeFault::Memory),
-    }
+    pushed(lists.try_push_valid())
 }

@@ -2,17 +2,23 @@
 
 ghost use Rattle.std.specs.Prelude.{◌≡◌, [], map, All, OnOk, IfOk, IfErr, MatchResult};
 ghost use Rattle.arrow_core.specs.declared.error.Error.TheVariants.{OutOfMemory};
-ghost use Rattle.arrow_builders.specs.MutableArrays.{builder_type, builder_slots, builder_kind, nodes};
+ghost use Rattle.arrow_builders.specs.Fits.{TypesFit};
+ghost use Rattle.arrow_builders.specs.MutableArrays.{builder_type, builder_slots, nodes};
 ghost use Rattle.arrow_builders.specs.Nodes.{IsEmpty};
-ghost use Rattle.avro_decode.specs.Supported.{IsSupportedType, type_kind, kept_kinds, kept_types};
+ghost use Rattle.arrow_builders.specs.Shapes.{shape};
+ghost use Rattle.arrow_builders.specs.Tight.{IsTight};
+ghost use Rattle.avro_grammar.specs.ValidBlock.{kept};
+ghost use Rattle.avro_decode.specs.Making.{made};
 ghost use Rattle.avro_decode.specs.Refusals.{BelongTogether, FieldsRefused};
+ghost use Rattle.avro_decode.specs.Suits.{AllSuit};
+ghost use Rattle.avro_decode.specs.Supported.{kept_types};
 
-use crate::carried::{all_carried, all_fit};
-use arrow_builders::{
-    Container, MutableArray, MutableBooleanArray, MutablePrimitiveArray, MutableUtf8Array,
-};
+use crate::make::make_builder;
+use crate::supported::kept_supported;
+use arrow_builders::MutableArray;
 use arrow_core::{Error, Reason, Result};
-use arrow_types::{DataType, Field};
+use arrow_types::Field;
+use avro_infer::{all_carried, all_typed};
 use avro_schema::AvroField;
 use std::alloc::Global;
 
@@ -28,10 +34,10 @@ fn check_fields(fields: &[Field], avro_fields: &[AvroField], projection: &[bool]
     if fields.is_empty() {
         return Err(Error::NotYetImplemented(Reason::NoField));
     }
-    if !all_carried(avro_fields) {
+    if !all_carried(avro_fields) || !kept_supported(avro_fields, projection) {
         return Err(Error::NotYetImplemented(Reason::NotCarried));
     }
-    if !all_fit(fields, avro_fields) {
+    if !all_typed(fields, avro_fields) {
         return Err(Error::InvalidArgumentError(Reason::FieldType));
     }
     Ok(())
@@ -39,9 +45,11 @@ fn check_fields(fields: &[Field], avro_fields: &[AvroField], projection: &[bool]
 
 /// One empty builder for each kept field, in order and of the field's type.
 ///
+/// Each takes the values of its field's schema, and its `as_box` refuses with `OutOfMemory` alone.
+///
 /// In this order: `InvalidArgumentError(Lengths)` where the lengths of fields, Avro fields and
 /// projection differ, `NotYetImplemented(NoField)` where there is no field,
-/// `NotYetImplemented(NotCarried)` where a schema isn't carried,
+/// `NotYetImplemented(NotCarried)` where a schema isn't carried or a kept one isn't supported,
 /// `InvalidArgumentError(FieldType)` where a field hasn't the type and nullability of its schema.
 /// `OutOfMemory` at any time.
 pub fn make_builders(
@@ -51,12 +59,14 @@ pub fn make_builders(
     projection: &[bool],
 ) -> Result<Vec<MutableArray>>
     ensures together { OnOk result (BelongTogether fields.now avro_fields.now projection.now) }
-    ensures kinds { IfOk result (λ builders. map builder_kind builders.items
-        ≡ kept_kinds avro_fields.now projection.now) }
+    ensures suits { IfOk result (λ builders. AllSuit (kept avro_fields.now projection.now)
+        builders.items) }
     ensures data_types { IfOk result (λ builders. map builder_type builders.items
         ≡ kept_types fields.now projection.now) }
     ensures empty { IfOk result (λ builders. All (λ b. builder_slots b ≡ []) builders.items) }
     ensures nodes { IfOk result (λ builders. All (λ b. All IsEmpty (nodes b)) builders.items) }
+    ensures tight { IfOk result (λ builders. All IsTight builders.items) }
+    ensures types_fit { IfOk result (λ builders. All (λ b. TypesFit (shape b)) builders.items) }
     ensures err { IfErr result (FieldsRefused fields.now avro_fields.now projection.now) }
 {
     check_fields(fields, avro_fields, projection)?;
@@ -70,11 +80,8 @@ fn new_builders(
     projection: &[bool],
 ) -> Result<Vec<MutableArray>>
     requires together { BelongTogether fields.now _avro_fields.now projection.now }
-    ensures kinds { IfOk result (λ builders. map builder_kind builders.items
-        ≡ kept_kinds _avro_fields.now projection.now) }
-    ensures data_types { IfOk result (λ builders. map builder_type builders.items
-        ≡ kept_types fields.now projection.now) }
-    ensures empty { IfOk result (λ builders. All (λ b. builder_slots b ≡ []) builders.items) }
+    ensures shapes { IfOk result (λ builders. map shape builders.items
+        ≡ map (λ f. made f.data_type) (kept fields.now projection.now)) }
     ensures nodes { IfOk result (λ builders. All (λ b. All IsEmpty (nodes b)) builders.items) }
     ensures memory { IfErr result (λ e. e ≡ OutOfMemory) }
 {
@@ -86,25 +93,4 @@ fn new_builders(
         }
     }
     Ok(builders)
-}
-
-/// An empty builder of a type.
-#[tactic(auto, using(crate::proofs::Making::empties))]
-fn make_builder(alloc: Global, data_type: &DataType) -> Result<MutableArray>
-    requires { IsSupportedType data_type.now }
-    ensures kind { IfOk result (λ b. builder_kind b ≡ type_kind data_type.now) }
-    ensures data_type { IfOk result (λ b. builder_type b ≡ data_type.now) }
-    ensures empty { IfOk result (λ b. builder_slots b ≡ []) }
-    ensures nodes { IfOk result (λ b. All IsEmpty (nodes b)) }
-    ensures memory { IfErr result (λ e. e ≡ OutOfMemory) }
-{
-    match data_type {
-        DataType::Boolean => Ok(MutableArray::Boolean(MutableBooleanArray::with_capacity(
-            alloc, 0,
-        )?)),
-        DataType::Int32 => Ok(MutableArray::Int32(MutablePrimitiveArray::with_capacity(alloc, 0)?)),
-        DataType::Int64 => Ok(MutableArray::Int64(MutablePrimitiveArray::with_capacity(alloc, 0)?)),
-        DataType::Utf8 => Ok(MutableArray::Utf8(MutableUtf8Array::with_capacity(alloc, 0)?)),
-        _ => unreachable!(),
-    }
 }

@@ -1,40 +1,51 @@
 //! Rows, each value into the builder of its column.
 
-ghost use Rattle.std.specs.Prelude.{◌≡◌, ◌≤◌, length, map};
-ghost use Rattle.arrow_builders.specs.Nodes.{HasSpare};
+ghost use Rattle.std.specs.Prelude.{◌≡◌, ◌≤◌, length, map, true, false, All, OnOk};
+ghost use Rattle.arrow_builders.specs.MutableArrays.{builder_slots, nodes};
+ghost use Rattle.arrow_builders.specs.Shapes.{shape};
+ghost use Rattle.arrow_builders.specs.Tight.{IsTight};
+ghost use Rattle.avro_grammar.specs.Carried.{Carried, CarriedList};
+ghost use Rattle.avro_grammar.specs.ValidBlock.{kept};
+ghost use Rattle.avro_reference.specs.Read.{push_one, read};
+ghost use Rattle.avro_reference.specs.Skip.{skip};
 ghost use Rattle.avro_reference.specs.Block.{row, rows as rows_at, block};
-ghost use Rattle.arrow_builders.specs.MutableArrays.{builder_type, builder_slots, builder_kind};
-ghost use Rattle.avro_decode.specs.Supported.{AllSupported, kept_kinds};
-ghost use Rattle.avro_decode.specs.Costs.{passed, Moves};
-ghost use Rattle.avro_decode.specs.Decoding.{GivesRow, GivesRows, GivesBlock};
-ghost use Rattle.avro_decode.specs.Capacity.{AtNodes};
-ghost use Rattle.avro_decode.specs.Growing.{OffsetsReach, AllGrow, HasMemory};
+ghost use Rattle.avro_skip.specs.Costs.{passed, Moves, CostsKept};
+ghost use Rattle.avro_flat.specs.Decoding.{Gives, HasMemory};
+ghost use Rattle.avro_decode.specs.Decoding.{BlockHasMemory, GivesField, PassesField, GivesRow, GivesRows, GivesBlock};
+ghost use Rattle.avro_decode.specs.Growth.{Grows, AllReach, HaveSpare, ChildrenGrow, ChildrenReach, ChildrenHaveSpare};
+ghost use Rattle.avro_decode.specs.Masks.{mask};
+ghost use Rattle.avro_decode.specs.Suits.{Suits, AllSuit};
 
 use crate::decode::decode_value;
-use crate::fault::DecodeFault;
-use crate::skip::skip_value;
+use crate::fault::BlockFault;
+use crate::flat::decode_flat;
 use arrow_builders::MutableArray;
-use avro_schema::{AvroField, Cursor};
+use avro_flat::DecodeFault;
+use avro_schema::{AvroField, AvroSchema};
+use avro_skip::{Ahead, SkipFault, skip_value};
 
 /// Reads the rows of a whole block.
-pub fn decode_block<'a, C: Cursor<'a>>(
+pub fn decode_block<C: Ahead>(
     cursor: &mut C,
     rows: usize,
     avro_fields: &[AvroField],
     projection: &[bool],
     builders: &mut [MutableArray],
-) -> Result<(), DecodeFault>
+) -> Result<(), BlockFault>
     requires lengths { length avro_fields.now ≡ length projection.now }
-    requires supported { AllSupported avro_fields.now }
-    requires kinds { map builder_kind builders.old ≡ kept_kinds avro_fields.now projection.now }
-    requires offsets { AtNodes (OffsetsReach (length (C.rest cursor.old))) builders.old }
+    requires carried { CarriedList avro_fields.now }
+    requires suits { AllSuit (kept avro_fields.now projection.now) builders.old }
+    requires tight { All IsTight builders.old }
+    requires offsets { ChildrenReach (length (C.rest cursor.old))
+        (kept avro_fields.now projection.now) builders.old }
     requires enough { rows ≤ length (C.rest cursor.old) }
-    ensures kinds { map builder_kind builders.new ≡ map builder_kind builders.old }
-    ensures data_types { map builder_type builders.new ≡ map builder_type builders.old }
-    ensures grows { AllGrow (passed (C.rest cursor.old) (C.rest cursor.new)) builders.old
-        builders.new }
-    ensures has_capacity { AtNodes (HasSpare (length (C.rest cursor.old))) builders.old
-        → HasMemory result }
+    ensures shapes { map shape builders.new ≡ map shape builders.old }
+    ensures tight { OnOk result (All IsTight builders.new) }
+    ensures grows { ChildrenGrow (passed (C.rest cursor.old) (C.rest cursor.new))
+        (kept avro_fields.now projection.now) builders.old builders.new }
+    ensures has_capacity { ChildrenHaveSpare (length (C.rest cursor.old))
+        (kept avro_fields.now projection.now) builders.old → BlockHasMemory result }
+    ensures same { C.whose cursor.new ≡ C.whose cursor.old }
     ensures moves { Moves C.rest C.calls cursor.old cursor.new }
     ensures reads { GivesBlock C.rest C.shown C.calls cursor.old cursor.new
         (map builder_slots builders.old) (map builder_slots builders.new) result
@@ -42,28 +53,31 @@ pub fn decode_block<'a, C: Cursor<'a>>(
 {
     decode_rows(cursor, rows, avro_fields, projection, builders)?;
     if cursor.left() > 0 {
-        return Err(DecodeFault::Bytes);
+        return Err(BlockFault::Bytes);
     }
     Ok(())
 }
 
-fn decode_rows<'a, C: Cursor<'a>>(
+fn decode_rows<C: Ahead>(
     cursor: &mut C,
     rows: usize,
     avro_fields: &[AvroField],
     projection: &[bool],
     builders: &mut [MutableArray],
-) -> Result<(), DecodeFault>
+) -> Result<(), BlockFault>
     requires lengths { length avro_fields.now ≡ length projection.now }
-    requires supported { AllSupported avro_fields.now }
-    requires kinds { map builder_kind builders.old ≡ kept_kinds avro_fields.now projection.now }
-    requires offsets { AtNodes (OffsetsReach (length (C.rest cursor.old))) builders.old }
-    ensures kinds { map builder_kind builders.new ≡ map builder_kind builders.old }
-    ensures data_types { map builder_type builders.new ≡ map builder_type builders.old }
-    ensures grows { AllGrow (passed (C.rest cursor.old) (C.rest cursor.new)) builders.old
-        builders.new }
-    ensures has_capacity { AtNodes (HasSpare (length (C.rest cursor.old))) builders.old
-        → HasMemory result }
+    requires carried { CarriedList avro_fields.now }
+    requires suits { AllSuit (kept avro_fields.now projection.now) builders.old }
+    requires tight { All IsTight builders.old }
+    requires offsets { ChildrenReach (length (C.rest cursor.old))
+        (kept avro_fields.now projection.now) builders.old }
+    ensures shapes { map shape builders.new ≡ map shape builders.old }
+    ensures tight { OnOk result (All IsTight builders.new) }
+    ensures grows { ChildrenGrow (passed (C.rest cursor.old) (C.rest cursor.new))
+        (kept avro_fields.now projection.now) builders.old builders.new }
+    ensures has_capacity { ChildrenHaveSpare (length (C.rest cursor.old))
+        (kept avro_fields.now projection.now) builders.old → BlockHasMemory result }
+    ensures same { C.whose cursor.new ≡ C.whose cursor.old }
     ensures moves { Moves C.rest C.calls cursor.old cursor.new }
     ensures reads { GivesRows C.rest C.shown C.calls cursor.old cursor.new
         (map builder_slots builders.old) (map builder_slots builders.new) result
@@ -77,71 +91,119 @@ fn decode_rows<'a, C: Cursor<'a>>(
 
 /// Reads one row: each kept field into its builder, each other field skipped.
 #[inline(always)]
-fn decode_row<'a, C: Cursor<'a>>(
+fn decode_row<C: Ahead>(
     cursor: &mut C,
     avro_fields: &[AvroField],
     projection: &[bool],
     builders: &mut [MutableArray],
-) -> Result<(), DecodeFault>
+) -> Result<(), BlockFault>
     requires lengths { length avro_fields.now ≡ length projection.now }
-    requires supported { AllSupported avro_fields.now }
-    requires kinds { map builder_kind builders.old ≡ kept_kinds avro_fields.now projection.now }
-    requires offsets { AtNodes (OffsetsReach (length (C.rest cursor.old))) builders.old }
-    ensures kinds { map builder_kind builders.new ≡ map builder_kind builders.old }
-    ensures data_types { map builder_type builders.new ≡ map builder_type builders.old }
-    ensures grows { AllGrow (passed (C.rest cursor.old) (C.rest cursor.new)) builders.old
-        builders.new }
-    ensures has_capacity { AtNodes (HasSpare (length (C.rest cursor.old))) builders.old
-        → HasMemory result }
+    requires carried { CarriedList avro_fields.now }
+    requires suits { AllSuit (kept avro_fields.now projection.now) builders.old }
+    requires tight { All IsTight builders.old }
+    requires offsets { ChildrenReach (length (C.rest cursor.old))
+        (kept avro_fields.now projection.now) builders.old }
+    ensures shapes { map shape builders.new ≡ map shape builders.old }
+    ensures tight { OnOk result (All IsTight builders.new) }
+    ensures grows { ChildrenGrow (passed (C.rest cursor.old) (C.rest cursor.new))
+        (kept avro_fields.now projection.now) builders.old builders.new }
+    ensures has_capacity { ChildrenHaveSpare (length (C.rest cursor.old))
+        (kept avro_fields.now projection.now) builders.old → BlockHasMemory result }
+    ensures same { C.whose cursor.new ≡ C.whose cursor.old }
     ensures moves { Moves C.rest C.calls cursor.old cursor.new }
     ensures reads { GivesRow C.rest C.shown C.calls cursor.old cursor.new
         (map builder_slots builders.old) (map builder_slots builders.new) result
         (row avro_fields.now projection.now (C.rest cursor.old)) }
 {
-    if avro_fields.len() == 1 {
-        return decode_single(cursor, avro_fields, projection, builders);
-    }
     let mut column = 0;
     for i in 0..avro_fields.len() {
         let field = &avro_fields[i];
         if projection[i] {
-            decode_value(cursor, &field.schema, &mut builders[column])?;
+            decode_field(cursor, &field.schema, &mut builders[column])?;
             column += 1;
         } else {
-            skip_value(cursor, &field.schema)?;
+            skip_field(cursor, &field.schema)?;
         }
     }
     Ok(())
 }
 
-/// Reads a row of one field, without the loop over fields.
+/// Reads a kept field's value into one more slot of its builder.
 #[inline(always)]
-fn decode_single<'a, C: Cursor<'a>>(
+fn decode_field<C: Ahead>(
     cursor: &mut C,
-    avro_fields: &[AvroField],
-    projection: &[bool],
-    builders: &mut [MutableArray],
-) -> Result<(), DecodeFault>
-    requires single { length avro_fields.now ≡ 1 }
-    requires lengths { length avro_fields.now ≡ length projection.now }
-    requires supported { AllSupported avro_fields.now }
-    requires kinds { map builder_kind builders.old ≡ kept_kinds avro_fields.now projection.now }
-    requires offsets { AtNodes (OffsetsReach (length (C.rest cursor.old))) builders.old }
-    ensures kinds { map builder_kind builders.new ≡ map builder_kind builders.old }
-    ensures data_types { map builder_type builders.new ≡ map builder_type builders.old }
-    ensures grows { AllGrow (passed (C.rest cursor.old) (C.rest cursor.new)) builders.old
-        builders.new }
-    ensures has_capacity { AtNodes (HasSpare (length (C.rest cursor.old))) builders.old
-        → HasMemory result }
+    schema: &AvroSchema,
+    builder: &mut MutableArray,
+) -> Result<(), BlockFault>
+    requires suits { Suits schema.now (shape builder.old) }
+    requires tight { IsTight builder.old }
+    requires offsets { AllReach (mask true schema.now) (length (C.rest cursor.old))
+        (nodes builder.old) }
+    ensures shape { shape builder.new ≡ shape builder.old }
+    ensures tight { OnOk result (IsTight builder.new) }
+    ensures grows { Grows (mask false schema.now) (passed (C.rest cursor.old) (C.rest cursor.new))
+        (nodes builder.old) (nodes builder.new) }
+    ensures has_capacity { HaveSpare (mask false schema.now) (length (C.rest cursor.old))
+        (nodes builder.old) → BlockHasMemory result }
+    ensures same { C.whose cursor.new ≡ C.whose cursor.old }
     ensures moves { Moves C.rest C.calls cursor.old cursor.new }
-    ensures reads { GivesRow C.rest C.shown C.calls cursor.old cursor.new
-        (map builder_slots builders.old) (map builder_slots builders.new) result
-        (row avro_fields.now projection.now (C.rest cursor.old)) }
+    ensures costs { OnOk result (CostsKept C.rest C.shown C.calls cursor.old cursor.new) }
+    ensures reads { GivesField (λ _. (builder_slots builder.new, C.rest cursor.new)) result
+        (push_one (builder_slots builder.old) (read schema.now (C.rest cursor.old))) }
 {
-    let field = &avro_fields[0];
-    if projection[0] {
-        decode_value(cursor, &field.schema, &mut builders[0])
-    } else {
-        skip_value(cursor, &field.schema)
+    match decode_column(cursor, schema, builder) {
+        Ok(()) => Ok(()),
+        Err(DecodeFault::Bytes) => Err(BlockFault::Bytes),
+        Err(DecodeFault::Memory) => Err(BlockFault::Memory),
+    }
+}
+
+/// Reads a value. The reader of one without parts is picked here, inside the loop over rows; unions,
+/// arrays and records take a call.
+#[inline(always)]
+#[tactic(auto, using(crate::proofs::Sets::values))]
+fn decode_column<C: Ahead>(
+    cursor: &mut C,
+    schema: &AvroSchema,
+    builder: &mut MutableArray,
+) -> Result<(), DecodeFault>
+    requires suits { Suits schema.now (shape builder.old) }
+    requires tight { IsTight builder.old }
+    requires offsets { AllReach (mask true schema.now) (length (C.rest cursor.old))
+        (nodes builder.old) }
+    ensures shape { shape builder.new ≡ shape builder.old }
+    ensures tight { OnOk result (IsTight builder.new) }
+    ensures grows { Grows (mask false schema.now) (passed (C.rest cursor.old) (C.rest cursor.new))
+        (nodes builder.old) (nodes builder.new) }
+    ensures has_capacity { HaveSpare (mask false schema.now) (length (C.rest cursor.old))
+        (nodes builder.old) → HasMemory result }
+    ensures same { C.whose cursor.new ≡ C.whose cursor.old }
+    ensures moves { Moves C.rest C.calls cursor.old cursor.new }
+    ensures costs { OnOk result (CostsKept C.rest C.shown C.calls cursor.old cursor.new) }
+    ensures reads { Gives (λ _. (builder_slots builder.new, C.rest cursor.new)) result
+        (push_one (builder_slots builder.old) (read schema.now (C.rest cursor.old))) }
+{
+    match schema {
+        AvroSchema::Union(_) | AvroSchema::Array(_) | AvroSchema::Record(_) => {
+            decode_value(cursor, schema, builder)
+        }
+        _ => decode_flat(cursor, schema, builder),
+    }
+}
+
+/// Skips the value of a field that isn't kept.
+#[inline(always)]
+fn skip_field<C: Ahead>(cursor: &mut C, schema: &AvroSchema) -> Result<(), BlockFault>
+    requires carried { Carried schema.now }
+    ensures memory { BlockHasMemory result }
+    ensures same { C.whose cursor.new ≡ C.whose cursor.old }
+    ensures moves { Moves C.rest C.calls cursor.old cursor.new }
+    ensures passes { PassesField C.rest C.shown C.calls cursor.old cursor.new result
+        (skip schema.now (C.rest cursor.old)) }
+{
+    match skip_value(cursor, schema) {
+        Ok(()) => Ok(()),
+        Err(SkipFault::Bytes) => Err(BlockFault::Bytes),
+        Err(SkipFault::NegativeSize) => Err(BlockFault::NegativeSize),
     }
 }

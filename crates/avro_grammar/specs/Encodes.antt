@@ -26,15 +26,15 @@ IsBooleanByte bytes b = bytes ≡ cond b 1 0 ∷ []
 abbrev pub IsInt : ℤ → Type 0
 IsInt v = (negsuc 2147483647 ≤ℤ v) × (v ≤ℤ pos 2147483647)
 
--- the high byte first, after what came before
-abbrev pub big_endian : ℕ → List ℕ → ℕ
-big_endian high [] = high
-big_endian high (b ∷ bs) = big_endian (256 * high + b) bs
+-- the high byte first
+abbrev pub big_endian : List ℕ → ℕ
+big_endian [] = 0
+big_endian (b ∷ bs) = b * 256 ^ length bs + big_endian bs
 
 -- big-endian two's complement, as decimals are encoded (Avro 1.11, "Decimal")
 abbrev pub twos_complement : List ℕ → ℤ
 twos_complement bytes =
-    cond (nat_lt (2 * big_endian 0 bytes) (256 ^ length bytes)) (pos (big_endian 0 bytes)) (pos (big_endian 0 bytes) -ℤ pos (256 ^ length bytes))
+    cond (nat_lt (2 * big_endian bytes) (256 ^ length bytes)) (pos (big_endian bytes)) (pos (big_endian bytes) -ℤ pos (256 ^ length bytes))
 
 -- the low byte first
 abbrev pub little_endian : List ℕ → ℕ

@@ -2,6 +2,6 @@
 #![tactic(auto)]
 
 pub use avro_decode::{
-    deserialize, deserialize_into, infer_schema, make_builders, reserved_capacity_stays,
-    valid_blocks_are_read,
+    deserialize, deserialize_into, make_builders, reserved_capacity_stays, valid_blocks_are_read,
 };
+pub use avro_infer::infer_schema;

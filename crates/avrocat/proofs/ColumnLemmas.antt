@@ -1,16 +1,20 @@
 -- The columns that are made from a record have the types of its fields, and each carried field has one.
-use Rattle.std.proofs.Common.{◌≡◌, ◌∙◌, inl, inr, ℕ, suc, Option, Some, None, List, [], ◌∷◌, refl, sym, subst, arith}
+use Rattle.std.proofs.Common.{◌≡◌, ◌∙◌, ◌⊎◌, inl, inr, ℕ, suc, Option, Some, None, Bool, true, List, [], ◌∷◌, All, refl, sym, subst, arith}
+use Rattle.std.specs.Prelude.{IsTrue, ◌&&◌}
 use Rattle.std.proofs.lemmas.Option.{none-some, same_Some}
-use Rattle.arrow_types.specs.declared.types.DataType.{DataType, Struct}
+use Rattle.arrow_types.specs.declared.types.DataType.{DataType}
 use Rattle.arrow_types.specs.declared.types.Field.{Field}
 use Rattle.avro_schema.specs.declared.schema.AvroField.{AvroField}
-use Rattle.avro_schema.specs.declared.schema.Record.{Record as TheRecord, out-Record}
-use Rattle.avro_schema.specs.declared.schema.Schema.{Schema, Null, Boolean, Int, Long, String, Record, Union', Row_of-Schema, end_of-Schema, more_of-Schema}
+use Rattle.avro_schema.specs.declared.schema.Record.{Record as TheRecord, Record', out-Record, Row_of-AvroField, end_of-AvroField, more_of-AvroField, items-the_row-AvroField}
+use Rattle.avro_schema.specs.declared.schema.Schema.{Schema, Null, Record, Array', Map', Union', Row_of-Schema, end_of-Schema, more_of-Schema}
 use Rattle.avro_grammar.specs.AndThen.{◌>>=◌}
-use Rattle.avro_grammar.specs.Inferred.{column_field, inferred, inferred_member, columns_of, HasMapOrUnion}
-use Rattle.avro_grammar.proofs.InferredLemmas.{inferred_is_typed, not_inferred}
-use Rattle.avro_decode.specs.Supported.{IsSupportedFlat, SupportedPair, SupportedMembers, SupportedSchema, AllSupported, AllTyped}
-use Rattle.avro_decode.proofs.Inferring.{record_some}
+use Rattle.avro_grammar.specs.Carried.{IsNoUnion, Carried, CarriedRecord, CarriedItem, CarriedUnion, CarriedFields, CarriedList}
+use Rattle.avro_grammar.specs.Encodes.{IsNull, is_null}
+use Rattle.avro_grammar.specs.Inferred.{column_field, inferred, is_item, columns_of, IsNullable, HasMapOrUnion, RecordHasMapOrUnion, ItemHasMapOrUnion, AnyHasMapOrUnion, FieldHasMapOrUnion}
+use Rattle.avro_grammar.proofs.Basics.{null_told}
+use Rattle.avro_grammar.proofs.ByLists.{row_fields, fields_are}
+use Rattle.avro_grammar.proofs.InferredLemmas.{inferred_is_typed}
+use Rattle.avro_decode.specs.Supported.{AllTyped}
 
 -- ---- types
 
@@ -28,59 +32,62 @@ columns_fit doc (a ∷ xs) fs h = from (inferred a.schema) refl h (columns_fit d
 
 -- ---- carried schemas
 
-flat_has_type : (s : Schema) → IsSupportedFlat s → inferred s ≡ None → ⊥
-flat_has_type Boolean c h = none-some _ (sym h)
-flat_has_type (Int logical) c h = none-some _ (sym h)
-flat_has_type (Long logical) c h = none-some _ (sym h)
-flat_has_type (String logical) c h = none-some _ (sym h)
-flat_has_type _ c h = c
+item_told : (s : Schema) → Carried s → IsNoUnion s → is_item s ≡ true
+item_told Null c n = absurd c
+item_told (Union' shape members) c n = absurd n
+item_told _ c n = refl
 
-null_first : (u : Schema) → IsSupportedFlat u → inferred_member (more_of-Schema Null (more_of-Schema u end_of-Schema)) ≡ None → ⊥
-null_first Boolean c h = none-some _ (sym h)
-null_first (Int logical) c h = none-some _ (sym h)
-null_first (Long logical) c h = none-some _ (sym h)
-null_first (String logical) c h = none-some _ (sym h)
-null_first _ c h = c
+both_true : (a b : Bool) → a ≡ true → b ≡ true → IsTrue (a && b)
+both_true a b e d = rw (e, d) refl
 
-null_second : (s : Schema) → IsSupportedFlat s → inferred_member (more_of-Schema s (more_of-Schema Null end_of-Schema)) ≡ None → ⊥
-null_second Boolean c h = none-some _ (sym h)
-null_second (Int logical) c h = none-some _ (sym h)
-null_second (Long logical) c h = none-some _ (sym h)
-null_second (String logical) c h = none-some _ (sym h)
-null_second _ c h = c
+is_nullable : {m : _} (row : Row_of-Schema m) → CarriedUnion row → IsNullable row
+is_nullable (more_of-Schema s (more_of-Schema u end_of-Schema)) (inl c) = inl (both_true (is_null s) (is_item u) (null_told s c.0) (item_told u c.1 c.2))
+is_nullable (more_of-Schema s (more_of-Schema u end_of-Schema)) (inr c) = inr (both_true (is_item s) (is_null u) (item_told s c.0 c.1) (null_told u c.2))
+is_nullable _ c = absurd c
 
-pair_has_type : (s u : Schema) → SupportedPair s u → inferred_member (more_of-Schema s (more_of-Schema u end_of-Schema)) ≡ None → ⊥
-pair_has_type Null u (inl (n, c)) h = null_first u c h
-pair_has_type _ u (inl (n, c)) h = n
-pair_has_type s Null (inr (c, n)) h = null_second s c h
-pair_has_type s _ (inr (c, n)) h = n
+null_without : (s : Schema) → IsNull s → HasMapOrUnion s → ⊥
+null_without Null n h = absurd h
+null_without _ n h = absurd n
 
-members_have_type : {m : _} (row : Row_of-Schema m) → SupportedMembers row → inferred_member row ≡ None → ⊥
-members_have_type end_of-Schema c h = c
-members_have_type (more_of-Schema s end_of-Schema) c h = c
-members_have_type (more_of-Schema s (more_of-Schema u end_of-Schema)) c h = pair_has_type s u c h
-members_have_type (more_of-Schema s (more_of-Schema u (more_of-Schema v rest))) c h = c
+mutual
+  carried_without : (s : Schema) → Carried s → HasMapOrUnion s → ⊥
+  carried_without (Record r) c h = record_without r c h
+  carried_without (Array' shape item) c h = item_without item c h
+  carried_without (Map' shape value) c h = absurd c
+  carried_without (Union' shape members) c (inl h) = h (is_nullable members c)
+  carried_without (Union' shape members) c (inr h) = members_without members c h
+  carried_without _ c h = absurd h
 
-supported_has_type : (s : Schema) → SupportedSchema s → inferred s ≡ None → ⊥
-supported_has_type (Union' shape members) c h = members_have_type members c h
-supported_has_type s c h = flat_has_type s c h
+  record_without : (r : TheRecord) → CarriedRecord r → RecordHasMapOrUnion r → ⊥
+  record_without (Record' name namespace doc shape fields) c h = fields_without fields c.1 h
 
-supported_have_types : (doc : AvroField → Option (List ℕ)) (xs : List AvroField) → AllSupported xs → columns_of doc xs ≡ None → ⊥
-supported_have_types doc [] all h = none-some [] (sym h)
-supported_have_types doc (a ∷ xs) all h = from (inferred a.schema) refl h (supported_have_types doc xs (λ k d lt. all (suc k) d (omega (arith, lt))))
-  where
-    inner : (t : DataType) (o : Option (List Field)) → columns_of doc xs ≡ o → (o >>= λ gs. Some (column_field a.name (doc a) a.schema t ∷ gs)) ≡ None → (columns_of doc xs ≡ None → ⊥) → ⊥
-    inner t None q k rest = rest q
-    inner t (Some gs) q k rest = none-some _ (sym k)
+  item_without : {m : _} (row : Row_of-Schema m) → CarriedItem row → ItemHasMapOrUnion row → ⊥
+  item_without end_of-Schema c h = absurd c
+  item_without (more_of-Schema s rest) c h = carried_without s c h
 
-    from : (o : Option DataType) → inferred a.schema ≡ o → (o >>= λ t. columns_of doc xs >>= λ gs. Some (column_field a.name (doc a) a.schema t ∷ gs)) ≡ None → (columns_of doc xs ≡ None → ⊥) → ⊥
-    from None e k rest = supported_has_type a.schema (all 0 a (omega arith)) e
-    from (Some t) e k rest = inner t (columns_of doc xs) refl k rest
+  members_without : {m : _} (row : Row_of-Schema m) → CarriedUnion row → AnyHasMapOrUnion row → ⊥
+  members_without (more_of-Schema s (more_of-Schema u end_of-Schema)) (inl c) (inl h) = null_without s c.0 h
+  members_without (more_of-Schema s (more_of-Schema u end_of-Schema)) (inl c) (inr (inl h)) = carried_without u c.1 h
+  members_without (more_of-Schema s (more_of-Schema u end_of-Schema)) (inl c) (inr (inr h)) = absurd h
+  members_without (more_of-Schema s (more_of-Schema u end_of-Schema)) (inr c) (inl h) = carried_without s c.0 h
+  members_without (more_of-Schema s (more_of-Schema u end_of-Schema)) (inr c) (inr (inl h)) = null_without u c.2 h
+  members_without (more_of-Schema s (more_of-Schema u end_of-Schema)) (inr c) (inr (inr h)) = absurd h
+  members_without _ c h = absurd c
+
+  fields_without : {m : _} (row : Row_of-AvroField m) → CarriedFields row → FieldHasMapOrUnion row → ⊥
+  fields_without end_of-AvroField c h = absurd h
+  fields_without (more_of-AvroField name doc s rest) c (inl h) = carried_without s c.0 h
+  fields_without (more_of-AvroField name doc s rest) c (inr h) = fields_without rest c.1 h
+
+-- of fields as a list
+carried_row : {m : _} (row : Row_of-AvroField m) → CarriedList (items-the_row-AvroField _ row) → CarriedFields row
+carried_row end_of-AvroField h = tt
+carried_row (more_of-AvroField name doc s rest) h =
+    (h 0 (record { name = name; doc = doc; schema = s }) (omega arith), carried_row rest (λ k d lt. h (suc k) d (omega (arith, lt))))
+
+in_record : (r : TheRecord) → RecordHasMapOrUnion r → CarriedList (row_fields r) → ⊥
+in_record (Record' name namespace doc shape fields) h c = fields_without fields (carried_row fields c) h
 
 -- where no column can be made, a field is not carried
-pub none_is_supported : (r : TheRecord) → HasMapOrUnion (Record r) → AllSupported (out-Record r).fields → ⊥
-none_is_supported r m all = from (columns_of (λ a. a.doc) (out-Record r).fields) refl
-  where
-    from : (o : Option (List Field)) → columns_of (λ a. a.doc) (out-Record r).fields ≡ o → ⊥
-    from None e = supported_have_types (λ a. a.doc) (out-Record r).fields all e
-    from (Some gs) e = none-some (Struct gs) (sym ((not_inferred (Record r)).1 m) ∙ record_some r gs e)
+pub none_is_carried : (r : TheRecord) → HasMapOrUnion (Record r) → CarriedList (out-Record r).fields → ⊥
+none_is_carried r m all = in_record r m (subst CarriedList (sym (fields_are r)) all)

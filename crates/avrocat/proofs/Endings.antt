@@ -7,7 +7,7 @@ use Rattle.arrow_core.specs.declared.error.Error.{Error}
 use Rattle.arrow_core.specs.declared.error.Error.TheVariants.{InvalidArgumentError, NotYetImplemented, ExternalFormat, OutOfSpec, Overflow, LimitExceeded, ReadFault, WriteFault, OutOfMemory}
 use Rattle.arrow_core.specs.declared.error.Reason.TheVariants as reason
 use Rattle.arrow_core.specs.Errors.{status_of}
-use Rattle.avro_grammar.proofs.RowLaws.{rows_have}
+use Rattle.avro_grammar.proofs.RowLaws.{rows_have, rows_exclude}
 use Rattle.avrocat.specs.declared.command.BlockWords.{BlockWords}
 use Rattle.avrocat.specs.declared.command.Command.{Command}
 use Rattle.avrocat.specs.declared.command.Command.TheVariants.{Block}
@@ -58,6 +58,7 @@ valid_is_right block bytes v (NotYetImplemented reason.NotCarried) h = h.1 v.sup
 valid_is_right block bytes v (ExternalFormat reason.Rows) h =
     omega (arith, h.1, rows_have block.rows block.avro_fields block.projection bytes v.valid.table (omega (arith, v.valid.columns.some, v.valid.columns.lengths.0)) v.valid.columns.carried v.valid.rows)
 valid_is_right block bytes v (ExternalFormat reason.BlockBytes) h = h.2 v.valid.table v.valid.rows
+valid_is_right block bytes v (OutOfSpec reason.NegativeSize) h = rows_exclude block.rows block.avro_fields block.projection bytes v.valid.table v.valid.rows h.2
 valid_is_right block bytes v _ h = h
 
 one_wrong : (block : BlockWords) (bytes : List ℕ) (one other : Error) → IsWrong block bytes one → IsWrong block bytes other → one ≡ other
@@ -65,22 +66,32 @@ one_wrong block bytes (NotYetImplemented reason.NoField) (NotYetImplemented reas
 one_wrong block bytes (NotYetImplemented reason.NoField) (NotYetImplemented reason.NotCarried) h d = absurd (omega (arith, ap length h, d.0))
 one_wrong block bytes (NotYetImplemented reason.NoField) (ExternalFormat reason.Rows) h d = absurd (omega (arith, ap length h, d.0.0))
 one_wrong block bytes (NotYetImplemented reason.NoField) (ExternalFormat reason.BlockBytes) h d = absurd (omega (arith, ap length h, d.0.0))
+one_wrong block bytes (NotYetImplemented reason.NoField) (OutOfSpec reason.NegativeSize) h d = absurd (omega (arith, ap length h, d.0.0))
 one_wrong block bytes (NotYetImplemented reason.NoField) _ h d = absurd d
 one_wrong block bytes (NotYetImplemented reason.NotCarried) (NotYetImplemented reason.NoField) h d = absurd (omega (arith, ap length d, h.0))
 one_wrong block bytes (NotYetImplemented reason.NotCarried) (NotYetImplemented reason.NotCarried) h d = refl
 one_wrong block bytes (NotYetImplemented reason.NotCarried) (ExternalFormat reason.Rows) h d = absurd (h.1 d.0.1)
 one_wrong block bytes (NotYetImplemented reason.NotCarried) (ExternalFormat reason.BlockBytes) h d = absurd (h.1 d.0.1)
+one_wrong block bytes (NotYetImplemented reason.NotCarried) (OutOfSpec reason.NegativeSize) h d = absurd (h.1 d.0.1)
 one_wrong block bytes (NotYetImplemented reason.NotCarried) _ h d = absurd d
 one_wrong block bytes (ExternalFormat reason.Rows) (NotYetImplemented reason.NoField) h d = absurd (omega (arith, ap length d, h.0.0))
 one_wrong block bytes (ExternalFormat reason.Rows) (NotYetImplemented reason.NotCarried) h d = absurd (d.1 h.0.1)
 one_wrong block bytes (ExternalFormat reason.Rows) (ExternalFormat reason.Rows) h d = refl
 one_wrong block bytes (ExternalFormat reason.Rows) (ExternalFormat reason.BlockBytes) h d = absurd (omega (arith, h.1, d.1))
+one_wrong block bytes (ExternalFormat reason.Rows) (OutOfSpec reason.NegativeSize) h d = absurd (omega (arith, h.1, d.1))
 one_wrong block bytes (ExternalFormat reason.Rows) _ h d = absurd d
 one_wrong block bytes (ExternalFormat reason.BlockBytes) (NotYetImplemented reason.NoField) h d = absurd (omega (arith, ap length d, h.0.0))
 one_wrong block bytes (ExternalFormat reason.BlockBytes) (NotYetImplemented reason.NotCarried) h d = absurd (d.1 h.0.1)
 one_wrong block bytes (ExternalFormat reason.BlockBytes) (ExternalFormat reason.Rows) h d = absurd (omega (arith, h.1, d.1))
 one_wrong block bytes (ExternalFormat reason.BlockBytes) (ExternalFormat reason.BlockBytes) h d = refl
+one_wrong block bytes (ExternalFormat reason.BlockBytes) (OutOfSpec reason.NegativeSize) h d = absurd (h.3 d.2)
 one_wrong block bytes (ExternalFormat reason.BlockBytes) _ h d = absurd d
+one_wrong block bytes (OutOfSpec reason.NegativeSize) (NotYetImplemented reason.NoField) h d = absurd (omega (arith, ap length d, h.0.0))
+one_wrong block bytes (OutOfSpec reason.NegativeSize) (NotYetImplemented reason.NotCarried) h d = absurd (d.1 h.0.1)
+one_wrong block bytes (OutOfSpec reason.NegativeSize) (ExternalFormat reason.Rows) h d = absurd (omega (arith, h.1, d.1))
+one_wrong block bytes (OutOfSpec reason.NegativeSize) (ExternalFormat reason.BlockBytes) h d = absurd (d.3 h.2)
+one_wrong block bytes (OutOfSpec reason.NegativeSize) (OutOfSpec reason.NegativeSize) h d = refl
+one_wrong block bytes (OutOfSpec reason.NegativeSize) _ h d = absurd d
 one_wrong block bytes _ other h d = absurd h
 
 -- ---- what is due
@@ -142,13 +153,15 @@ told_wrong block source LimitExceeded (steady, (bytes, told)) h = inr (record { 
 told_wrong block source OutOfMemory s h = inl refl
 told_wrong block source (ReadFault (Some line)) s h = absurd h.2
 told_wrong block source (InvalidArgumentError r) s h = absurd h.2
-told_wrong block source (OutOfSpec r) s h = absurd h.2
 told_wrong block source Overflow s h = absurd h.2
 told_wrong block source WriteFault s h = absurd h.2
 told_wrong block source (NotYetImplemented r) (steady, (bytes, told)) (taken, all, h) =
     let same = takes_told source.bytes source.bytes_after bytes taken told all in
     inr (taken, record { told = told ∙ ap Some (sym same); within = all.within; steady = steady }, h)
 told_wrong block source (ExternalFormat r) (steady, (bytes, told)) (taken, all, h) =
+    let same = takes_told source.bytes source.bytes_after bytes taken told all in
+    inr (taken, record { told = told ∙ ap Some (sym same); within = all.within; steady = steady }, h)
+told_wrong block source (OutOfSpec r) (steady, (bytes, told)) (taken, all, h) =
     let same = takes_told source.bytes source.bytes_after bytes taken told all in
     inr (taken, record { told = told ∙ ap Some (sym same); within = all.within; steady = steady }, h)
 

@@ -8,7 +8,8 @@ use Rattle.arrow_core.specs.declared.error.Reason.TheVariants as reason
 use Rattle.arrow_types.specs.declared.types.Field.{Field}
 use Rattle.avro_schema.specs.declared.schema.AvroField.{AvroField}
 use Rattle.avro_grammar.specs.Inferred.{own_doc, inferred_columns}
-use Rattle.avro_decode.specs.Supported.{AllSupported, AllTyped}
+use Rattle.avro_grammar.specs.Carried.{CarriedList}
+use Rattle.avro_decode.specs.Supported.{AllTyped}
 use Rattle.avro_decode.specs.Refusals.{BelongTogether, FieldsRefused, BytesRefused, BlockRefused}
 use Rattle.arrow_base.specs.Outside.{AppendsPrefix}
 use Rattle.avrocat.specs.declared.command.BlockWords.{BlockWords}
@@ -29,7 +30,7 @@ none_left xs [] same none = refl
 none_left xs (y ∷ ys) same none = absurd (omega (arith, same, ap length none))
 
 -- where a schema isn't carried, there is a field
-some_field : (fields : List AvroField) → (AllSupported fields → ⊥) → 0 < length fields
+some_field : (fields : List AvroField) → (CarriedList fields → ⊥) → 0 < length fields
 some_field [] none = absurd (none (λ k d lt. absurd (omega (arith, lt))))
 some_field (f ∷ fs) none = omega arith
 
@@ -53,7 +54,8 @@ module _ (block : BlockWords) (fields : List Field) (bytes : List ℕ)
   by_bytes : (e : Error) → BelongTogether fields block.avro_fields block.projection → BytesRefused block.rows block.avro_fields block.projection bytes e → (e ≡ OutOfMemory) ⊎ IsWrong block bytes e
   by_bytes Overflow b h = absurd (omega (arith, h, few))
   by_bytes (ExternalFormat reason.Rows) b h = inr ((omega (arith, b.some, each), b.supported), h.1)
-  by_bytes (ExternalFormat reason.BlockBytes) b h = inr ((omega (arith, b.some, each), b.supported), h.0.1, h.1)
+  by_bytes (ExternalFormat reason.BlockBytes) b h = inr ((omega (arith, b.some, each), b.supported), h.0.1, h.1, h.2)
+  by_bytes (OutOfSpec reason.NegativeSize) b h = inr ((omega (arith, b.some, each), b.supported), h.0.1, h.1)
   by_bytes OutOfMemory b h = inl refl
   by_bytes _ b h = absurd h
 
@@ -63,11 +65,11 @@ module _ (block : BlockWords) (fields : List Field) (bytes : List ℕ)
 
 -- a schema without a column is not carried
 pub no_column : (block : BlockWords) (now : List AvroField) (bytes : List ℕ) (e : Error) → now ≡ block.avro_fields
-    → (e ≡ OutOfMemory) ⊎ ((e ≡ NotYetImplemented reason.NotCarried) × (AllSupported now → ⊥)) → (e ≡ OutOfMemory) ⊎ IsWrong block bytes e
+    → (e ≡ OutOfMemory) ⊎ ((e ≡ NotYetImplemented reason.NotCarried) × (CarriedList now → ⊥)) → (e ≡ OutOfMemory) ⊎ IsWrong block bytes e
 no_column block now bytes e lent (inl h) = inl h
 no_column block now bytes e lent (inr h) =
-    let none : AllSupported block.avro_fields → ⊥ = λ all. h.1 (subst AllSupported (sym lent) all) in
-    inr (subst (IsWrong block bytes) (sym h.0) (some_field block.avro_fields none, none))
+    let none : CarriedList block.avro_fields → ⊥ = λ all. h.1 (subst CarriedList (sym lent) all) in
+    inr (subst (IsWrong block bytes) (sym h.0) (some_field block.avro_fields none, λ s. none s.0))
 
 -- the same of lists that are those of the block
 pub of_block : {X : Type 0} (block : BlockWords) (fields : List AvroField) (keeps : List Bool) (bytes given : List ℕ) (answer : Result X Error)
@@ -90,6 +92,7 @@ module _ (block : BlockWords) (source sink : Change) where
   by_what_was_read e bytes keeps all (inl h) = subst (BlockFails block source sink) (sym h) (keeps, tt)
   by_what_was_read (NotYetImplemented r) bytes keeps all (inr h) = (keeps, (bytes, all, h))
   by_what_was_read (ExternalFormat r) bytes keeps all (inr h) = (keeps, (bytes, all, h))
+  by_what_was_read (OutOfSpec r) bytes keeps all (inr h) = (keeps, (bytes, all, h))
   by_what_was_read _ bytes keeps all (inr h) = absurd h
 
   pub write_fails : (answer : Result Unit Error) (bytes text : List ℕ) → TakesAll source.bytes source.bytes_after bytes → ShowsBlock block bytes text

@@ -6,7 +6,7 @@ use Rattle.arrow_types.specs.declared.types.Field.{Field}
 use Rattle.avro_grammar.specs.Inferred.{inferred_columns}
 use Rattle.avro_grammar.specs.ValidBlock.{kept, ValidBlock}
 use Rattle.avro_decode.specs.Columns.{AreColumns}
-use Rattle.avro_decode.specs.Supported.{AllSupported}
+use Rattle.avro_decode.specs.Refusals.{AreSupported}
 use Rattle.avrocat.specs.declared.command.BlockWords.{BlockWords}
 use Rattle.avrocat.specs.Changes.{Change}
 use Rattle.avrocat.specs.Input.{TakesAll}
@@ -16,7 +16,7 @@ use Rattle.avrocat.specs.Shown.{shown}
 pub record IsValid (block : BlockWords) (bytes : List ℕ) : Type 0 where
   pub fields : List Field
   pub typed : inferred_columns block.avro_fields ≡ Some fields
-  pub supported : AllSupported block.avro_fields
+  pub supported : AreSupported block.avro_fields block.projection
   pub valid : ValidBlock block.rows bytes fields block.avro_fields block.projection
 
 -- and the text is the lines of the columns of the kept fields

@@ -24,8 +24,9 @@ const ROW: &str = "row";
 /// Reads the source to its end as one block, and writes a line for each kept field.
 ///
 /// The errors, in this order: `ReadFault` or `LimitExceeded` while the source is read,
-/// `NotYetImplemented` where there is no field or a schema isn't carried, `ExternalFormat` where
-/// the bytes aren't the rows, and `WriteFault`. Nothing is written before the last.
+/// `NotYetImplemented` where there is no field, a schema isn't carried or a kept one isn't
+/// supported, `ExternalFormat` or `OutOfSpec` where the bytes aren't the rows, and `WriteFault`.
+/// Nothing is written before the last. `OutOfMemory` at any time.
 pub fn run_block<S: Source, K: Sink>(
     alloc: Global,
     words: BlockWords,

@@ -24,9 +24,10 @@ const USAGE: u8 = 1;
 ///
 /// The status is 0 where the command was done, 1 where the words stand for no command, and else
 /// that of the error by which it failed. Of a source that tells its bytes and doesn't fail, the
-/// status is the one that these bytes are due. 10, out of memory, may come at any time in its
-/// place. With status 1 nothing is read or written. With any status but 0 the note gets one line
-/// that names the fault; a note that fails holds a prefix of it and changes no status.
+/// status is the one that these bytes are due, or 9 in place of 0 where the sink fails. 10, out of
+/// memory, may come at any time instead. With status 1 nothing is read or written. With any status
+/// but 0 the note gets one line that names the fault; a note that fails holds a prefix of it and
+/// changes no status.
 pub fn run<S: Source, K: Sink, N: Sink>(
     alloc: Global,
     words: &[Text],

@@ -4,10 +4,35 @@ use super::run;
 use arrow_base::{Bytes, Items, MemorySink, MemorySource, Text};
 use std::alloc::Global;
 use std::process::Abort;
-use std::test::Fail;
 
-/// The capacity of a sink of these tests.
-const CAPACITY: usize = 256;
+fn text(rt: &impl Abort, alloc: Global, text: &str) -> Text {
+    Text::try_from_str(alloc, text).expect(rt, "memory")
+}
+
+fn words(rt: &impl Abort, alloc: Global, line: &str) -> Vec<Text> {
+    let mut words = Vec::new(alloc);
+    for word in line.split(' ') {
+        if !word.is_empty() {
+            words.push(text(rt, alloc, word)).expect(rt, "memory");
+        }
+    }
+    words
+}
+
+/// The numbers of the calls that fail: this one, or none where it is 0.
+fn failing(rt: &impl Abort, alloc: Global, call: u64) -> Items<u64> {
+    Items::try_from_slice(alloc, &[call]).expect(rt, "memory")
+}
+
+fn source(rt: &impl Abort, alloc: Global, bytes: &[u8], failing_read: u64) -> MemorySource {
+    let bytes = Bytes::try_from_slice(alloc, bytes).expect(rt, "memory");
+    MemorySource::new(bytes, 3, failing(rt, alloc, failing_read))
+}
+
+fn sink(rt: &impl Abort, alloc: Global, failing_write: u64) -> MemorySink {
+    let failing = failing(rt, alloc, failing_write);
+    MemorySink::with_room(alloc, 256, 256, failing).expect(rt, "memory")
+}
 
 /// What a command answers.
 #[derive(Drop)]
@@ -17,172 +42,162 @@ struct Answer {
     note: MemorySink,
 }
 
-/// Runs the words of a line on these bytes, where the numbered reads and writes fail.
 fn answer_of(
+    rt: &impl Abort,
     alloc: Global,
     line: &str,
-    bytes: &[u8],
-    failing_read: u64,
-    failing_write: u64,
-) -> Result<Answer, Fail> {
-    let mut words = Vec::new(alloc);
-    for word in line.split(' ') {
-        if !word.is_empty() {
-            words.push(Text::try_from_str(alloc, word)?)?;
-        }
-    }
-    let input = Bytes::try_from_slice(alloc, bytes)?;
-    let reads = Items::from_vec(vec![in alloc; failing_read]?);
-    let writes = Items::from_vec(vec![in alloc; failing_write]?);
-    let mut source = MemorySource::new(input, 3, reads);
-    let mut output = MemorySink::with_room(alloc, CAPACITY, CAPACITY, writes)?;
-    let mut note = MemorySink::with_room(
-        alloc,
-        CAPACITY,
-        CAPACITY,
-        Items::from_vec(Vec::new(alloc)),
-    )?;
+    mut source: MemorySource,
+    mut output: MemorySink,
+) -> Answer {
+    let words = words(rt, alloc, line);
+    let mut note = sink(rt, alloc, 0);
     let status = run(alloc, words.as_slice(), &mut source, &mut output, &mut note);
-    Ok(Answer {
+    Answer {
         status,
         output,
         note,
-    })
+    }
 }
 
-fn expect(rt: &impl Abort, line: &str, answer: &Answer, status: u8, output: &str, note: &str) {
-    assert_eq!(rt; answer.status, status, "the status of {line}");
-    assert_eq!(rt;
-        answer.output.held(),
-        output.as_bytes(),
-        "the output of {line}"
-    );
-    assert_eq!(rt; answer.note.held(), note.as_bytes(), "the note of {line}");
+fn is_answer(answer: Answer, status: u8, output: &str, note: &str) -> bool {
+    answer.status == status
+        && answer.output.held() == output.as_bytes()
+        && answer.note.held() == note.as_bytes()
 }
+
+/// The answer of a line on these bytes, where no read and no write fails.
+fn plain_answer(rt: &impl Abort, alloc: Global, line: &str, bytes: &[u8]) -> Answer {
+    answer_of(
+        rt,
+        alloc,
+        line,
+        source(rt, alloc, bytes, 0),
+        sink(rt, alloc, 0),
+    )
+}
+
+const TWO_ROWS: &[u8] = b"\x02\x02\x04hi\x03\x00";
 
 #[test]
-fn valid_blocks_are_shown(rt: HostRuntime) -> Result<(), Fail> {
-    let two_rows = b"\x02\x02\x04hi\x03\x00".as_slice();
-    for (line, bytes, output) in [
+fn valid_blocks_are_shown(rt: HostRuntime) {
+    let table: [(&str, &[u8], &str); 10] = [
         (
             "block 2 a=int b=string?",
-            two_rows,
+            TWO_ROWS,
             "a:[1,-2]\nb:[\"hi\",null]\n",
         ),
-        ("block 2 ~a=int b=string?", two_rows, "b:[\"hi\",null]\n"),
-        ("block 0 a=int", b"".as_slice(), "a:[]\n"),
-        ("block 1 a=long", b"\x80\x01".as_slice(), "a:[64]\n"),
-        ("block 1 a=long", b"\x80\x81\x00".as_slice(), "a:[64]\n"),
+        ("block 2 ~a=int b=string?", TWO_ROWS, "b:[\"hi\",null]\n"),
+        ("block 0 a=int", b"", "a:[]\n"),
+        ("block 1 a=long", b"\x80\x01", "a:[64]\n"),
+        ("block 1 a=long", b"\x80\x81\x00", "a:[64]\n"),
         (
             "block 1 a=long",
-            b"\xff\xff\xff\xff\xff\xff\xff\xff\xff\x01".as_slice(),
+            b"\xff\xff\xff\xff\xff\xff\xff\xff\xff\x01",
             "a:[-9223372036854775808]\n",
         ),
         (
             "block 1 ~a=int b=int",
-            b"\x80\x80\x80\x80\x10\x02".as_slice(),
+            b"\x80\x80\x80\x80\x10\x02",
             "b:[1]\n",
         ),
-        (
-            "block 1 ~a=boolean b=int",
-            b"\x02\x02".as_slice(),
-            "b:[1]\n",
-        ),
-        (
-            "block 1 ~a=string b=int",
-            b"\x02\xff\x02".as_slice(),
-            "b:[1]\n",
-        ),
-        (
-            "block 2 a=boolean!",
-            b"\x00\x01\x02".as_slice(),
-            "a:[true,null]\n",
-        ),
-    ] {
-        let answer = answer_of(rt.alloc(), line, bytes, 0, 0)?;
-        expect(&rt, line, &answer, 0, output, "");
+        ("block 1 ~a=boolean b=int", b"\x02\x02", "b:[1]\n"),
+        ("block 1 ~a=string b=int", b"\x02\xff\x02", "b:[1]\n"),
+        ("block 2 a=boolean!", b"\x00\x01\x02", "a:[true,null]\n"),
+    ];
+    for (line, bytes, output) in table {
+        let answer = plain_answer(&rt, rt.alloc(), line, bytes);
+        assert!(rt; is_answer(answer, 0, output, ""), "{line}");
     }
-    Ok(())
 }
 
 #[test]
-fn other_bytes_and_types_are_refused_with_their_cause(rt: HostRuntime) -> Result<(), Fail> {
-    let bytes_fault = "avrocat: ExternalFormat: BlockBytes\n";
-    let type_fault = "avrocat: NotYetImplemented: NotCarried\n";
-    for (line, bytes, status, note) in [
+fn logical_and_binary_values_are_shown(rt: HostRuntime) {
+    let table: [(&str, &[u8], &str); 5] = [
+        ("block 1 d=decimal(10,2)", b"\x00", "d:[0]\n"),
         (
-            "block 2 a=int b=string?",
-            b"\x02\x02\x04hi\x03\x00\x00".as_slice(),
-            4,
-            bytes_fault,
+            "block 1 d=decimal(10,2)",
+            b"\x08\x00\x00\x80\x00",
+            "d:[32768]\n",
         ),
         (
-            "block 2 a=int b=string?",
-            b"\x02\x02\x04hi\x03".as_slice(),
-            4,
-            bytes_fault,
+            "block 1 d=date t=time-micros!",
+            b"\x02\x00\x04",
+            "d:[1]\nt:[2]\n",
         ),
         (
-            "block 1 a=int",
-            b"\x80\x80\x80\x80\x10".as_slice(),
-            4,
-            bytes_fault,
+            "block 1 f=fixed(2) i=duration b=bytes!",
+            b"\xab\xcd\x01\x00\x00\x00\x02\x00\x00\x00\xff\xff\xff\xff\x00\x02\x7f",
+            "f:[0xabcd]\ni:[{1,2,-1000000}]\nb:[0x7f]\n",
         ),
-        (
-            "block 1000000 a=int",
-            b"\x02\x02".as_slice(),
-            4,
-            "avrocat: ExternalFormat: Rows\n",
-        ),
-        (
-            "block 1 a=long",
-            b"\xff\xff\xff\xff\xff\xff\xff\xff\xff\x02".as_slice(),
-            4,
-            bytes_fault,
-        ),
-        ("block 1 a=boolean", b"\x02".as_slice(), 4, bytes_fault),
-        (
-            "block 1 ~a=int? b=int",
-            b"\x04\x02".as_slice(),
-            4,
-            bytes_fault,
-        ),
-        ("block 1 a=string", b"\x02\xff".as_slice(), 4, bytes_fault),
-        (
-            "block 0",
-            b"".as_slice(),
-            3,
-            "avrocat: NotYetImplemented: NoField\n",
-        ),
-        ("block 1 a=null", b"".as_slice(), 3, type_fault),
-        ("block 0 a={}", b"".as_slice(), 3, type_fault),
-        ("block 1 a=null?", b"\x00".as_slice(), 3, type_fault),
-        (
-            "block 1 a=float",
-            b"\x00\x00\x80\x3f".as_slice(),
-            3,
-            type_fault,
-        ),
-        (
-            "block 1 a=[long]",
-            b"\x04\x02\x04\x00".as_slice(),
-            3,
-            type_fault,
-        ),
-        (
-            "block 1 a=int b=null!",
-            b"\x02\x02".as_slice(),
-            3,
-            type_fault,
-        ),
-    ] {
-        let answer = answer_of(rt.alloc(), line, bytes, 0, 0)?;
-        expect(&rt, line, &answer, status, "", note);
+        ("block 1 d=decimal(4,0,2)", b"\x80\x00", "d:[-32768]\n"),
+    ];
+    for (line, bytes, output) in table {
+        let answer = plain_answer(&rt, rt.alloc(), line, bytes);
+        assert!(rt; is_answer(answer, 0, output, ""), "{line}");
     }
-    Ok(())
 }
 
-/// 64 types, each in the other, and one more.
+#[test]
+fn values_with_parts_are_shown(rt: HostRuntime) {
+    let table: [(&str, &[u8], &str); 6] = [
+        ("block 1 a=[long]", b"\x04\x02\x04\x00", "a:[[1,2]]\n"),
+        ("block 1 a=[long]", b"\x03\x04\x02\x04\x00", "a:[[1,2]]\n"),
+        (DEEP, b"", "a:[]\n"),
+        (
+            "block 1 ~a=[long] b=int",
+            b"\x03\x04\xff\xff\x00\x02",
+            "b:[1]\n",
+        ),
+        (
+            "block 2 r={x=int;y=[string]}?",
+            b"\x00\x02\x02\x04\x02a\x02b\x00",
+            "r:[null,{1,[\"a\",\"b\"]}]\n",
+        ),
+        ("block 1 ~a=float b=int", b"\x00\x00\x80\x3f\x02", "b:[1]\n"),
+    ];
+    for (line, bytes, output) in table {
+        let answer = plain_answer(&rt, rt.alloc(), line, bytes);
+        assert!(rt; is_answer(answer, 0, output, ""), "{line}");
+    }
+}
+
+#[test]
+fn other_bytes_are_refused(rt: HostRuntime) {
+    let table: [(&str, &[u8]); 10] = [
+        ("block 2 a=int b=string?", b"\x02\x02\x04hi\x03\x00\x00"),
+        ("block 2 a=int b=string?", b"\x02\x02\x04hi\x03"),
+        ("block 1 a=int", b"\x80\x80\x80\x80\x10"),
+        (
+            "block 1 a=long",
+            b"\xff\xff\xff\xff\xff\xff\xff\xff\xff\x02",
+        ),
+        ("block 1 a=boolean", b"\x02"),
+        ("block 1 ~a=int? b=int", b"\x04\x02"),
+        ("block 1 a=string", b"\x02\xff"),
+        ("block 1 a=[long]", b"\x03\x06\x02\x04\x00"),
+        (
+            "block 1 a=[long]",
+            b"\xff\xff\xff\xff\xff\xff\xff\xff\xff\x01",
+        ),
+        ("block 1 a=[long] b=int", b"\x03\x01\x02"),
+    ];
+    for (line, bytes) in table {
+        let answer = plain_answer(&rt, rt.alloc(), line, bytes);
+        let note = "avrocat: ExternalFormat: BlockBytes\n";
+        assert!(rt; is_answer(answer, 4, "", note), "{line}");
+    }
+    let answer = plain_answer(&rt, rt.alloc(), "block 1000000 a=int", b"\x02\x02");
+    assert!(rt; is_answer(answer, 4, "", "avrocat: ExternalFormat: Rows\n"));
+}
+
+#[test]
+fn a_skipped_block_of_a_negative_size_is_told(rt: HostRuntime) {
+    let line = "block 1 ~a=[long] b=int";
+    let answer = plain_answer(&rt, rt.alloc(), line, b"\x03\x01\x02");
+    assert!(rt; is_answer(answer, 5, "", "avrocat: OutOfSpec: NegativeSize\n"));
+}
+
+/// Types that nest 64 deep, and one deeper.
 const DEEP: &str =
     "block 0 a=[[[[[[[[[[[[[[[[[[[[[[[[[[[[[[[[[[[[[[[[[[[[[[[[[[[[[[[[[[[[[[[int]]]]]]]]]]]]]]]]]]]]]]]]]]]]]]]]]]]]]]]]]]]]]]]]]]]]]]]]]]]]]]]";
 
@@ -190,17 +205,25 @@ const TOO_DEEP: &str =
     "block 0 a=[[[[[[[[[[[[[[[[[[[[[[[[[[[[[[[[[[[[[[[[[[[[[[[[[[[[[[[[[[[[[[[[int]]]]]]]]]]]]]]]]]]]]]]]]]]]]]]]]]]]]]]]]]]]]]]]]]]]]]]]]]]]]]]]]";
 
 #[test]
-fn at_most_64_types_stand_each_in_the_other(rt: HostRuntime) -> Result<(), Fail> {
-    let deep = answer_of(rt.alloc(), DEEP, b"", 0, 0)?;
-    let type_fault = "avrocat: NotYetImplemented: NotCarried\n";
-    expect(&rt, DEEP, &deep, 3, "", type_fault);
-    let too_deep = answer_of(rt.alloc(), TOO_DEEP, b"", 0, 0)?;
-    expect(&rt, TOO_DEEP, &too_deep, 1, "", "avrocat: usage\n");
-    Ok(())
+fn unsupported_types_are_refused(rt: HostRuntime) {
+    let table: [(&str, &[u8]); 5] = [
+        ("block 1 a=null", b""),
+        ("block 0 a={}", b""),
+        ("block 1 a=null?", b"\x00"),
+        ("block 1 a=float", b"\x00\x00\x80\x3f"),
+        ("block 1 a=int b=null!", b"\x02\x02"),
+    ];
+    for (line, bytes) in table {
+        let answer = plain_answer(&rt, rt.alloc(), line, bytes);
+        let note = "avrocat: NotYetImplemented: NotCarried\n";
+        assert!(rt; is_answer(answer, 3, "", note), "{line}");
+    }
+    let answer = plain_answer(&rt, rt.alloc(), "block 0", b"");
+    assert!(rt; is_answer(answer, 3, "", "avrocat: NotYetImplemented: NoField\n"));
 }
 
 #[test]
-fn words_that_are_no_command_are_usage(rt: HostRuntime) -> Result<(), Fail> {
+fn words_that_are_no_command_are_usage(rt: HostRuntime) {
     for line in [
         "",
         "blok 1",
@@ -214,20 +237,21 @@ fn words_that_are_no_command_are_usage(rt: HostRuntime) -> Result<(), Fail> {
         "block 1 a={;}",
         "block 1 a={x}",
         "block 1 a={x=int",
+        TOO_DEEP,
     ] {
-        let answer = answer_of(rt.alloc(), line, b"\x02", 0, 0)?;
-        expect(&rt, line, &answer, 1, "", "avrocat: usage\n");
+        let answer = plain_answer(&rt, rt.alloc(), line, b"\x02");
+        assert!(rt; is_answer(answer, 1, "", "avrocat: usage\n"), "{line}");
     }
-    Ok(())
 }
 
 #[test]
-fn a_fault_of_source_or_sink_is_the_status(rt: HostRuntime) -> Result<(), Fail> {
+fn a_fault_of_source_or_sink_is_the_status(rt: HostRuntime) {
     let line = "block 2 a=int b=string?";
-    let two_rows = b"\x02\x02\x04hi\x03\x00";
-    let unread = answer_of(rt.alloc(), line, two_rows, 2, 0)?;
-    expect(&rt, line, &unread, 8, "", "avrocat: ReadFault\n");
-    let unwritten = answer_of(rt.alloc(), line, two_rows, 0, 1)?;
-    expect(&rt, line, &unwritten, 9, "", "avrocat: WriteFault\n");
-    Ok(())
+    let unread = source(&rt, rt.alloc(), TWO_ROWS, 2);
+    let answer_unread = answer_of(&rt, rt.alloc(), line, unread, sink(&rt, rt.alloc(), 0));
+    assert!(rt; is_answer(answer_unread, 8, "", "avrocat: ReadFault\n"));
+    let unwritten = sink(&rt, rt.alloc(), 1);
+    let rows = source(&rt, rt.alloc(), TWO_ROWS, 0);
+    let answer_unwritten = answer_of(&rt, rt.alloc(), line, rows, unwritten);
+    assert!(rt; is_answer(answer_unwritten, 9, "", "avrocat: WriteFault\n"));
 }

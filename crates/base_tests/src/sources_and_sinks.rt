@@ -1,11 +1,14 @@
 //! Tests of what no clause of `arrow_base` says.
+ghost use Rattle.std.specs.Prelude.{◌≤◌};
+
 use arrow_base::{
     Bytes, Error, Failed, Items, MemorySink, MemorySource, Sink, Source, StdSink, StdSource,
     SteadySource, write_all, write_str,
 };
+use std::alloc::Global;
 use std::io;
 use std::io::{Read, Write};
-use std::test::Fail;
+use std::process::Abort;
 
 // A device that is out of order: it gives an error to each read, and takes nothing.
 #[derive(Drop)]
@@ -27,8 +30,19 @@ impl Write for Broken {
     }
 }
 
+fn bytes(rt: &impl Abort, alloc: Global, bytes: &[u8]) -> Bytes {
+    Bytes::try_from_slice(alloc, bytes).expect(rt, "memory")
+}
+
+fn sink(rt: &impl Abort, alloc: Global, capacity: usize, piece: usize) -> MemorySink
+    requires { 1 ≤ piece }
+{
+    let none = Items::from_vec(Vec::new(alloc));
+    MemorySink::with_room(alloc, capacity, piece, none).expect(rt, "memory")
+}
+
 #[test]
-fn strings_are_escaped(rt: HostRuntime) -> Result<(), Fail> {
+fn strings_are_escaped(rt: HostRuntime) {
     let table: [(&str, &[u8]); 4] = [
         ("", b"\"\""),
         ("a\n\u{1}", b"\x22\x61\x5C\x6E\x5C\x75\x30\x30\x30\x31\x22"),
@@ -39,95 +53,79 @@ fn strings_are_escaped(rt: HostRuntime) -> Result<(), Fail> {
         ("\u{e9}\n\u{20ac}", b"\"\xc3\xa9\\n\xe2\x82\xac\""),
     ];
     for (text, string) in table {
-        let mut sink = MemorySink::with_room(
-            rt.alloc(),
-            64,
-            3,
-            Items::from_vec(Vec::new(rt.alloc())),
-        )?;
-        write_str(&mut sink, text)?;
-        assert_eq!(rt; sink.held(), string, "{text}");
+        let mut sink = sink(&rt, rt.alloc(), 64, 3);
+        assert!(rt;
+            write_str(&mut sink, text).is_ok() && sink.held() == string,
+            "{text}"
+        );
     }
-    Ok(())
 }
 
 #[test]
-fn strings_are_made_in_a_vector(rt: HostRuntime) -> Result<(), Fail> {
+fn strings_are_made_in_a_vector(rt: HostRuntime) {
     let mut string: Vec<u8> = Vec::new(rt.alloc());
-    write_str(&mut string, "a\n\u{1}")?;
-    write_all(&mut string, b",")?;
-    assert_eq!(rt;
-        string.as_slice(),
-        b"\x22\x61\x5C\x6E\x5C\x75\x30\x30\x30\x31\x22,".as_slice()
-    );
-    Ok(())
+    assert!(rt; write_str(&mut string, "a\n\u{1}").is_ok());
+    assert!(rt; write_all(&mut string, b",").is_ok());
+    let wanted = b"\x22\x61\x5C\x6E\x5C\x75\x30\x30\x30\x31\x22,";
+    assert!(rt; string.as_slice() == wanted.as_slice());
 }
 
 #[test]
-fn a_full_sink_holds_a_prefix(rt: HostRuntime) -> Result<(), Fail> {
-    let none = Items::from_vec(Vec::new(rt.alloc()));
-    let mut sink = MemorySink::with_room(rt.alloc(), 4, 4, none)?;
-    assert_eq!(rt; sink.write(b"abcdef"), Ok(4));
-    assert_eq!(rt; sink.write(b"ef"), Err(Failed));
-    assert_eq!(rt; sink.faults(), 1);
-    assert_eq!(rt; sink.held(), b"abcd".as_slice());
-
-    let none = Items::from_vec(Vec::new(rt.alloc()));
-    let mut sink = MemorySink::with_room(rt.alloc(), 4, 4, none)?;
-    assert_eq!(rt; write_str(&mut sink, "a\nb"), Err(Error::WriteFault));
-    assert_eq!(rt; sink.held(), b"\"a\\n".as_slice());
-    Ok(())
+fn a_full_sink_holds_a_prefix(rt: HostRuntime) {
+    let mut sink = sink(&rt, rt.alloc(), 4, 4);
+    assert!(rt; sink.write(b"abcdef") == Ok(4));
+    assert!(rt; sink.write(b"ef") == Err(Failed) && sink.faults() == 1);
+    assert!(rt; sink.held() == b"abcd".as_slice());
 }
 
 #[test]
-fn listed_calls_fail(rt: HostRuntime) -> Result<(), Fail> {
-    let second = Items::from_vec(vec![in rt.alloc(); 2]?);
-    let bytes = Bytes::try_from_slice(rt.alloc(), b"abcde")?;
-    let mut source = MemorySource::new(bytes, 2, second);
+fn a_string_that_does_not_fit_is_cut(rt: HostRuntime) {
+    let mut sink = sink(&rt, rt.alloc(), 4, 4);
+    assert!(rt; write_str(&mut sink, "a\nb") == Err(Error::WriteFault));
+    assert!(rt; sink.held() == b"\"a\\n".as_slice());
+}
+
+#[test]
+fn listed_reads_fail(rt: HostRuntime) {
+    let second = Items::try_from_slice(rt.alloc(), &[2]).expect(&rt, "memory");
+    let mut source = MemorySource::new(bytes(&rt, rt.alloc(), b"abcde"), 2, second);
     let mut buffer = [0; 3];
-    assert_eq!(rt; source.read(&mut buffer), Ok(2));
-    assert_eq!(rt; source.read(&mut buffer), Err(Failed));
-    assert_eq!(rt; source.read(&mut buffer), Ok(2));
-    assert_eq!(rt; &buffer[..2], b"cd".as_slice());
-    assert_eq!(rt; source.read(&mut buffer), Ok(1));
-    assert_eq!(rt; source.read(&mut buffer), Ok(0));
-
-    let second = Items::from_vec(vec![in rt.alloc(); 2]?);
-    let mut sink = MemorySink::with_room(rt.alloc(), 9, 2, second)?;
-    assert_eq!(rt; write_all(&mut sink, b"abcd"), Err(Error::WriteFault));
-    assert_eq!(rt; write_all(&mut sink, b"cd"), Ok(()));
-    assert_eq!(rt; sink.held(), b"abcd".as_slice());
-    Ok(())
+    assert!(rt; source.read(&mut buffer) == Ok(2));
+    assert!(rt; source.read(&mut buffer) == Err(Failed));
+    assert!(rt; source.read(&mut buffer) == Ok(2) && &buffer[..2] == b"cd".as_slice());
+    assert!(rt; source.read(&mut buffer) == Ok(1) && source.read(&mut buffer) == Ok(0));
 }
 
 #[test]
-fn a_steady_source_gives_all(rt: HostRuntime) -> Result<(), Fail> {
-    let bytes = Bytes::try_from_slice(rt.alloc(), b"abcde")?;
-    let mut source = SteadySource::new(bytes, 4);
+fn listed_writes_fail(rt: HostRuntime) {
+    let second = Items::try_from_slice(rt.alloc(), &[2]).expect(&rt, "memory");
+    let mut sink = MemorySink::with_room(rt.alloc(), 9, 2, second).expect(&rt, "memory");
+    assert!(rt; write_all(&mut sink, b"abcd") == Err(Error::WriteFault));
+    assert!(rt; write_all(&mut sink, b"cd").is_ok() && sink.held() == b"abcd".as_slice());
+}
+
+#[test]
+fn a_steady_source_gives_all(rt: HostRuntime) {
+    let mut source = SteadySource::new(bytes(&rt, rt.alloc(), b"abcde"), 4);
     let mut buffer = [0; 8];
-    assert_eq!(rt; source.read(&mut buffer), Ok(4));
-    assert_eq!(rt; source.read(&mut buffer), Ok(1));
-    assert_eq!(rt; buffer[0], b'e');
-    assert_eq!(rt; source.read(&mut buffer), Ok(0));
-    Ok(())
+    assert!(rt; source.read(&mut buffer) == Ok(4));
+    assert!(rt; source.read(&mut buffer) == Ok(1) && buffer[0] == b'e');
+    assert!(rt; source.read(&mut buffer) == Ok(0));
 }
 
 #[test]
-fn readers_and_writers_of_std_are_read_and_written(rt: HostRuntime) -> Result<(), Fail> {
+fn readers_of_std_are_read(rt: HostRuntime) {
     let mut source = StdSource::new(b"abc".as_slice());
     let mut buffer = [0; 2];
-    assert_eq!(rt; source.read(&mut buffer), Ok(2));
-    assert_eq!(rt; buffer, *b"ab");
-    assert_eq!(rt; source.read(&mut buffer), Ok(1));
-    assert_eq!(rt; source.read(&mut buffer), Ok(0));
-    assert_eq!(rt; StdSource::new(Broken).read(&mut buffer), Err(Failed));
+    assert!(rt; source.read(&mut buffer) == Ok(2) && buffer == *b"ab");
+    assert!(rt; source.read(&mut buffer) == Ok(1) && source.read(&mut buffer) == Ok(0));
+    assert!(rt; StdSource::new(Broken).read(&mut buffer) == Err(Failed));
+}
 
+#[test]
+fn writers_of_std_are_written(rt: HostRuntime) {
     let mut written: Vec<u8> = Vec::new(rt.alloc());
-    write_str(&mut StdSink::new(&mut written), "abc")?;
-    assert_eq!(rt; written.as_slice(), b"\"abc\"".as_slice());
-    assert_eq!(rt;
-        write_str(&mut StdSink::new(Broken), "abc"),
-        Err(Error::WriteFault)
-    );
-    Ok(())
+    assert!(rt; write_str(&mut StdSink::new(&mut written), "abc").is_ok());
+    assert!(rt; written.as_slice() == b"\"abc\"".as_slice());
+    assert!(rt; write_str(&mut StdSink::new(Broken), "abc") == Err(Error::WriteFault));
 }

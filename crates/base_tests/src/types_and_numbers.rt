@@ -1,24 +1,22 @@
 //! Tests of what no clause of `arrow_types` says.
-use arrow_core::{Box, Items, Metadata, Result, Text};
+use arrow_core::{Box, Items, Metadata, Text};
 use arrow_types::{
     DataType, Field, IntegerType, IntervalUnit, MonthsDaysNs, NativeType, Offset, PhysicalType,
     PrimitiveType, Schema, TimeUnit,
 };
 use std::alloc::Global;
-use std::test::Fail;
+use std::process::Abort;
 
 #[test]
-fn an_offset_keeps_its_number(rt: HostRuntime) -> std::result::Result<(), Fail> {
-    let short = i32::from_usize(2147483647).ok_or("the greatest of 32 bits")?;
-    assert_eq!(rt; short, 2147483647);
-    assert_eq!(rt; short.to_usize(), 2147483647);
-    assert_eq!(rt; i32::from_usize(2147483648), None);
-    let long = i64::from_usize(9223372036854775807).ok_or("the greatest of 64 bits")?;
-    assert_eq!(rt; long.to_usize(), 9223372036854775807);
-    assert_eq!(rt; i64::from_usize(9223372036854775808), None);
-    assert_eq!(rt; (-1i32).checked_to_usize(), None);
-    assert_eq!(rt; 7i64.checked_to_usize(), Some(7));
-    Ok(())
+fn an_offset_keeps_its_number(rt: HostRuntime) {
+    let short = i32::from_usize(2147483647).expect(&rt, "the greatest of 32 bits");
+    assert!(rt; short == 2147483647 && short.to_usize() == 2147483647);
+    let long = i64::from_usize(9223372036854775807).expect(&rt, "the greatest of 64 bits");
+    assert!(rt; long.to_usize() == 9223372036854775807);
+    assert!(rt;
+        i32::from_usize(2147483648) == None && i64::from_usize(9223372036854775808) == None
+    );
+    assert!(rt; (-1i32).checked_to_usize() == None && 7i64.checked_to_usize() == Some(7));
 }
 
 fn is_zero<T: NativeType>(value: T) -> bool {
@@ -27,171 +25,122 @@ fn is_zero<T: NativeType>(value: T) -> bool {
 
 #[test]
 fn a_zero_is_all_zeros(rt: HostRuntime) {
-    assert!(rt; is_zero(0u64));
-    assert!(rt; !is_zero(1i128));
-    let moment = MonthsDaysNs {
+    let interval = MonthsDaysNs {
         months: 0,
         days: 0,
         ns: 1,
     };
-    assert!(rt; !is_zero(moment));
+    assert!(rt; is_zero(0u64) && !is_zero(1i128) && !is_zero(interval));
 }
 
-fn text(alloc: Global, s: &str) -> Result<Text> {
-    Text::try_from_str(alloc, s)
+fn text(rt: &impl Abort, alloc: Global, text: &str) -> Text {
+    Text::try_from_str(alloc, text).expect(rt, "memory")
 }
 
-fn moment(alloc: Global) -> Result<DataType> {
-    let zone = text(alloc, "00:00")?;
-    Ok(DataType::Timestamp(TimeUnit::Microsecond, Some(zone)))
+fn moment(rt: &impl Abort, alloc: Global) -> DataType {
+    DataType::Timestamp(TimeUnit::Microsecond, Some(text(rt, alloc, "00:00")))
 }
 
-fn item(alloc: Global) -> Result<Field> {
-    let name = text(alloc, "item")?;
-    match moment(alloc) {
-        Ok(data_type) => Ok(Field::new(alloc, name, data_type, true)),
-        Err(error) => Err(error),
-    }
+fn list(rt: &impl Abort, alloc: Global) -> DataType {
+    let item = Field::new(alloc, text(rt, alloc, "item"), moment(rt, alloc), true);
+    DataType::List(Box::new(alloc, item).expect(rt, "memory"))
 }
 
-fn list(alloc: Global) -> Result<DataType> {
-    let item = item(alloc)?;
-    match Box::new(alloc, item) {
-        Ok(item) => Ok(DataType::List(item)),
-        Err(error) => Err(error),
-    }
+fn plain_field(rt: &impl Abort, alloc: Global, name: &str) -> Field {
+    Field::new(alloc, text(rt, alloc, name), list(rt, alloc), false)
 }
 
-fn one_entry(alloc: Global) -> Result<Metadata> {
-    let key = text(alloc, "k")?;
-    let value = text(alloc, "v")?;
+fn one_entry(rt: &impl Abort, alloc: Global) -> Metadata {
     let mut metadata = Metadata::new(alloc);
-    metadata.insert(key, value)?;
-    Ok(metadata)
-}
-
-fn plain_field(alloc: Global, name: &str) -> Result<Field> {
-    let name = text(alloc, name)?;
-    match list(alloc) {
-        Ok(data_type) => Ok(Field::new(alloc, name, data_type, false)),
-        Err(error) => Err(error),
-    }
+    metadata
+        .insert(text(rt, alloc, "k"), text(rt, alloc, "v"))
+        .expect(rt, "memory");
+    metadata
 }
 
 /// A field of lists of moments, with an entry of metadata.
-fn nested_field(alloc: Global) -> Result<Field> {
-    let field = plain_field(alloc, "a")?;
-    match one_entry(alloc) {
-        Ok(metadata) => Ok(field.with_metadata(metadata)),
-        Err(error) => Err(error),
-    }
+fn nested_field(rt: &impl Abort, alloc: Global) -> Field {
+    plain_field(rt, alloc, "a").with_metadata(one_entry(rt, alloc))
 }
 
-fn type_equals_its_copy(alloc: Global) -> Result<bool> {
-    let data_type = list(alloc)?;
-    match data_type.try_clone(alloc) {
-        Ok(copy) => Ok(copy == data_type),
-        Err(error) => Err(error),
-    }
+fn nullable_field(rt: &impl Abort, alloc: Global) -> Field {
+    let mut field = nested_field(rt, alloc);
+    field.is_nullable = true;
+    field
 }
 
-fn field_equals_its_copy(alloc: Global) -> Result<bool> {
-    let field = nested_field(alloc)?;
-    match field.try_clone(alloc) {
-        Ok(copy) => Ok(copy == field && copy.metadata.get("k") == Some("v")),
-        Err(error) => Err(error),
-    }
-}
-
-fn one_field_schema(alloc: Global) -> Result<Schema> {
-    let field = plain_field(alloc, "a")?;
-    let mut fields = Vec::new(alloc);
-    fields.push(field)?;
-    Ok(Schema {
+fn schema(rt: &impl Abort, alloc: Global) -> Schema {
+    let fields = vec![in alloc; plain_field(rt, alloc, "a")].expect(rt, "memory");
+    Schema {
         fields: Items::from_vec(fields),
         metadata: Metadata::new(alloc),
-    })
+    }
 }
 
-fn schema_equals_its_copy(alloc: Global) -> Result<bool> {
-    let schema = one_field_schema(alloc)?;
-    match schema.try_clone(alloc) {
-        Ok(copy) => Ok(copy == schema),
-        Err(error) => Err(error),
-    }
+fn are_equal(left: Field, right: Field) -> bool {
+    left == right
+}
+
+fn field_is_copied(rt: &impl Abort, alloc: Global, field: Field) -> bool {
+    are_equal(field.try_clone(alloc).expect(rt, "memory"), field)
+}
+
+fn type_is_copied(rt: &impl Abort, alloc: Global, data_type: DataType) -> bool {
+    data_type.try_clone(alloc).expect(rt, "memory") == data_type
+}
+
+fn schema_is_copied(rt: &impl Abort, alloc: Global, schema: Schema) -> bool {
+    schema.try_clone(alloc).expect(rt, "memory") == schema
 }
 
 #[test]
-fn a_copy_is_the_same(rt: HostRuntime) -> std::result::Result<(), Fail> {
-    assert!(rt; type_equals_its_copy(rt.alloc())?);
-    assert!(rt; field_equals_its_copy(rt.alloc())?);
-    assert!(rt; schema_equals_its_copy(rt.alloc())?);
-    Ok(())
-}
-
-/// Whether a field equals one of another nullability.
-fn equals_nullable(alloc: Global) -> Result<bool> {
-    let field = nested_field(alloc)?;
-    match nested_field(alloc) {
-        Ok(mut other) => {
-            other.is_nullable = true;
-            Ok(other == field)
-        }
-        Err(error) => Err(error),
-    }
-}
-
-/// Whether a field equals one of another name.
-fn equals_renamed(alloc: Global) -> Result<bool> {
-    let field = plain_field(alloc, "a")?;
-    match plain_field(alloc, "b") {
-        Ok(other) => Ok(other == field),
-        Err(error) => Err(error),
-    }
-}
-
-/// Whether a field equals one without its metadata.
-fn equals_without_metadata(alloc: Global) -> Result<bool> {
-    let field = nested_field(alloc)?;
-    match plain_field(alloc, "a") {
-        Ok(other) => Ok(other == field),
-        Err(error) => Err(error),
-    }
+fn a_copy_is_the_same(rt: HostRuntime) {
+    assert!(rt; type_is_copied(&rt, rt.alloc(), list(&rt, rt.alloc())));
+    assert!(rt; field_is_copied(&rt, rt.alloc(), nested_field(&rt, rt.alloc())));
+    assert!(rt; schema_is_copied(&rt, rt.alloc(), schema(&rt, rt.alloc())));
 }
 
 #[test]
-fn other_fields_and_types_differ(rt: HostRuntime) -> std::result::Result<(), Fail> {
-    assert!(rt; !equals_nullable(rt.alloc())?);
-    assert!(rt; !equals_renamed(rt.alloc())?);
-    assert!(rt; !equals_without_metadata(rt.alloc())?);
+fn fields_of_another_nullability_name_or_metadata_differ(rt: HostRuntime) {
+    let alloc = rt.alloc();
+    assert!(rt; !are_equal(nested_field(&rt, alloc), nullable_field(&rt, alloc)));
+    assert!(rt; !are_equal(plain_field(&rt, alloc, "a"), plain_field(&rt, alloc, "b")));
+    assert!(rt; !are_equal(nested_field(&rt, alloc), plain_field(&rt, alloc, "a")));
     assert!(rt; DataType::Utf8 != DataType::LargeUtf8);
-    Ok(())
 }
 
-fn physical_of_extension(alloc: Global) -> Result<PhysicalType> {
-    let name = text(alloc, "day")?;
-    match Box::new(alloc, DataType::Date32) {
-        Ok(day) => Ok(DataType::Extension(name, day, None).to_physical_type()),
-        Err(error) => Err(error),
-    }
+fn extension(rt: &impl Abort, alloc: Global) -> DataType {
+    let day = Box::new(alloc, DataType::Date32).expect(rt, "memory");
+    DataType::Extension(text(rt, alloc, "day"), day, None)
 }
 
-fn physical_of_dictionary(alloc: Global) -> Result<PhysicalType> {
-    let values = Box::new(alloc, DataType::Utf8)?;
-    Ok(DataType::Dictionary(IntegerType::Int32, values, false).to_physical_type())
+fn dictionary(rt: &impl Abort, alloc: Global) -> DataType {
+    let values = Box::new(alloc, DataType::Utf8).expect(rt, "memory");
+    DataType::Dictionary(IntegerType::Int32, values, false)
+}
+
+fn lies_as(data_type: DataType, physical: PhysicalType) -> bool {
+    data_type.to_physical_type() == physical
+}
+
+fn lies_as_primitive(data_type: DataType, primitive: PrimitiveType) -> bool {
+    lies_as(data_type, PhysicalType::Primitive(primitive))
 }
 
 #[test]
-fn a_type_lies_as_the_type_beneath(rt: HostRuntime) -> std::result::Result<(), Fail> {
+fn a_type_lies_as_the_type_beneath(rt: HostRuntime) {
+    assert!(rt; lies_as_primitive(extension(&rt, rt.alloc()), PrimitiveType::Int32));
     assert!(rt;
-        physical_of_extension(rt.alloc())? == PhysicalType::Primitive(PrimitiveType::Int32)
+        lies_as_primitive(
+            DataType::Interval(IntervalUnit::DayTime),
+            PrimitiveType::DaysMs
+        )
     );
+    assert!(rt; lies_as_primitive(DataType::Decimal(9, 2), PrimitiveType::Int128));
     assert!(rt;
-        physical_of_dictionary(rt.alloc())? == PhysicalType::Dictionary(IntegerType::Int32)
+        lies_as(
+            dictionary(&rt, rt.alloc()),
+            PhysicalType::Dictionary(IntegerType::Int32)
+        )
     );
-    let interval = DataType::Interval(IntervalUnit::DayTime).to_physical_type();
-    assert!(rt; interval == PhysicalType::Primitive(PrimitiveType::DaysMs));
-    let decimal = DataType::Decimal(9, 2).to_physical_type();
-    assert!(rt; decimal == PhysicalType::Primitive(PrimitiveType::Int128));
-    Ok(())
 }

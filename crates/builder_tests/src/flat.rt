@@ -1,202 +1,191 @@
 //! Each builder without children, given a value and a null.
 
-use arrow_array::Utf8Array;
+use arrow_array::{
+    BinaryArray, BooleanArray, DictionaryArray, FixedSizeBinaryArray, PrimitiveArray, Utf8Array,
+};
 use arrow_builders::{
     Container, FixedItemsUtf8Dictionary, MutableBinaryArray, MutableBooleanArray,
     MutableFixedSizeBinaryArray, MutableNullArray, MutablePrimitiveArray, MutableUtf8Array,
 };
-use arrow_core::Result;
-use arrow_types::{DataType, MonthsDaysNs, NativeType, Offset};
+use arrow_types::{DataType, MonthsDaysNs, NativeType};
 use std::alloc::Global;
+use std::process::Abort;
 
-// Each builder has an owner that only lends it, so that there is one end at which it is dropped.
+// Each maker looks that its builder is empty once it has given its array.
 
-/// Whether a builder of numbers, given one and a null, makes the array of these and is empty then.
-fn makes_number_and_null<T: NativeType>(
-    builder: &mut MutablePrimitiveArray<T>,
-    one: T,
-) -> Result<bool> {
-    builder.push(Some(one))?;
-    builder.push(None)?;
-    let array = builder.as_box()?;
-    let is_made = array.len() == 2 && array.is_valid(0) && array.value(0) == one;
-    Ok(is_made && !array.is_valid(1) && builder.len() == 0)
+fn number_and_null<T: NativeType>(rt: &impl Abort, alloc: Global, number: T) -> PrimitiveArray<T> {
+    let mut builder = MutablePrimitiveArray::with_capacity(alloc, 0).expect(rt, "memory");
+    builder.push(Some(number)).expect(rt, "memory");
+    builder.push(None).expect(rt, "memory");
+    let array = builder.as_box().expect(rt, "memory");
+    assert!(rt; builder.len() == 0);
+    array
 }
 
-fn keeps_number<T: NativeType>(alloc: Global, one: T) -> bool {
-    match MutablePrimitiveArray::with_capacity(alloc, 0) {
-        Ok(mut builder) => makes_number_and_null(&mut builder, one).unwrap_or(false),
-        Err(_) => false,
-    }
+fn is_kept<T: NativeType>(rt: &impl Abort, alloc: Global, number: T) -> bool {
+    let array = number_and_null(rt, alloc, number);
+    array.len() == 2 && array.is_valid(0) && array.value(0) == number && !array.is_valid(1)
 }
 
 #[test]
-fn numbers_are_kept(rt: HostRuntime) {
-    assert!(rt; keeps_number(rt.alloc(), 1_i8));
-    assert!(rt; keeps_number(rt.alloc(), 1_u64));
-    assert!(rt; keeps_number(rt.alloc(), 1_i128));
-}
-
-#[test]
-fn intervals_are_kept(rt: HostRuntime) {
-    let one = MonthsDaysNs {
+fn numbers_and_intervals_are_kept(rt: HostRuntime) {
+    assert!(rt; is_kept(&rt, rt.alloc(), 1_i8));
+    assert!(rt; is_kept(&rt, rt.alloc(), 1_u64));
+    assert!(rt; is_kept(&rt, rt.alloc(), 1_i128));
+    let interval = MonthsDaysNs {
         months: 1,
         days: 2,
         ns: -3,
     };
-    assert!(rt; keeps_number(rt.alloc(), one));
+    assert!(rt; is_kept(&rt, rt.alloc(), interval));
 }
 
-/// Whether a builder of integers, given the type of dates, makes an array of that type.
-fn makes_dates(builder: MutablePrimitiveArray<i32>) -> Result<bool> {
-    let mut builder = builder.to(DataType::Date32);
-    let array = builder.as_box()?;
-    Ok(matches!(array.data_type(), DataType::Date32) && array.len() == 0)
+fn no_dates(rt: &impl Abort, alloc: Global) -> PrimitiveArray<i32> {
+    let integers = MutablePrimitiveArray::<i32>::with_capacity(alloc, 0).expect(rt, "memory");
+    let mut dates = integers.to(DataType::Date32);
+    dates.as_box().expect(rt, "memory")
+}
+
+fn are_no_dates(array: PrimitiveArray<i32>) -> bool {
+    matches!(array.data_type(), DataType::Date32) && array.len() == 0
 }
 
 #[test]
 fn integers_become_dates(rt: HostRuntime) {
-    assert!(rt;
-        match MutablePrimitiveArray::with_capacity(rt.alloc(), 0) {
-            Ok(builder) => makes_dates(builder).unwrap_or(false),
-            Err(_) => false,
-        }
-    );
+    assert!(rt; are_no_dates(no_dates(&rt, rt.alloc())));
 }
 
-fn makes_boolean_and_null(builder: &mut MutableBooleanArray) -> Result<bool> {
-    builder.push(Some(true))?;
-    builder.push(None)?;
-    let array = builder.as_box()?;
-    let is_made = array.len() == 2 && array.is_valid(0) && array.value(0);
-    Ok(is_made && !array.is_valid(1) && builder.len() == 0)
+fn true_and_null(rt: &impl Abort, alloc: Global) -> BooleanArray {
+    let mut builder = MutableBooleanArray::with_capacity(alloc, 0).expect(rt, "memory");
+    builder.push(Some(true)).expect(rt, "memory");
+    builder.push(None).expect(rt, "memory");
+    let array = builder.as_box().expect(rt, "memory");
+    assert!(rt; builder.len() == 0);
+    array
+}
+
+fn is_true_and_null(array: BooleanArray) -> bool {
+    array.len() == 2 && array.is_valid(0) && array.value(0) && !array.is_valid(1)
 }
 
 #[test]
 fn booleans_are_kept(rt: HostRuntime) {
-    assert!(rt;
-        match MutableBooleanArray::with_capacity(rt.alloc(), 0) {
-            Ok(mut builder) => makes_boolean_and_null(&mut builder).unwrap_or(false),
-            Err(_) => false,
-        }
-    );
+    assert!(rt; is_true_and_null(true_and_null(&rt, rt.alloc())));
 }
 
-/// Whether a builder of strings makes the array whose offsets and bytes lie as the format says.
-fn makes_strings(builder: &mut MutableUtf8Array<i32>) -> Result<bool> {
-    builder.push(Some("hi"))?;
-    builder.push(None)?;
-    builder.push(Some("é"))?;
-    let array = builder.as_box()?;
-    let are_cut = array.offsets() == [0, 2, 2, 4].as_slice();
-    Ok(are_cut && array.values() == "hié".as_bytes() && builder.byte_len() == 0)
+/// "hi", a null, "é".
+fn strings(rt: &impl Abort, alloc: Global) -> Utf8Array<i32> {
+    let mut builder = MutableUtf8Array::<i32>::with_capacity(alloc, 0).expect(rt, "memory");
+    builder.push(Some("hi")).expect(rt, "memory");
+    builder.push(None).expect(rt, "memory");
+    builder.push(Some("é")).expect(rt, "memory");
+    let array = builder.as_box().expect(rt, "memory");
+    assert!(rt; builder.byte_len() == 0);
+    array
+}
+
+fn are_strings(array: Utf8Array<i32>) -> bool {
+    array.offsets() == [0, 2, 2, 4].as_slice() && array.values() == "hié".as_bytes()
 }
 
 #[test]
 fn strings_lie_one_after_another(rt: HostRuntime) {
-    assert!(rt;
-        match MutableUtf8Array::<i32>::with_capacity(rt.alloc(), 0) {
-            Ok(mut builder) => makes_strings(&mut builder).unwrap_or(false),
-            Err(_) => false,
-        }
-    );
+    assert!(rt; are_strings(strings(&rt, rt.alloc())));
 }
 
-fn makes_bytes_and_null<O: Offset>(builder: &mut MutableBinaryArray<O>) -> Result<bool> {
-    builder.push(Some(&[1, 255]))?;
-    builder.push(None)?;
-    let array = builder.as_box()?;
-    let is_made = array.len() == 2 && array.is_valid(0) && array.value(0) == [1, 255].as_slice();
-    Ok(is_made && !array.is_valid(1) && builder.len() == 0 && builder.byte_len() == 0)
+fn bytes_and_null(rt: &impl Abort, alloc: Global) -> BinaryArray<i64> {
+    let mut builder = MutableBinaryArray::<i64>::with_capacity(alloc, 0).expect(rt, "memory");
+    builder.push(Some(&[1, 255])).expect(rt, "memory");
+    builder.push(None).expect(rt, "memory");
+    let array = builder.as_box().expect(rt, "memory");
+    assert!(rt; builder.len() == 0 && builder.byte_len() == 0);
+    array
+}
+
+fn are_bytes_and_null(array: BinaryArray<i64>) -> bool {
+    array.len() == 2
+        && (array.is_valid(0) && array.value(0) == [1, 255].as_slice())
+        && !array.is_valid(1)
 }
 
 #[test]
 fn binary_values_are_kept(rt: HostRuntime) {
-    assert!(rt;
-        match MutableBinaryArray::<i64>::with_capacity(rt.alloc(), 0) {
-            Ok(mut builder) => makes_bytes_and_null(&mut builder).unwrap_or(false),
-            Err(_) => false,
-        }
-    );
+    assert!(rt; are_bytes_and_null(bytes_and_null(&rt, rt.alloc())));
 }
 
-/// The same of binary values of two bytes: a null takes two as well.
-fn makes_pair_and_null(builder: &mut MutableFixedSizeBinaryArray) -> Result<bool> {
-    if builder.size() != 2 {
-        return Ok(false);
-    }
-    builder.push(Some(&[1, 255]))?;
-    builder.push(None)?;
-    let bytes = builder.lengths().bytes;
-    let array = builder.as_box()?;
-    let is_made = array.len() == 2 && array.is_valid(0) && array.value(0) == [1, 255].as_slice();
-    Ok(is_made && !array.is_valid(1) && bytes == 4 && builder.len() == 0)
+/// Binary values of two bytes: a null takes two as well.
+fn pair_and_null(rt: &impl Abort, alloc: Global) -> FixedSizeBinaryArray {
+    let mut builder = MutableFixedSizeBinaryArray::with_capacity(alloc, 2, 0).expect(rt, "memory");
+    assert!(rt; builder.size() == 2);
+    builder.push(Some(&[1, 255])).expect(rt, "memory");
+    builder.push(None).expect(rt, "memory");
+    assert!(rt; builder.lengths().bytes == 4);
+    let array = builder.as_box().expect(rt, "memory");
+    assert!(rt; builder.len() == 0);
+    array
+}
+
+fn is_pair_and_null(array: FixedSizeBinaryArray) -> bool {
+    array.len() == 2
+        && (array.is_valid(0) && array.value(0) == [1, 255].as_slice())
+        && !array.is_valid(1)
 }
 
 #[test]
 fn fixed_size_binary_values_are_kept(rt: HostRuntime) {
-    assert!(rt;
-        match MutableFixedSizeBinaryArray::with_capacity(rt.alloc(), 2, 0) {
-            Ok(mut builder) => makes_pair_and_null(&mut builder).unwrap_or(false),
-            Err(_) => false,
-        }
-    );
-}
-
-/// Whether a builder of nulls counts one.
-fn makes_null(builder: &mut MutableNullArray) -> Result<bool> {
-    builder.push_null()?;
-    let array = builder.as_box()?;
-    Ok(array.len() == 1 && builder.len() == 0)
+    assert!(rt; is_pair_and_null(pair_and_null(&rt, rt.alloc())));
 }
 
 #[test]
 fn nulls_are_counted(rt: HostRuntime) {
     let mut builder = MutableNullArray::new(rt.alloc());
-    assert!(rt; makes_null(&mut builder).unwrap_or(false));
+    builder.push_null().expect(&rt, "memory");
+    assert!(rt; builder.as_box().expect(&rt, "memory").len() == 1 && builder.len() == 0);
 }
 
 /// The strings A and B.
-fn make_letters(builder: &mut MutableUtf8Array<i32>) -> Result<Utf8Array<i32>> {
-    builder.push(Some("A"))?;
-    builder.push(Some("B"))?;
-    builder.as_box()
+fn letters(rt: &impl Abort, alloc: Global) -> Utf8Array<i32> {
+    let mut builder = MutableUtf8Array::with_capacity(alloc, 2).expect(rt, "memory");
+    builder.push(Some("A")).expect(rt, "memory");
+    builder.push(Some("B")).expect(rt, "memory");
+    builder.as_box().expect(rt, "memory")
 }
 
-fn letters(alloc: Global) -> Result<Utf8Array<i32>> {
-    let mut builder = MutableUtf8Array::with_capacity(alloc, 2)?;
-    make_letters(&mut builder)
+fn empty_dictionary(rt: &impl Abort, alloc: Global) -> FixedItemsUtf8Dictionary {
+    FixedItemsUtf8Dictionary::with_capacity(alloc, letters(rt, alloc), 0).expect(rt, "memory")
 }
 
-fn empty_dictionary(alloc: Global) -> Result<FixedItemsUtf8Dictionary> {
-    FixedItemsUtf8Dictionary::with_capacity(alloc, letters(alloc)?, 0)
+/// Pushes the second of two values, and a null.
+fn push_second_and_null(rt: &impl Abort, builder: &mut FixedItemsUtf8Dictionary) {
+    assert!(rt; builder.values_len() == 2);
+    builder.push_valid(1).expect(rt, "memory");
+    builder.push_null().expect(rt, "memory");
 }
 
-/// Whether a dictionary over two values takes the second and a null.
-fn makes_second_and_null(builder: &mut FixedItemsUtf8Dictionary) -> Result<bool> {
-    if builder.values_len() != 2 {
-        return Ok(false);
-    }
-    builder.push_valid(1)?;
-    builder.push_null()?;
-    let array = builder.as_box()?;
-    let is_made = array.len() == 2 && array.keys().index(0) == Some(1);
-    Ok(is_made && !array.is_valid(1) && array.values().len() == 2 && builder.len() == 0)
+fn given_keys(rt: &impl Abort, builder: &mut FixedItemsUtf8Dictionary) -> DictionaryArray {
+    let array = builder.as_box().expect(rt, "memory");
+    assert!(rt; builder.len() == 0);
+    array
 }
 
-/// Whether a builder does so twice: `as_box` leaves it its values.
-fn keeps_keys(builder: &mut FixedItemsUtf8Dictionary) -> bool {
-    let once = makes_second_and_null(builder).unwrap_or(false);
-    let twice = makes_second_and_null(builder).unwrap_or(false);
+fn is_second_and_null(array: &DictionaryArray) -> bool {
+    array.len() == 2 && array.keys().index(0) == Some(1) && !array.is_valid(1)
+}
+
+fn gives_second_and_null(rt: &impl Abort, builder: &mut FixedItemsUtf8Dictionary) -> bool {
+    push_second_and_null(rt, builder);
+    let array = given_keys(rt, builder);
+    is_second_and_null(&array)
+}
+
+/// Whether a builder gives them twice: `as_box` leaves it its values.
+fn gives_them_twice(rt: &impl Abort, builder: &mut FixedItemsUtf8Dictionary) -> bool {
+    let once = gives_second_and_null(rt, builder);
+    let twice = gives_second_and_null(rt, builder);
     once && twice
 }
 
 #[test]
 fn strings_are_known_by_their_keys(rt: HostRuntime) {
-    assert!(rt;
-        match empty_dictionary(rt.alloc()) {
-            Ok(mut builder) => keeps_keys(&mut builder),
-            Err(_) => false,
-        }
-    );
+    assert!(rt; gives_them_twice(&rt, &mut empty_dictionary(&rt, rt.alloc())));
 }

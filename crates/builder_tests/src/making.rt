@@ -11,52 +11,61 @@ use arrow_builders::{
 use arrow_core::{Box, Items, Result, Text};
 use arrow_types::{DataType, Field};
 use std::alloc::Global;
+use std::process::Abort;
 
-pub(crate) fn new_integers(alloc: Global) -> Result<MutableArray>
+fn try_integers(alloc: Global) -> Result<MutableArray>
     ensures { IfOk result (λ b. builder_slots b ≡ []) }
 {
     Ok(MutableArray::Int32(MutablePrimitiveArray::with_capacity(alloc, 0)?))
 }
 
-/// A field of integers.
-fn integer_field(alloc: Global) -> Result<Field> {
-    let name = Text::try_from_str(alloc, "item")?;
-    Ok(Field::new(alloc, name, DataType::Int32, true))
-}
-
-/// A vector of one item.
-fn one<T: Drop>(alloc: Global, item: T) -> Result<Vec<T>>
-    ensures { IfOk result (λ items. vec_len items ≡ 1) }
+pub(crate) fn new_integers(rt: &impl Abort, alloc: Global) -> MutableArray
+    ensures { builder_slots result ≡ [] }
 {
-    let mut items = Vec::new(alloc);
-    items.push(item)?;
-    Ok(items)
+    try_integers(alloc).expect(rt, "memory")
 }
 
-pub(crate) fn new_list(alloc: Global) -> Result<DynMutableListArray> {
-    let data_type = DataType::List(Box::new(alloc, integer_field(alloc)?)?);
-    DynMutableListArray::new_from(alloc, new_integers(alloc)?, data_type, 0)
+fn try_item(alloc: Global) -> Result<Box<Field>> {
+    let name = Text::try_from_str(alloc, "item")?;
+    Ok(Box::new(alloc, Field::new(alloc, name, DataType::Int32, true))?)
 }
 
-pub(crate) fn new_large_list(alloc: Global) -> Result<DynMutableLargeListArray> {
-    let data_type = DataType::LargeList(Box::new(alloc, integer_field(alloc)?)?);
-    DynMutableLargeListArray::new_from(alloc, new_integers(alloc)?, data_type, 0)
+fn item(rt: &impl Abort, alloc: Global) -> Box<Field> {
+    try_item(alloc).expect(rt, "memory")
+}
+
+/// A builder of lists, or out of memory.
+pub(crate) fn try_list(alloc: Global) -> Result<DynMutableListArray> {
+    let values = try_integers(alloc)?;
+    DynMutableListArray::new_from(alloc, values, DataType::List(try_item(alloc)?), 0)
+}
+
+pub(crate) fn new_list(rt: &impl Abort, alloc: Global) -> DynMutableListArray {
+    try_list(alloc).expect(rt, "memory")
+}
+
+pub(crate) fn new_large_list(rt: &impl Abort, alloc: Global) -> DynMutableLargeListArray {
+    let data_type = DataType::LargeList(item(rt, alloc));
+    let builder = DynMutableLargeListArray::new_from(alloc, new_integers(rt, alloc), data_type, 0);
+    builder.expect(rt, "memory")
 }
 
 /// A builder of lists of two.
-pub(crate) fn new_pair(alloc: Global) -> Result<MutableFixedSizeListArray>
-    ensures empty { IfOk result (λ b. length b.marks.booleans ≡ 0) }
-    ensures size { IfOk result (λ b. list_size b.marks.data_type ≡ 2) }
+pub(crate) fn new_pair(rt: &impl Abort, alloc: Global) -> MutableFixedSizeListArray
+    ensures empty { length result.marks.booleans ≡ 0 }
+    ensures size { list_size result.marks.data_type ≡ 2 }
 {
-    let data_type = DataType::FixedSizeList(Box::new(alloc, integer_field(alloc)?)?, 2);
-    MutableFixedSizeListArray::new_from(alloc, new_integers(alloc)?, data_type, 2)
+    let data_type = DataType::FixedSizeList(item(rt, alloc), 2);
+    let builder = MutableFixedSizeListArray::new_from(alloc, new_integers(rt, alloc), data_type, 2);
+    builder.expect(rt, "memory")
 }
 
 /// A builder of structs of one field.
-pub(crate) fn new_struct(alloc: Global) -> Result<DynMutableStructArray>
-    ensures { IfOk result (λ b. vec_len b.values ≡ 1) }
+pub(crate) fn new_struct(rt: &impl Abort, alloc: Global) -> DynMutableStructArray
+    ensures { vec_len result.values ≡ 1 }
 {
-    let fields = one(alloc, integer_field(alloc)?)?;
-    let values = one(alloc, new_integers(alloc)?)?;
-    DynMutableStructArray::new(alloc, values, DataType::Struct(Items::from_vec(fields)))
+    let fields = vec![in alloc; item(rt, alloc).into_inner()].expect(rt, "memory");
+    let values = vec![in alloc; new_integers(rt, alloc)].expect(rt, "memory");
+    let data_type = DataType::Struct(Items::from_vec(fields));
+    DynMutableStructArray::new(alloc, values, data_type).expect(rt, "memory")
 }

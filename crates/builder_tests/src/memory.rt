@@ -1,9 +1,10 @@
 //! A builder of lists where allocations are refused, one after another, by
 //! `tools/refuse_allocations.sh`.
 
-use crate::making::new_list;
+use crate::making::try_list;
 use arrow_builders::{MutableArray, NodeLengths};
 use arrow_core::{Error, Result};
+use std::alloc::Global;
 
 /// Whether a builder's nodes hold nothing.
 fn holds_nothing(builder: &MutableArray) -> bool {
@@ -25,28 +26,25 @@ fn is_right(builder: &mut MutableArray, may_lack: bool) -> bool {
         Ok(is_given) => is_given && holds_nothing(builder),
         Err(error) => {
             builder.clear();
-            may_lack && matches!(error, Error::OutOfMemory) && holds_nothing(builder)
+            may_lack && error == Error::OutOfMemory && holds_nothing(builder)
         }
+    }
+}
+
+fn list_is_right(alloc: Global, may_lack: bool) -> bool {
+    match try_list(alloc) {
+        Ok(builder) => is_right(&mut MutableArray::List(builder), may_lack),
+        Err(error) => may_lack && error == Error::OutOfMemory,
     }
 }
 
 #[test]
 fn a_list_where_memory_may_be_refused(rt: HostRuntime) {
-    assert!(rt;
-        match new_list(rt.alloc()) {
-            Ok(builder) => is_right(&mut MutableArray::List(builder), true),
-            Err(error) => matches!(error, Error::OutOfMemory),
-        }
-    );
+    assert!(rt; list_is_right(rt.alloc(), true));
 }
 
 // The same calls, where memory is wanted: it fails as long as an allocation of them is refused.
 #[test]
 fn a_list_where_memory_is_wanted(rt: HostRuntime) {
-    assert!(rt;
-        match new_list(rt.alloc()) {
-            Ok(builder) => is_right(&mut MutableArray::List(builder), false),
-            Err(_) => false,
-        }
-    );
+    assert!(rt; list_is_right(rt.alloc(), false));
 }

@@ -1,107 +1,91 @@
 //! Blocks into columns, builders that are filled twice, and what a cursor counts.
 
-ghost use Rattle.std.specs.Prelude.{◌≡◌, length, map, OnOk, IfErr};
+ghost use Rattle.std.specs.Prelude.{◌≡◌, length, map, All, OnOk, IfErr};
 ghost use Rattle.arrow_core.specs.declared.error.Error.TheVariants.{OutOfMemory};
 ghost use Rattle.arrow_builders.specs.Nodes.{IsEmpty, KeepsCapacity, Emptied, HasSpare};
-ghost use Rattle.arrow_builders.specs.MutableArrays.{builder_type, builder_kind};
-ghost use Rattle.avro_decode.specs.Supported.{AllSupported, AllTyped, kept_kinds, kept_types};
+ghost use Rattle.arrow_builders.specs.MutableArrays.{builder_type};
+ghost use Rattle.arrow_builders.specs.Shapes.{shape};
+ghost use Rattle.arrow_builders.specs.Tight.{IsTight};
+ghost use Rattle.avro_grammar.specs.Carried.{CarriedList};
+ghost use Rattle.avro_grammar.specs.ValidBlock.{kept};
+ghost use Rattle.avro_decode.specs.Masks.{AllPaid};
+ghost use Rattle.avro_decode.specs.Suits.{AllSuit};
+ghost use Rattle.avro_decode.specs.Supported.{AllTyped, kept_types};
 ghost use Rattle.avro_decode.specs.Capacity.{AtNodes, BetweenNodes};
 
-use arrow_array::Array;
+use crate::samples::{avro_field, block, or_null, text};
+use arrow_array::{Array, Chunk, PrimitiveArray, Utf8Array};
 use arrow_builders::MutableArray;
-use arrow_core::{Bytes, Error, Items, Reason, Text};
+use arrow_core::{Error, Reason};
 use arrow_types::{DataType, Field};
 use avro_decode::{deserialize, deserialize_into, make_builders, reserved_capacity_stays};
-use avro_schema::{AvroField, AvroSchema, Block, SliceCursor};
+use avro_schema::{AvroField, AvroSchema, SliceCursor};
 use std::alloc::Global;
-use std::result::Result;
-use std::test::Fail;
+use std::process::Abort;
 
 /// The rows 1 and "hi", and -2 and null.
 const ROWS: &[u8] = b"\x02\x02\x04hi\x03\x00";
 
 /// An int `a`, and a string or null `b`.
-fn avro_fields(alloc: Global) -> Result<Vec<AvroField>, Fail> {
-    let members = vec![in alloc; AvroSchema::Null, AvroSchema::String(None)]?;
-    let a = AvroField {
-        name: Text::try_from_str(alloc, "a")?,
-        doc: None,
-        schema: AvroSchema::Int(None),
-    };
-    let b = AvroField {
-        name: Text::try_from_str(alloc, "b")?,
-        doc: None,
-        schema: AvroSchema::Union(Items::from_vec(members)),
-    };
-    Ok(vec![in alloc; a, b]?)
+fn avro_fields(rt: &impl Abort, alloc: Global) -> Vec<AvroField> {
+    let a = avro_field(rt, alloc, "a", AvroSchema::Int(None));
+    let string = or_null(rt, alloc, AvroSchema::String(None));
+    let b = avro_field(rt, alloc, "b", string);
+    vec![in alloc; a, b].expect(rt, "memory")
 }
 
 /// Their columns, where `a` has this type.
-fn fields(alloc: Global, number: DataType) -> Result<Vec<Field>, Fail> {
-    let a = Field::new(alloc, Text::try_from_str(alloc, "a")?, number, false);
-    let b = Field::new(alloc, Text::try_from_str(alloc, "b")?, DataType::Utf8, true);
-    Ok(vec![in alloc; a, b]?)
+fn fields(rt: &impl Abort, alloc: Global, number: DataType) -> Vec<Field> {
+    let a = Field::new(alloc, text(rt, alloc, "a"), number, false);
+    let b = Field::new(alloc, text(rt, alloc, "b"), DataType::Utf8, true);
+    vec![in alloc; a, b].expect(rt, "memory")
 }
 
-/// The two rows as a block.
-fn block(alloc: Global) -> Result<Block, Fail> {
-    Ok(Block {
-        number_of_rows: 2,
-        bytes: Bytes::try_from_slice(alloc, ROWS)?,
-    })
-}
-
-/// The error of reading the block.
-fn refusal(alloc: Global, number: DataType, projection: &[bool]) -> Result<Option<Error>, Fail> {
-    let block = block(alloc)?;
-    let avro_fields = avro_fields(alloc)?;
-    let fields = fields(alloc, number)?;
-    match deserialize(
-        alloc,
-        &block,
-        fields.as_slice(),
-        avro_fields.as_slice(),
-        projection,
-    ) {
-        Ok(_) => Ok(None),
-        Err(error) => Ok(Some(error)),
-    }
-}
-
-#[test]
-fn rows_become_columns(rt: HostRuntime) -> Result<(), Fail> {
-    let alloc = rt.alloc();
-    let block = block(alloc)?;
-    let avro_fields = avro_fields(alloc)?;
-    let fields = fields(alloc, DataType::Int32)?;
-    let chunk = deserialize(
+/// The columns of the two rows, where `a` is to have this type.
+fn columns(rt: &impl Abort, alloc: Global, number: DataType) -> Result<Chunk, Error> {
+    let block = block(rt, alloc, 2, ROWS);
+    let avro_fields = avro_fields(rt, alloc);
+    let fields = fields(rt, alloc, number);
+    deserialize(
         alloc,
         &block,
         fields.as_slice(),
         avro_fields.as_slice(),
         &[true, true],
-    )?;
-    let [Array::Int32(numbers), Array::Utf8(strings)] = chunk.arrays() else {
-        return Err("there are an Int32 and a Utf8 column".into());
-    };
-    if numbers.len() != 2 || strings.len() != 2 {
-        return Err("each column has two slots".into());
+    )
+}
+
+/// Whether these are 1 and -2.
+fn are_numbers(numbers: &PrimitiveArray<i32>) -> bool {
+    numbers.len() == 2
+        && (numbers.is_valid(0) && numbers.value(0) == 1)
+        && (numbers.is_valid(1) && numbers.value(1) == -2)
+}
+
+/// Whether these are "hi" and null.
+fn are_strings(strings: &Utf8Array<i32>) -> bool {
+    strings.len() == 2 && strings.is_valid(0) && strings.value(0) == "hi" && !strings.is_valid(1)
+}
+
+fn are_columns(chunk: &Chunk) -> bool {
+    match chunk.arrays() {
+        [Array::Int32(numbers), Array::Utf8(strings)] => {
+            are_numbers(numbers) && are_strings(strings)
+        }
+        _ => false,
     }
-    assert!(rt; numbers.is_valid(0) && numbers.is_valid(1));
-    assert_eq!(rt; (numbers.value(0), numbers.value(1)), (1, -2));
-    assert!(rt; strings.is_valid(0) && !strings.is_valid(1));
-    assert_eq!(rt; strings.value(0), "hi");
-    Ok(())
 }
 
 #[test]
-fn a_wider_column_is_refused(rt: HostRuntime) -> Result<(), Fail> {
-    let error = Error::InvalidArgumentError(Reason::FieldType);
-    assert_eq!(rt;
-        refusal(rt.alloc(), DataType::Int64, &[true, true])?,
-        Some(error)
-    );
-    Ok(())
+fn rows_become_columns(rt: HostRuntime) {
+    let chunk = columns(&rt, rt.alloc(), DataType::Int32).expect(&rt, "two rows");
+    assert!(rt; are_columns(&chunk));
+}
+
+#[test]
+fn a_wider_column_is_refused(rt: HostRuntime) {
+    let refused = columns(&rt, rt.alloc(), DataType::Int64).err();
+    assert!(rt; refused == Some(Error::InvalidArgumentError(Reason::FieldType)));
 }
 
 /// What a cursor tells when the rows were read.
@@ -120,16 +104,18 @@ fn read_rows(
     builders: &mut [MutableArray],
 ) -> Result<Counts, Error>
     requires lengths { length avro_fields.now ≡ length projection.now }
-    requires supported { AllSupported avro_fields.now }
+    requires carried { CarriedList avro_fields.now }
     requires typed { AllTyped fields.now avro_fields.now }
     requires data_types { map builder_type builders.old ≡ kept_types fields.now projection.now }
-    requires kinds { map builder_kind builders.old ≡ kept_kinds avro_fields.now projection.now }
+    requires suits { AllSuit (kept avro_fields.now projection.now) builders.old }
+    requires tight { All IsTight builders.old }
     requires empty { AtNodes IsEmpty builders.old }
     ensures data_types { map builder_type builders.new ≡ map builder_type builders.old }
-    ensures kinds { map builder_kind builders.new ≡ map builder_kind builders.old }
+    ensures shapes { map shape builders.new ≡ map shape builders.old }
     ensures capacity { BetweenNodes KeepsCapacity builders.old builders.new }
-    ensures has_capacity { AtNodes (HasSpare 7) builders.old → IfErr result
-        (λ e. e ≡ OutOfMemory → ⊥) }
+    ensures has_capacity { AtNodes (HasSpare 7) builders.old
+        → AllPaid (kept avro_fields.now projection.now)
+        → IfErr result (λ e. e ≡ OutOfMemory → ⊥) }
 {
     let mut cursor = SliceCursor::new(ROWS);
     deserialize_into(&mut cursor, 2, fields, avro_fields, projection, builders)?;
@@ -151,27 +137,29 @@ fn read_new(
     read_rows(fields, avro_fields, projection, builders.as_mut_slice())
 }
 
-fn counts_of(alloc: Global, projection: &[bool]) -> Result<Counts, Fail> {
-    let avro_fields = avro_fields(alloc)?;
-    let fields = fields(alloc, DataType::Int32)?;
-    let counts = read_new(alloc, fields.as_slice(), avro_fields.as_slice(), projection)?;
-    Ok(counts)
-}
-
 #[test]
-fn a_string_that_is_not_kept_is_skipped(rt: HostRuntime) -> Result<(), Fail> {
-    let counts = counts_of(rt.alloc(), &[true, false])?;
-    assert_eq!(rt; (counts.shown, counts.jumped), (5, 2));
-    assert!(rt; counts.calls <= 10);
-    Ok(())
+fn a_string_that_is_not_kept_is_skipped(rt: HostRuntime) {
+    let avro_fields = avro_fields(&rt, rt.alloc());
+    let fields = fields(&rt, rt.alloc(), DataType::Int32);
+    let projection = [true, false];
+    let counts = read_new(
+        rt.alloc(),
+        fields.as_slice(),
+        avro_fields.as_slice(),
+        &projection,
+    )
+    .expect(&rt, "two rows");
+    assert!(rt; counts.shown == 5 && counts.jumped == 2 && counts.calls <= 10);
 }
 
 /// Reserves capacity in each builder for the bytes of the two rows.
 fn reserve_all(builders: &mut [MutableArray]) -> Result<(), Error>
     requires empty { AtNodes IsEmpty builders.old }
+    requires tight { All IsTight builders.old }
     ensures data_types { map builder_type builders.new ≡ map builder_type builders.old }
-    ensures kinds { map builder_kind builders.new ≡ map builder_kind builders.old }
+    ensures shapes { map shape builders.new ≡ map shape builders.old }
     ensures empty { AtNodes IsEmpty builders.new }
+    ensures tight { All IsTight builders.new }
     ensures ok { OnOk result (AtNodes (HasSpare 7) builders.new) }
 {
     for i in 0..builders.len() {
@@ -182,7 +170,8 @@ fn reserve_all(builders: &mut [MutableArray]) -> Result<(), Error>
 
 fn clear_all(builders: &mut [MutableArray])
     ensures data_types { map builder_type builders.new ≡ map builder_type builders.old }
-    ensures kinds { map builder_kind builders.new ≡ map builder_kind builders.old }
+    ensures shapes { map shape builders.new ≡ map shape builders.old }
+    ensures tight { All IsTight builders.new }
     ensures capacity { BetweenNodes Emptied builders.old builders.new }
 {
     for i in 0..builders.len() {
@@ -198,13 +187,15 @@ fn read_twice(
     builders: &mut [MutableArray],
 ) -> Result<Counts, Error>
     requires lengths { length avro_fields.now ≡ length projection.now }
-    requires supported { AllSupported avro_fields.now }
+    requires carried { CarriedList avro_fields.now }
     requires typed { AllTyped fields.now avro_fields.now }
     requires data_types { map builder_type builders.old ≡ kept_types fields.now projection.now }
-    requires kinds { map builder_kind builders.old ≡ kept_kinds avro_fields.now projection.now }
+    requires suits { AllSuit (kept avro_fields.now projection.now) builders.old }
+    requires tight { All IsTight builders.old }
     requires empty { AtNodes IsEmpty builders.old }
     requires capacity { AtNodes (HasSpare 7) builders.old }
-    ensures memory { IfErr result (λ e. e ≡ OutOfMemory → ⊥) }
+    ensures memory { AllPaid (kept avro_fields.now projection.now)
+        → IfErr result (λ e. e ≡ OutOfMemory → ⊥) }
 {
     read_rows(fields, avro_fields, projection, builders)?;
     clear_all(builders);
@@ -214,27 +205,45 @@ fn read_twice(
 
 /// Reads the two rows twice into builders that are reserved once.
 fn read_reserved(
+    fields: &[Field],
+    avro_fields: &[AvroField],
+    projection: &[bool],
+    builders: &mut [MutableArray],
+) -> Result<Counts, Error>
+    requires lengths { length avro_fields.now ≡ length projection.now }
+    requires carried { CarriedList avro_fields.now }
+    requires typed { AllTyped fields.now avro_fields.now }
+    requires data_types { map builder_type builders.old ≡ kept_types fields.now projection.now }
+    requires suits { AllSuit (kept avro_fields.now projection.now) builders.old }
+    requires tight { All IsTight builders.old }
+    requires empty { AtNodes IsEmpty builders.old }
+{
+    reserve_all(builders)?;
+    read_twice(fields, avro_fields, projection, builders)
+}
+
+/// Reads the two rows twice into builders of their own.
+fn read_new_twice(
     alloc: Global,
     fields: &[Field],
     avro_fields: &[AvroField],
     projection: &[bool],
 ) -> Result<Counts, Error> {
     let mut builders = make_builders(alloc, fields, avro_fields, projection)?;
-    reserve_all(builders.as_mut_slice())?;
-    read_twice(fields, avro_fields, projection, builders.as_mut_slice())
+    read_reserved(fields, avro_fields, projection, builders.as_mut_slice())
 }
 
 #[test]
-fn reserved_builders_are_filled_again(rt: HostRuntime) -> Result<(), Fail> {
-    let alloc = rt.alloc();
-    let avro_fields = avro_fields(alloc)?;
-    let fields = fields(alloc, DataType::Int32)?;
-    let counts = read_reserved(
-        alloc,
+fn reserved_builders_are_filled_again(rt: HostRuntime) {
+    let avro_fields = avro_fields(&rt, rt.alloc());
+    let fields = fields(&rt, rt.alloc(), DataType::Int32);
+    let projection = [true, true];
+    let counts = read_new_twice(
+        rt.alloc(),
         fields.as_slice(),
         avro_fields.as_slice(),
-        &[true, true],
-    )?;
-    assert_eq!(rt; (counts.shown, counts.jumped), (7, 0));
-    Ok(())
+        &projection,
+    )
+    .expect(&rt, "two rows");
+    assert!(rt; counts.shown == 7 && counts.jumped == 0);
 }

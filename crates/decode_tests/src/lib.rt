@@ -4,4 +4,8 @@
 #[cfg(test)]
 mod blocks;
 #[cfg(test)]
+mod nested;
+#[cfg(test)]
+mod samples;
+#[cfg(test)]
 mod schemas;

@@ -1,103 +1,90 @@
 //! The columns of Avro schemas, by the pairs of types that arrow2 has.
 
-use arrow_core::{Box, Error, Items, Metadata, Reason, Text};
+use crate::samples::{avro_field, or_null, record, text};
+use arrow_core::{Box, Error, Items, Metadata, Reason};
 use arrow_types::{DataType, Field, IntegerType};
-use avro_decode::infer_schema;
-use avro_schema::{AvroField, AvroSchema, Enum, Record};
+use avro_infer::infer_schema;
+use avro_schema::{AvroSchema, Enum, Record};
 use std::alloc::Global;
-use std::result::Result;
-use std::test::Fail;
+use std::process::Abort;
 
 /// A record whose one field, `a`, has this schema.
-fn record(alloc: Global, schema: AvroSchema) -> Result<Record, Fail> {
-    let field = AvroField {
-        name: Text::try_from_str(alloc, "a")?,
-        doc: None,
-        schema,
-    };
-    Ok(Record {
-        name: Text::try_from_str(alloc, "r")?,
-        namespace: None,
-        doc: None,
-        fields: Items::from_vec(vec![in alloc; field]?),
-    })
+fn one_field(rt: &impl Abort, alloc: Global, schema: AvroSchema) -> Record {
+    let field = avro_field(rt, alloc, "a", schema);
+    record(rt, alloc, vec![in alloc; field].expect(rt, "memory"))
 }
 
-/// Whether the one column of such a record is this one.
-fn has_column(alloc: Global, schema: AvroSchema, column: &Field) -> Result<bool, Fail> {
-    let record = record(alloc, schema)?;
-    let schema = infer_schema(alloc, &record)?;
-    match schema.fields.as_slice() {
-        [field] => Ok(field == column),
-        _ => Ok(false),
+fn is_column(fields: &[Field], column: &Field) -> bool {
+    match fields {
+        [field] => field == column,
+        _ => false,
     }
 }
 
-fn column(alloc: Global, data_type: DataType, is_nullable: bool) -> Result<Field, Fail> {
-    let name = Text::try_from_str(alloc, "a")?;
-    Ok(Field::new(alloc, name, data_type, is_nullable))
+/// Whether the one column of such a record is this one.
+fn has_column(rt: &impl Abort, alloc: Global, schema: AvroSchema, column: Field) -> bool {
+    let record = one_field(rt, alloc, schema);
+    let fields = infer_schema(alloc, &record).expect(rt, "memory").fields;
+    is_column(fields.as_slice(), &column)
+}
+
+fn strings(rt: &impl Abort, alloc: Global) -> AvroSchema {
+    AvroSchema::Array(Box::new(alloc, AvroSchema::String(None)).expect(rt, "memory"))
+}
+
+fn list_column(rt: &impl Abort, alloc: Global) -> Field {
+    let item = Field::new(alloc, text(rt, alloc, "item"), DataType::Utf8, false);
+    let item = Box::new(alloc, item).expect(rt, "memory");
+    Field::new(alloc, text(rt, alloc, "a"), DataType::List(item), true)
 }
 
 #[test]
-fn an_array_or_null_is_a_nullable_list(rt: HostRuntime) -> Result<(), Fail> {
-    let alloc = rt.alloc();
-    let name = Text::try_from_str(alloc, "item")?;
-    let item = Field::new(alloc, name, DataType::Utf8, false);
-    let lists = column(alloc, DataType::List(Box::new(alloc, item)?), true)?;
-    let array = AvroSchema::Array(Box::new(alloc, AvroSchema::String(None))?);
-    let members = vec![in alloc; AvroSchema::Null, array]?;
-    assert!(rt; has_column(alloc, AvroSchema::Union(Items::from_vec(members)), &lists)?);
-    Ok(())
+fn an_array_or_null_is_a_nullable_list(rt: HostRuntime) {
+    let schema = or_null(&rt, rt.alloc(), strings(&rt, rt.alloc()));
+    assert!(rt; has_column(&rt, rt.alloc(), schema, list_column(&rt, rt.alloc())));
 }
 
-/// The column of an enum's symbols.
-fn symbol_column(alloc: Global) -> Result<Field, Fail> {
-    let symbols = Box::new(alloc, DataType::Utf8)?;
-    column(
-        alloc,
-        DataType::Dictionary(IntegerType::Int32, symbols, false),
-        false,
-    )
-}
-
-/// The field with a doc in its metadata.
-fn with_doc(alloc: Global, field: Field, doc: &str) -> Result<Field, Fail> {
-    let key = Text::try_from_str(alloc, "avro::doc")?;
-    let doc = Text::try_from_str(alloc, doc)?;
+/// The metadata of a field with this doc.
+fn doc(rt: &impl Abort, alloc: Global, doc: &str) -> Metadata {
     let mut metadata = Metadata::new(alloc);
-    metadata.insert(key, doc)?;
-    Ok(field.with_metadata(metadata))
+    metadata
+        .insert(text(rt, alloc, "avro::doc"), text(rt, alloc, doc))
+        .expect(rt, "memory");
+    metadata
 }
 
-/// An enum of one symbol, with this doc.
-fn enumeration(alloc: Global, doc: &str) -> Result<AvroSchema, Fail> {
-    let name = Text::try_from_str(alloc, "e")?;
-    let doc = Text::try_from_str(alloc, doc)?;
-    let symbol = Text::try_from_str(alloc, "HEARTS")?;
-    let symbols = vec![in alloc; symbol]?;
-    Ok(AvroSchema::Enum(Enum {
-        name,
+/// The column of an enum with this doc.
+fn symbol_column(rt: &impl Abort, alloc: Global) -> Field {
+    let symbol = Box::new(alloc, DataType::Utf8).expect(rt, "memory");
+    let data_type = DataType::Dictionary(IntegerType::Int32, symbol, false);
+    let field = Field::new(alloc, text(rt, alloc, "a"), data_type, false);
+    field.with_metadata(doc(rt, alloc, "suits"))
+}
+
+/// An enum of one symbol, with a doc.
+fn suits(rt: &impl Abort, alloc: Global) -> AvroSchema {
+    let symbols = vec![in alloc; text(rt, alloc, "HEARTS")].expect(rt, "memory");
+    AvroSchema::Enum(Enum {
+        name: text(rt, alloc, "e"),
         namespace: None,
-        doc: Some(doc),
+        doc: Some(text(rt, alloc, "suits")),
         symbols: Items::from_vec(symbols),
-    }))
+    })
 }
 
 #[test]
-fn an_enum_is_a_dictionary_and_keeps_its_doc(rt: HostRuntime) -> Result<(), Fail> {
-    let symbols = with_doc(rt.alloc(), symbol_column(rt.alloc())?, "suits")?;
-    assert!(rt; has_column(rt.alloc(), enumeration(rt.alloc(), "suits")?, &symbols)?);
-    Ok(())
+fn an_enum_is_a_dictionary_and_keeps_its_doc(rt: HostRuntime) {
+    let schema = suits(&rt, rt.alloc());
+    assert!(rt; has_column(&rt, rt.alloc(), schema, symbol_column(&rt, rt.alloc())));
+}
+
+fn map(rt: &impl Abort, alloc: Global) -> Record {
+    let value = Box::new(alloc, AvroSchema::Boolean).expect(rt, "memory");
+    one_field(rt, alloc, AvroSchema::Map(value))
 }
 
 #[test]
-fn a_map_has_no_column(rt: HostRuntime) -> Result<(), Fail> {
-    let map = AvroSchema::Map(Box::new(rt.alloc(), AvroSchema::Boolean)?);
-    let record = record(rt.alloc(), map)?;
-    let refused = match infer_schema(rt.alloc(), &record) {
-        Ok(_) => false,
-        Err(error) => error == Error::NotYetImplemented(Reason::MapOrUnion),
-    };
-    assert!(rt; refused);
-    Ok(())
+fn a_map_has_no_column(rt: HostRuntime) {
+    let refused = infer_schema(rt.alloc(), &map(&rt, rt.alloc())).err();
+    assert!(rt; refused == Some(Error::NotYetImplemented(Reason::MapOrUnion)));
 }

@@ -3,6 +3,6 @@ use Rattle.std.specs.Prelude.{◌≡◌, ℕ, Bool, List, [], ◌++◌, codes, i
 use Rattle.avro_schema.specs.declared.schema.AvroField.{AvroField}
 use Rattle.field_words.specs.Types.{IsType, IsNamed}
 
--- `NAME=TYPE`, with '~' before it where the field is skipped; at most 64 types stand each in the other
+-- `NAME=TYPE`, with '~' before it where the field is skipped; types nest at most 64 deep
 abbrev pub IsField : List ℕ → Bool → AvroField → Type 0
 IsField word is_kept field = (rest : List ℕ) × IsNamed (IsType 64) rest field × (word ≡ (if is_kept then [] else codes "~") ++ rest)

@@ -128,7 +128,7 @@ abbrev pub IsNullSecond : (List ℕ → Schema → Type 0) → List ℕ → Sche
 IsNullSecond Inner word schema = (base : List ℕ) × (item : Schema) × IsBase Inner base item
     × (word ≡ base ++ codes "!") × (schema ≡ Union (item ∷ Null ∷ []))
 
--- a type in which at most so many types stand each in the other, itself among them
+-- a type in which types nest at most so deep, itself counted
 abbrev pub IsType : ℕ → List ℕ → Schema → Type 0
 IsType zero word schema = ⊥
 IsType (suc depth) word schema =

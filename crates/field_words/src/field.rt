@@ -10,7 +10,7 @@ use crate::types::read_named;
 use avro_schema::AvroField;
 use std::alloc::Global;
 
-/// The most types that stand each in the other.
+/// How deep types may nest.
 const MOST_DEPTH: usize = 64;
 
 /// A field as its word names it.

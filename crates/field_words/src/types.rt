@@ -16,7 +16,7 @@ use arrow_core::{Box, Items, Text};
 use avro_schema::{AvroField, AvroSchema, Record};
 use std::alloc::Global;
 
-/// The schema of a type in which at most `depth` types stand each in the other: a base, then `?`
+/// The schema of a type in which types nest at most `depth` deep: a base, then `?`
 /// for a union with null first, or `!` for one with null second.
 #[cycle(types)]
 pub fn read_type(alloc: Global, word: &str, depth: usize) -> Result<AvroSchema, WordsFault>

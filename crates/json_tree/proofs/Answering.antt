@@ -7,12 +7,12 @@ use Rattle.std.proofs.lemmas.Bool.{ltb-true, ltb-false}
 use Rattle.json_tree.specs.Tree.{Json}
 use Rattle.json_tree.specs.Reading.{wrong, deep, text_at}
 use Rattle.json_tree.specs.Gives.{Gives}
-use Rattle.json_tree.specs.Meaning.{IsJson, IsJsonText}
+use Rattle.json_tree.specs.Meaning.{IsJson, IsJsonText, HoldsTooMany}
 use Rattle.json_tree.proofs.Reaching.{IsDeep}
 use Rattle.json_tree.specs.declared.value.JsonFault.{JsonFault}
 use Rattle.json_tree.specs.declared.value.JsonFault.TheVariants.{Text, Depth, Memory}
 use Rattle.json_tree.proofs.ListLaws.{wrong-deep}
-use Rattle.json_tree.proofs.TextLaws.{json-found, deep-why, deep-there, not_both, not_wrong}
+use Rattle.json_tree.proofs.TextLaws.{json-found, deep-why, deep-there, not_wrong}
 
 abbrev pub Told : Result Json JsonFault → List ℕ → Type 0
 Told r b = Gives (λ v. v) r [] (text_at 128 b)
@@ -32,13 +32,13 @@ err-not_deep r b h e d =
     let k = deep-there b b [] (sym (append-nil b)) (λ p r u c. omega (arith, ap length c, length-append p r)) d in
     wrong-deep (sym w ∙ k)
 
-pub ok-not_deep : (r : Result Json JsonFault) (b : List ℕ) → Told r b → IsUtf8 b → IfOk r (λ v. IsDeep b → ⊥)
-ok-not_deep (Ok v) b h u = λ d. not_both b v (json-found b [] v u h) d
-ok-not_deep (Err e) b h u = tt
+-- a text within the bound holds no prefix that goes on to none
+pub within : (b : List ℕ) (v : Json) → IsJson v b → HoldsTooMany b → ⊥
+within b v j h = h.4 h.1 v (subst (IsJson v) h.2 j)
 
-pub if-not : (r : Result Json JsonFault) (P Q : Type 0) → IfOk r (λ v. P → ⊥) → (Q → P) → IfOk r (λ v. Q → ⊥)
-if-not (Ok v) P Q h f = λ q. h (f q)
-if-not (Err e) P Q h f = tt
+pub ok-shallow : (r : Result Json JsonFault) (b : List ℕ) → Told r b → IsUtf8 b → IfOk r (λ v. HoldsTooMany b → ⊥)
+ok-shallow (Ok v) b h u = within b v (json-found b [] v u h)
+ok-shallow (Err e) b h u = tt
 
 pub err-not_json : (r : Result Json JsonFault) (b : List ℕ) → Told r b → r ≡ Err Text → (v : Json) → IsJsonText v b → ⊥
 err-not_json r b h e v j =

@@ -1,6 +1,5 @@
 -- The turns of a loop over the characters of a string.
-use Rattle.std.proofs.Common.{◌≡◌, ◌≢◌, ℕ, zero, suc, ◌<◌, ◌≤◌, Bool, true, false, eqb, leb, List, [], ◌∷◌, ◌++◌, length, refl, sym, ap, ◌∙◌, subst, arith}
-use Rattle.std.proofs.lemmas.Bool.Decides.{nat_tests}
+use Rattle.std.proofs.Common.{◌≡◌, ◌≢◌, ℕ, zero, suc, ◌≤◌, Bool, true, false, eqb, List, [], ◌∷◌, ◌++◌, length, refl, sym, ap, ◌∙◌, subst, arith}
 use Rattle.std.proofs.Common.{not, append_assoc}
 use Rattle.std.proofs.lemmas.List.{append-nil}
 use Rattle.std.proofs.lemmas.Bool.{and_parts}
@@ -31,34 +30,8 @@ pub chars-none : (n : ℕ) (old r : List ℕ) → r ≡ [] → chars_at (suc n) 
 unfolding chars_at
 chars-none n old r e = rw e refl
 
-plain : (x : ℕ) → x ≢ 34 → x ≢ 92 → 32 ≤ x → is_unescaped x ≡ true
-unfolding is_unescaped
-plain x p q l =
-    let a : leb 32 x ≡ true = grind (arith, nat_tests, l) in
-    rw (a, ne-eqb x 34 p, ne-eqb x 92 q) refl
-
-control : (x : ℕ) → x < 32 → is_unescaped x ≡ false
-unfolding is_unescaped
-control x l =
-    let a : leb 32 x ≡ false = grind (arith, nat_tests, l) in
-    rw a refl
-
-pub chars-control : (n x : ℕ) (old r s : List ℕ) → r ≡ x ∷ s → x < 32 → chars_at (suc n) old r ≡ wrong
-unfolding chars_at char_at
-chars-control n x old r s e l =
-    let a : x ≢ 34 = λ k. absurd (omega (arith, l, k)) in
-    let b : x ≢ 92 = λ k. absurd (omega (arith, l, k)) in
-    rw (e, ne-eqb x 34 a, control x l, ne-eqb x 92 b) refl
-
 abbrev pub Turn : ℕ → List ℕ → List ℕ → List ℕ → Type 0
 Turn n old r b = chars_at (suc n) old r ≡ string_at b
-
-pub chars-plain : (n x : ℕ) (old new r s b : List ℕ) → Turn n old r b → length r ≤ n → r ≡ x ∷ s → x ≢ 34 → x ≢ 92 → 32 ≤ x → new ≡ old ++ x ∷ [] → (m : ℕ) × (length s ≤ m) × Turn m new s b
-unfolding chars_at char_at
-chars-plain zero x old new r s b t l e p q k a = absurd (omega (arith, l, ap length e))
-chars-plain (suc n) x old new r s b t l e p q k a =
-    let one : chars_at (suc (suc n)) old r ≡ chars_at (suc n) (old ++ x ∷ []) s = rw (e, ne-eqb x 34 p, plain x p q k) refl in
-    (n, omega (arith, l, ap length e), ap (λ o. chars_at (suc n) o s) a ∙ sym one ∙ t)
 
 pub chars-escape : (n : ℕ) (old new c r s q b : List ℕ) → Turn n old r b → length r ≤ n → r ≡ 92 ∷ s → escape_at s ≡ found c q → length q ≤ length s → new ≡ old ++ c → (m : ℕ) × (length q ≤ m) × Turn m new q b
 unfolding chars_at char_at is_unescaped
@@ -110,9 +83,6 @@ chars-bad n old (x ∷ s) p a b = chars-stop n x old (x ∷ s) s refl p a b
 pub closed : (res : Result (List ℕ) JsonFault) (whole r : List ℕ) (o : Outcome (List ℕ)) → o ≡ found whole r → MatchResult res (λ t. t ≡ whole) (λ e. e ≡ Memory) → Gives (λ v. v) res r o
 closed (Ok x) whole r o e h = e ∙ ap (λ w. found w r) (sym h)
 closed (Err f) whole r o e h = subst (λ k. Fails k o) (sym h) tt
-
-pub first-is : (P : ℕ → List ℕ → Type 0) (r s : List ℕ) (x : ℕ) → First P r → r ≡ x ∷ s → P x s
-first-is P r s x h e = subst (First P) e h
 
 -- a string without escapes
 pub plain-string : (b run r : List ℕ) → Each is_unescaped run → b ≡ 34 ∷ (run ++ 34 ∷ r) → string_at b ≡ found run r

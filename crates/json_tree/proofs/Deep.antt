@@ -2,25 +2,13 @@
 use Rattle.std.proofs.Common.{◌≡◌, ◌⊎◌, inl, inr, ℕ, zero, suc, ◌≤◌, Bool, true, false, cond, eqb, List, [], ◌∷◌, ◌++◌, length, refl, sym, ap, ◌∙◌, append_assoc, arith}
 use Rattle.std.proofs.lemmas.Bool.Decides.{nat_tests}
 use Rattle.std.proofs.lemmas.List.{length-append}
-use Rattle.json_tree.specs.Tree.{Json, array, object, put_together}
-use Rattle.json_tree.specs.Grammar.{is_space, Spaces, AfterSpaces, Quoted, Member}
-use Rattle.json_tree.proofs.Reaching.{Before, Any, Reaches}
-use Rattle.json_tree.specs.Reading.{Outcome, found, wrong, deep, bind, on_first, skip, strip, entry_at, listed_at, led, string_at, scalar_at, member_at, array_at, object_at, value_at}
-use Rattle.json_tree.proofs.ListLaws.{Reader, Sound, Complete, Stops, Begins, bind_deep, wrong-deep, found-deep, skip-cut, entry-deep, entry-why}
+use Rattle.json_tree.specs.Tree.{Json, array, object}
+use Rattle.json_tree.specs.Grammar.{is_space, Spaces, AfterSpaces, Quoted, Member, Encodes}
+use Rattle.json_tree.proofs.Reaching.{Before, Reaches}
+use Rattle.json_tree.specs.Reading.{put_together, Outcome, found, wrong, deep, bind, on_first, skip, strip, entry_at, listed_at, led, string_at, scalar_at, member_at, array_at, object_at, value_at}
+use Rattle.json_tree.proofs.ListLaws.{Reader, Complete, Stops, Begins, bind_deep, wrong-deep, found-deep, skip-cut, entry-deep, entry-why}
 use Rattle.json_tree.proofs.Scalars.{ends, Starts, string-sound, string-deep, scalar-deep}
-use Rattle.json_tree.proofs.ValueLaws.{stops_array, stops_object, encodes-starts, led-skip, led-sound, led-complete, key-starts, member-key, member-sound, member-complete, strip-colon, begins_object, led-starts, value-sound, value-complete}
-
-any-sound : (d : ℕ) → Sound (value_at d) Any
-any-sound d b r x e = let h = value-sound d b r x e in (h.0, (d, h.1), h.2)
-
-any-complete : (d : ℕ) → Complete (Unit {0}) ends (value_at d) Any
-any-complete d a r x h e = value-complete (Unit {0}) h.0 d (λ _. tt) a r x h.1 e
-
-any-starts : (x : Json) (a r : List ℕ) → Any x a → Starts (a ++ r)
-any-starts x a r h = encodes-starts h.0 x a r h.1
-
-begins_any : Begins (λ y. AfterSpaces (Any y)) 93
-begins_any x a r l = let s = led-starts (Any x) (any-starts x) a r l in (s.0, s.1, s.2, s.3)
+use Rattle.json_tree.proofs.ValueLaws.{stops_array, stops_object, encodes-starts, led-skip, led-sound, led-complete, key-starts, member-key, member-sound, member-complete, strip-colon, begins_array, begins_object, led-starts, value-sound, value-complete}
 
 pub reaches-starts : (d : ℕ) (p r : List ℕ) → Reaches d p → Starts (p ++ r)
 unfolding is_space
@@ -56,8 +44,8 @@ value-deep zero p r (inr h) = rw h refl
 value-deep (suc d) p r (inl h) =
     let inner : led (value_at d) (h.2 ++ r) ≡ deep = ap (value_at d) (led-skip (Reaches d) (reaches-starts d) h.2 r h.4) ∙ value-deep d h.4.1 r h.4.3 in
     let start = led-starts (Reaches d) (reaches-starts d) h.2 r h.4 in
-    let one = led-complete (Unit {0}) (value_at d) Any any-starts (any-complete d) in
-    let all = listed-deep ends (led (value_at d)) (λ y. AfterSpaces (Any y)) one 93 stops_array begins_any h.0 h.1 (h.2 ++ r) h.3 inner (start.0, start.1, start.2, start.3) in
+    let one = led-complete (Unit {0}) (value_at d) (Encodes d) (encodes-starts d) (value-complete (Unit {0}) d d (λ _. tt)) in
+    let all = listed-deep ends (led (value_at d)) (λ y. AfterSpaces (Encodes d y)) one 93 stops_array (begins_array d) h.0 h.1 (h.2 ++ r) h.3 inner (start.0, start.1, start.2, start.3) in
     rw (h.5, append_assoc h.1 h.2 r, all) refl
 value-deep (suc d) p r (inr h) =
     let v = h.5 in
@@ -65,8 +53,8 @@ value-deep (suc d) p r (inr h) =
     let inner : led (value_at d) (v ++ r) ≡ deep = ap (value_at d) (led-skip (Reaches d) (reaches-starts d) v r h.9) ∙ value-deep d h.9.1 r h.9.3 in
     let member : member_at (value_at d) rest ≡ deep = member-key (value_at d) h.3 h.4 (v ++ r) h.2 h.7 h.8 ∙ ap (λ o. bind o (λ x p. found (h.2, x) p)) inner in
     let start = led-starts (Quoted h.2) (key-starts h.2) h.3 (h.4 ++ 58 ∷ (v ++ r)) h.7 in
-    let one = member-complete (Unit {0}) (value_at d) Any any-starts (any-complete d) in
-    let all = listed-deep ends (member_at (value_at d)) (Member Any) one 125 stops_object (begins_object Any) h.0 h.1 rest h.6 member (start.0, start.1, start.2, start.4) in
+    let one = member-complete (Unit {0}) (value_at d) (Encodes d) (encodes-starts d) (value-complete (Unit {0}) d d (λ _. tt)) in
+    let all = listed-deep ends (member_at (value_at d)) (Member (Encodes d)) one 125 stops_object (begins_object (Encodes d)) h.0 h.1 rest h.6 member (start.0, start.1, start.2, start.4) in
     let apart : (h.1 ++ (h.3 ++ (h.4 ++ 58 ∷ v))) ++ r ≡ h.1 ++ rest = append_assoc h.1 (h.3 ++ (h.4 ++ 58 ∷ v)) r ∙ ap (λ l. h.1 ++ l) (append_assoc h.3 (h.4 ++ 58 ∷ v) r ∙ ap (λ l. h.3 ++ l) (append_assoc h.4 (58 ∷ v) r)) in
     rw (h.10, apart, all) refl
 
@@ -150,7 +138,7 @@ value-why (suc d) (y ∷ t) e = tested (value-why d) (eqb y 91) (eqb y 123) refl
       where
         array' : (listed_at (led (value_at d)) 93 t ≡ deep) ⊎ ((xs : List Json) × (r : List ℕ) × (listed_at (led (value_at d)) 93 t ≡ found xs r) × (found (array xs) r ≡ deep)) → Why (Reaches (suc d)) (y ∷ t)
         array' (inl e) =
-            let w = entry-why (led (value_at d)) (λ y. AfterSpaces (Any y)) (AfterSpaces (Reaches d)) (led-sound (value_at d) Any (any-sound d)) (led-why (value_at d) (Reaches d) h) 93 (length t) [] t (listed-why (led (value_at d)) 93 t e) in
+            let w = entry-why (led (value_at d)) (λ y. AfterSpaces (Encodes d y)) (AfterSpaces (Reaches d)) (led-sound (value_at d) (Encodes d) (value-sound d)) (led-why (value_at d) (Reaches d) h) 93 (length t) [] t (listed-why (led (value_at d)) 93 t e) in
             let is : y ≡ 91 = grind (arith, nat_tests) in
             (91 ∷ (w.1 ++ w.2), w.3, inl (w.0, w.1, w.2, w.4, w.5, refl), ap (λ x. x ∷ t) is ∙ ap (λ l. 91 ∷ l) (w.6 ∙ sym (append_assoc w.1 w.2 w.3)))
         array' (inr e) = absurd (found-deep (array (e.0)) e.1 e.3)
@@ -158,7 +146,7 @@ value-why (suc d) (y ∷ t) e = tested (value-why d) (eqb y 91) (eqb y 123) refl
       where
         object' : (listed_at (member_at (value_at d)) 125 t ≡ deep) ⊎ ((ms : List (List ℕ × Json)) × (r : List ℕ) × (listed_at (member_at (value_at d)) 125 t ≡ found ms r) × (found (object (put_together ms)) r ≡ deep)) → Why (Reaches (suc d)) (y ∷ t)
         object' (inl e) =
-            let w = entry-why (member_at (value_at d)) (Member Any) (KeyThen (Reaches d)) (member-sound (value_at d) Any (any-sound d)) (member-why (value_at d) (Reaches d) h) 125 (length t) [] t (listed-why (member_at (value_at d)) 125 t e) in
+            let w = entry-why (member_at (value_at d)) (Member (Encodes d)) (KeyThen (Reaches d)) (member-sound (value_at d) (Encodes d) (value-sound d)) (member-why (value_at d) (Reaches d) h) 125 (length t) [] t (listed-why (member_at (value_at d)) 125 t e) in
             let k = w.5 in
             let is : y ≡ 123 = grind (arith, nat_tests) in
             (123 ∷ (w.1 ++ w.2), w.3, inr (w.0, w.1, k.0, k.1, k.2, k.3, w.4, k.4, k.5, k.6, ap (λ l. 123 ∷ (w.1 ++ l)) k.7), ap (λ x. x ∷ t) is ∙ ap (λ l. 123 ∷ l) (w.6 ∙ sym (append_assoc w.1 w.2 w.3)))

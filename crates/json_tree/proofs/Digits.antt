@@ -16,9 +16,6 @@ low-append : (a b : List ℕ) → Low a → Low b → Low (a ++ b)
 low-append [] b h k = k
 low-append (x ∷ a) b h k = (h.0, low-append a b h.1 k)
 
-low-tail : (x : ℕ) (a b : List ℕ) → Low b → b ≡ x ∷ a → Low a
-low-tail x a b h e = (subst Low e h).1
-
 digit-low : (x : ℕ) → is_digit x ≡ true → x < 128
 unfolding is_digit
 digit-low x h = grind (arith, nat_tests, h)

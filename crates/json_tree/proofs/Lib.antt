@@ -5,10 +5,9 @@ pub mod ValueLaws
 pub mod Deep
 pub mod Turns
 pub mod Places
+pub mod Gathering
 pub mod TextLaws
 pub mod Answering
-pub mod Heights
-pub mod Firsts
 pub mod Completing
 pub mod Numbers
 pub mod Points

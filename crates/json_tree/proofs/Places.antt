@@ -7,7 +7,8 @@ use Rattle.std.proofs.lemmas.Map.Text.{btree_map_updates_text}
 use Rattle.std.specs.BTreeMap.{BTreeMap, UpdatesBy, get_by_text}
 use Rattle.std.specs.String.{string_cmp}
 use Rattle.std.specs.Str.{bytes_eq}
-use Rattle.json_tree.specs.Keys.{put, value_of, keys_of, meets, distinct, place, place_from, Indexed}
+use Rattle.json_tree.specs.Keys.{value_of, keys_of}
+use Rattle.json_tree.specs.Layout.{meets, distinct, put, place, place_from, Indexed}
 
 same-key : (k : List ℕ) → bytes_eq k k ≡ true
 same-key k = (bytes_eq-Decides k k).1 refl
@@ -211,6 +212,26 @@ meets-push x k (y ∷ ks) h e = at (bytes_eq x y) h (λ m. meets-push x k ks m e
     at : (b : Bool) → not (b || meets x ks) ≡ true → (not (meets x ks) ≡ true → not (meets x (ks ++ k ∷ [])) ≡ true) → not (b || meets x (ks ++ k ∷ [])) ≡ true
     at true h f = h
     at false h f = f h
+
+miss-at : (k : List ℕ) (ks : List (List ℕ)) (j : ℕ) (d : List ℕ) → not (meets k ks) ≡ true → j < length ks → k ≡ get_or ks j d → ⊥
+miss-at k [] j d m l e = absurd (omega (arith, l))
+miss-at k (x ∷ xs) zero d m l e = at (bytes_eq k x) refl m
+  where
+    at : (b : Bool) → bytes_eq k x ≡ b → not (b || meets k xs) ≡ true → ⊥
+    at true p n = true≢false (sym n)
+    at false p n = true≢false (sym ((bytes_eq-Decides k x).1 e) ∙ p)
+miss-at k (x ∷ xs) (suc j) d m l e = at (bytes_eq k x) m (λ n. miss-at k xs j d n (omega (arith, l)) e)
+  where
+    at : (b : Bool) → not (b || meets k xs) ≡ true → (not (meets k xs) ≡ true → ⊥) → ⊥
+    at true n f = true≢false (sym n)
+    at false n f = f n
+
+-- distinct keys differ at each two places
+pub differ : (ks : List (List ℕ)) → distinct ks ≡ true → (i j : ℕ) (d : List ℕ) → i < j → j < length ks → get_or ks i d ≡ get_or ks j d → ⊥
+differ [] h i j d lt l e = absurd (omega (arith, l))
+differ (k ∷ ks) h i zero d lt l e = absurd (omega (arith, lt))
+differ (k ∷ ks) h zero (suc j) d lt l e = miss-at k ks j d (and_parts _ _ h).0 (omega (arith, l)) e
+differ (k ∷ ks) h (suc i) (suc j) d lt l e = differ ks (and_parts _ _ h).1 i j d (omega (arith, lt)) (omega (arith, l)) e
 
 pub distinct-push : (ks : List (List ℕ)) (k : List ℕ) → distinct ks ≡ true → length ks ≤ place k ks → distinct (ks ++ k ∷ []) ≡ true
 distinct-push [] k h l = refl

@@ -9,15 +9,13 @@ abbrev pub Before : {A : Type 0} → (A → List ℕ → Type 0) → List A → 
 Before P [] b = b ≡ []
 Before P (x ∷ xs) b = (a : List ℕ) × (w : List ℕ) × (c : List ℕ) × P x a × Spaces w × Before P xs c × (b ≡ a ++ (w ++ 44 ∷ c))
 
-abbrev pub Any : Json → List ℕ → Type 0
-Any x b = (n : ℕ) × Encodes n x b
-
+-- the entries before it have at most n open brackets
 abbrev pub Reaches : ℕ → List ℕ → Type 0
 Reaches zero b = (b ≡ 91 ∷ []) ⊎ (b ≡ 123 ∷ [])
 Reaches (suc n) b =
-    ((xs : List Json) × (c : List ℕ) × (d : List ℕ) × Before (λ y. AfterSpaces (Any y)) xs c × AfterSpaces (Reaches n) d × (b ≡ 91 ∷ (c ++ d)))
-    ⊎ ((ms : List (List ℕ × Json)) × (c : List ℕ) × (s : List ℕ) × (k : List ℕ) × (w : List ℕ) × (d : List ℕ) × Before (Member Any) ms c × AfterSpaces (Quoted s) k × Spaces w × AfterSpaces (Reaches n) d × (b ≡ 123 ∷ (c ++ (k ++ (w ++ 58 ∷ d)))))
+    ((xs : List Json) × (c : List ℕ) × (d : List ℕ) × Before (λ y. AfterSpaces (Encodes n y)) xs c × AfterSpaces (Reaches n) d × (b ≡ 91 ∷ (c ++ d)))
+    ⊎ ((ms : List (List ℕ × Json)) × (c : List ℕ) × (s : List ℕ) × (k : List ℕ) × (w : List ℕ) × (d : List ℕ) × Before (Member (Encodes n)) ms c × AfterSpaces (Quoted s) k × Spaces w × AfterSpaces (Reaches n) d × (b ≡ 123 ∷ (c ++ (k ++ (w ++ 58 ∷ d)))))
 
--- a prefix of the bytes begins a JSON text, and ends with its 129th open bracket
+-- a prefix of the bytes ends with the first bracket that is open with 128 around it
 abbrev pub IsDeep : List ℕ → Type 0
 IsDeep b = (p : List ℕ) × (r : List ℕ) × IsUtf8 p × AfterSpaces (Reaches 128) p × (b ≡ p ++ r)

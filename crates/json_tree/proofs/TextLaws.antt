@@ -1,7 +1,7 @@
 -- Whole texts.
 use Rattle.std.proofs.Common.{◌≡◌, ◌⊎◌, inl, inr, ℕ, zero, suc, ◌<◌, ◌≤◌, ◌+◌, true, List, [], ◌∷◌, ◌++◌, length, take, drop, get_or, refl, sym, ap, ◌∙◌, subst, append_assoc, arith}
 use Rattle.std.proofs.lemmas.List.{append-nil, length-append, take_at}
-use Rattle.std.proofs.lemmas.Str.{IsCharBoundary-after_ascii, IsUtf8-take}
+use Rattle.std.proofs.lemmas.Str.{IsCharBoundary-after_ascii, IsCharBoundary-before_ascii, IsUtf8-take}
 use Rattle.std.specs.Str.{IsUtf8}
 use Rattle.json_tree.specs.Tree.{Json, string}
 use Rattle.json_tree.specs.Grammar.{Spaces, AfterSpaces, Encodes, IsText}
@@ -10,7 +10,7 @@ use Rattle.json_tree.specs.Reading.{Outcome, found, wrong, deep, bind, skip, led
 use Rattle.json_tree.specs.Meaning.{IsJson, IsJsonText}
 use Rattle.arrow_base.specs.JsonString.{JsonString}
 use Rattle.json_tree.proofs.Reaching.{IsDeep}
-use Rattle.json_tree.proofs.ListLaws.{Answers, found_parts, wrong-found, deep-found, bind_found, bind_deep, wrong-deep, found-deep, skip-cut, skip-spaces}
+use Rattle.json_tree.proofs.ListLaws.{Answers, found_parts, wrong-found, bind_found, bind_deep, wrong-deep, found-deep, skip-cut, skip-spaces}
 use Rattle.json_tree.proofs.Scalars.{ends, space-ends}
 use Rattle.json_tree.proofs.ValueLaws.{encodes-starts, led-sound, led-complete, led-skip, value-sound, value-complete}
 use Rattle.json_tree.proofs.Deep.{led-why, reaches-starts, value-why, value-deep}
@@ -112,6 +112,12 @@ prefix-utf8 p r l u =
     let t : take (length l.0 + 1) (p ++ r) ≡ p = ap (λ k. take k (p ++ r)) (sym n) ∙ take_at p r (length p) refl in
     subst IsUtf8 t (IsUtf8-take (p ++ r) (length l.0 + 1) u b)
 
+-- so is the prefix up to before an ASCII byte
+pub before-utf8 : (q r : List ℕ) (x : ℕ) → x < 128 → IsUtf8 (q ++ x ∷ r) → IsUtf8 q
+before-utf8 q r x l u =
+    let b = IsCharBoundary-before_ascii (q ++ x ∷ r) (length q) (omega (arith, length-append q (x ∷ r))) (omega (arith, get_at q r x, l)) in
+    subst IsUtf8 (take_at q (x ∷ r) (length q) refl) (IsUtf8-take (q ++ x ∷ r) (length q) u b)
+
 -- ---- the answers
 
 pub json-found : (b r : List ℕ) (x : Json) → IsUtf8 b → text_at 128 b ≡ found x r → IsJson x b
@@ -144,10 +150,6 @@ one_value b x y h k =
     let n = h.1.0 in
     let m = k.1.0 in
     (found_parts x y [] [] (sym (text-within n (n + m) b x (omega arith) h.1.1) ∙ text-within m (n + m) b y (omega arith) k.1.1)).0
-
--- no text of at most 128 brackets is too deep
-pub not_both : (b : List ℕ) (x : Json) → IsJson x b → IsDeep b → ⊥
-not_both b x h k = deep-found x [] (sym (text-deep 128 k.0 k.1 k.3) ∙ ap (text_at 128) (sym k.4) ∙ text-complete 128 b x h.1)
 
 pub not_wrong : (b : List ℕ) (x : Json) → IsJsonText x b → text_at 128 b ≡ wrong → ⊥
 not_wrong b x h k = at (text-answers h.1.0 128 b x h.1.1)

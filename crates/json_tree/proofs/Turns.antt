@@ -5,9 +5,10 @@ use Rattle.std.proofs.lemmas.Bool.{eq-eqb}
 use Rattle.std.proofs.lemmas.List.{length-append}
 use Rattle.std.proofs.Math.Seq.{set-append_seam}
 use Rattle.std.specs.Prelude.{MatchOption, Option, Some, None}
-use Rattle.json_tree.specs.Tree.{Json, null, boolean, string, put, put_all, put_together, array, object}
+use Rattle.json_tree.specs.Tree.{Json, null, boolean, string, array, object}
+use Rattle.json_tree.specs.Layout.{put}
 use Rattle.json_tree.specs.Grammar.{is_space, text_null, text_true, text_false}
-use Rattle.json_tree.specs.Reading.{Outcome, found, wrong, bind, on_first, First, skip, strip, more_at, entry_at, listed_at, led, string_at, number_at, scalar_at, member_at, array_at, object_at, value_at}
+use Rattle.json_tree.specs.Reading.{Outcome, found, wrong, bind, on_first, First, skip, strip, more_at, entry_at, listed_at, led, put_all, put_together, string_at, number_at, scalar_at, member_at, array_at, object_at, value_at}
 use Rattle.json_tree.specs.Gives.{Fails}
 use Rattle.json_tree.specs.declared.value.JsonFault.{JsonFault}
 use Rattle.json_tree.specs.declared.value.JsonFault.TheVariants.{Text, Depth, Memory}
@@ -109,11 +110,6 @@ array-start d b r e h =
     let same : Cells d r ≡ Cells d b = ap (λ l. value_at d (skip l)) e ∙ ap (value_at d) (skip-skip b) in
     (length b, omega (arith, skip-length b, ap length e), ap (λ o. bind o (λ y q. more_at (Cells d) 93 (length b) (y ∷ []) q)) same ∙ listed-first (Cells d) 93 b (λ k. ap (value_at d) k ∙ value-nil d) h)
 
-pub array-err : (e : JsonFault) (d n : ℕ) (old : List Json) (r b : List ℕ) → ArrayTurn d n old r b → Fails e (value_at d (skip r)) → Fails e (array_at (value_at d) b)
-array-err e d n old r b t h =
-    let k = fails-bind e (Cells d r) (λ y q. more_at (Cells d) 93 n (old ++ y ∷ []) q) h in
-    fails-bind e (listed_at (Cells d) 93 b) (λ xs q. found (array xs) q) (fails-same e (entry_at (Cells d) 93 n old r) (listed_at (Cells d) 93 b) t k)
-
 array-then : (d n : ℕ) (old : List Json) (x : Json) (r b q : List ℕ) → ArrayTurn d n old r b → value_at d (skip r) ≡ found x q → more_at (Cells d) 93 n (old ++ x ∷ []) q ≡ listed_at (Cells d) 93 b
 array-then d n old x r b q t e = sym (ap (λ o. bind o (λ y q. more_at (Cells d) 93 n (old ++ y ∷ []) q)) e) ∙ t
 
@@ -207,18 +203,9 @@ pub value-array : (d e : ℕ) (b t : List ℕ) → d ≡ suc e → b ≡ 91 ∷ 
 unfolding value_at
 value-array d e b t h k = rw (h, k) refl
 
-pub value-object : (d e : ℕ) (b t : List ℕ) → d ≡ suc e → b ≡ 123 ∷ t → value_at d b ≡ object_at (value_at e) t
-unfolding value_at
-value-object d e b t h k = rw (h, k) refl
-
 pub next-known : (o : Option ℕ) (b s t : List ℕ) (x : ℕ) → b ≡ x ∷ t → MatchOption o ((b ≡ []) × (s ≡ [])) (λ y. b ≡ y ∷ s) → b ≡ x ∷ s
 next-known None b s t x e h = absurd (omega (arith, ap length (sym e ∙ h.0)))
 next-known (Some y) b s t x e h = h ∙ ap (λ z. z ∷ s) (ap (head_or 0) (sym h ∙ e))
-
-pub value-else : (d : ℕ) (b t : List ℕ) (x : ℕ) → b ≡ x ∷ t → x ≢ 91 → x ≢ 123 → value_at d b ≡ scalar_at b
-unfolding value_at
-value-else zero b t x e p q = rw (e, ne-eqb x 91 p, ne-eqb x 123 q) refl
-value-else (suc d) b t x e p q = rw (e, ne-eqb x 91 p, ne-eqb x 123 q) refl
 
 -- ---- values without brackets
 

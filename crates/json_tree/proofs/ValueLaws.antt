@@ -1,9 +1,10 @@
 -- Values are read exactly as they are encoded.
 use Rattle.std.proofs.Common.{◌≡◌, inl, inr, ℕ, zero, suc, ◌<◌, Bool, true, false, cond, eqb, List, [], ◌∷◌, ◌++◌, refl, sym, ap, ◌∙◌, subst, append_assoc, arith}
 use Rattle.std.proofs.lemmas.Bool.Decides.{nat_tests}
-use Rattle.json_tree.specs.Tree.{Json, array, object, put_together}
+use Rattle.json_tree.specs.Tree.{Json, array, object}
 use Rattle.json_tree.specs.Grammar.{is_space, is_digit, Spaces, AfterSpaces, Quoted, Scalar, Member, Encodes}
-use Rattle.json_tree.specs.Reading.{found, wrong, deep, bind, skip, strip, listed_at, led, string_at, scalar_at, member_at, array_at, object_at, value_at}
+use Rattle.json_tree.specs.Reading.{put_together, found, wrong, deep, bind, skip, strip, listed_at, led, string_at, scalar_at, member_at, array_at, object_at, value_at}
+use Rattle.json_tree.proofs.Gathering.{gathers, gathered-once}
 use Rattle.json_tree.proofs.ListLaws.{Reader, Sound, Complete, Stops, Begins, wrong-found, deep-found, found_parts, bind_found, bind_answers, skip-cut, skip-spaces, skip-stop, listed-sound, listed-complete}
 use Rattle.json_tree.proofs.Scalars.{ends, Starts, string-sound, string-complete, scalar-sound, scalar-complete, scalar-starts, space-ends}
 
@@ -26,7 +27,7 @@ unfolding is_space
 encodes-starts zero x a r h = let s = scalar-starts x a r h in (s.0, s.1, s.2, s.3, s.4, s.5)
 encodes-starts (suc n) x a r (inl h) = let s = scalar-starts x a r h in (s.0, s.1, s.2, s.3, s.4, s.5)
 encodes-starts (suc n) x a r (inr (inl h)) = (91, h.1 ++ r, ap (λ l. l ++ r) h.4, refl, refl, refl)
-encodes-starts (suc n) x a r (inr (inr h)) = (123, h.1 ++ r, ap (λ l. l ++ r) h.4, refl, refl, refl)
+encodes-starts (suc n) x a r (inr (inr h)) = (123, h.2 ++ r, ap (λ l. l ++ r) h.6, refl, refl, refl)
 
 -- after white space
 pub led-starts : (P : List ℕ → Type 0) → ((a r : List ℕ) → P a → Starts (a ++ r)) → (a r : List ℕ) → AfterSpaces P a → (y : ℕ) × (t : List ℕ) × (skip (a ++ r) ≡ y ∷ t) × (eqb y 93 ≡ false) × (eqb y 125 ≡ false)
@@ -139,7 +140,7 @@ value-sound (suc d) (y ∷ t) r x e = tested (value-sound d) (eqb y 91) (eqb y 1
         let w = found_parts (object (put_together k.0)) x k.1 r k.3 in
         let l = listed-sound (member_at (value_at d)) (Member (Encodes d)) (member-sound (value_at d) (Encodes d) h) 125 t k.1 k.0 k.2 in
         let is : y ≡ 123 = grind (arith, nat_tests) in
-        (123 ∷ l.0, inr (inr (k.0, l.0, l.1, sym w.0, refl)), rw is (ap (λ b. 123 ∷ b) (l.2 ∙ ap (λ b. l.0 ++ b) w.1)))
+        (123 ∷ l.0, inr (inr (k.0, put_together k.0, l.0, l.1, gathers k.0, sym w.0, refl)), rw is (ap (λ b. 123 ∷ b) (l.2 ∙ ap (λ b. l.0 ++ b) w.1)))
     tested h false false p q e = let s = scalar-sound (y ∷ t) r x e in (s.0, inl s.1, s.2)
 
 pub scalar-value : (d : ℕ) (x : Json) (a r : List ℕ) → Scalar x a → ends r ≡ true → value_at d (a ++ r) ≡ found x r
@@ -153,12 +154,13 @@ unfolding value_at
 value-complete D zero d over a r x h e = inl (scalar-value d x a r h e)
 value-complete D (suc n) d over a r x (inl h) e = inl (scalar-value d x a r h e)
 value-complete D (suc n) zero over a r x (inr (inl h)) e = inr (over (omega arith), rw h.4 refl)
-value-complete D (suc n) zero over a r x (inr (inr h)) e = inr (over (omega arith), rw h.4 refl)
+value-complete D (suc n) zero over a r x (inr (inr h)) e = inr (over (omega arith), rw h.6 refl)
 value-complete D (suc n) (suc d) over a r x (inr (inl h)) e =
     let one = led-complete D (value_at d) (Encodes n) (encodes-starts n) (value-complete D n d (λ l. over (omega (arith, l)))) in
     let all = listed-complete D ends (led (value_at d)) (λ y. AfterSpaces (Encodes n y)) one 93 stops_array (begins_array n) h.0 h.1 r h.2 in
     rw (h.4, h.3) (bind_answers D (listed_at (led (value_at d)) 93 (h.1 ++ r)) (λ xs q. found (array xs) q) h.0 r (array (h.0)) r all (inl refl))
 value-complete D (suc n) (suc d) over a r x (inr (inr h)) e =
     let one = member-complete D (value_at d) (Encodes n) (encodes-starts n) (value-complete D n d (λ l. over (omega (arith, l)))) in
-    let all = listed-complete D ends (member_at (value_at d)) (Member (Encodes n)) one 125 stops_object (begins_object (Encodes n)) h.0 h.1 r h.2 in
-    rw (h.4, h.3) (bind_answers D (listed_at (member_at (value_at d)) 125 (h.1 ++ r)) (λ xs q. found (object (put_together xs)) q) h.0 r (object (put_together h.0)) r all (inl refl))
+    let all = listed-complete D ends (member_at (value_at d)) (Member (Encodes n)) one 125 stops_object (begins_object (Encodes n)) h.0 h.2 r h.3 in
+    let is = h.5 ∙ ap object (gathered-once h.0 h.1 h.4) in
+    rw (h.6, is) (bind_answers D (listed_at (member_at (value_at d)) 125 (h.2 ++ r)) (λ xs q. found (object (put_together xs)) q) h.0 r (object (put_together h.0)) r all (inl refl))

@@ -1,8 +1,6 @@
--- What a call gave is what reading gives, unless memory ran out.
+-- What a call gave is what reading a JSON text (RFC 8259, section 2) gives, unless memory ran out. Contracts of private functions alone cite
+-- this file.
 use Rattle.std.specs.Prelude.{◌≡◌, ℕ, List, Result, Ok, Err}
-use Rattle.arrow_core.specs.declared.error.Error.{Error}
-use Rattle.arrow_core.specs.declared.error.Error.TheVariants.{ExternalFormat, LimitExceeded, OutOfMemory}
-use Rattle.arrow_core.specs.declared.error.Reason.TheVariants.{Json}
 use Rattle.json_tree.specs.Reading.{Outcome, found, wrong, deep}
 use Rattle.json_tree.specs.declared.value.JsonFault.{JsonFault}
 use Rattle.json_tree.specs.declared.value.JsonFault.TheVariants.{Text, Depth, Memory}
@@ -20,9 +18,3 @@ Gives view (Err e) r o = Fails e o
 abbrev pub Moves : {X : Type 0} → (List ℕ → Outcome (List ℕ)) → Result X JsonFault → List ℕ → List ℕ → Type 0
 Moves f (Ok x) old new = (s : List ℕ) × (f old ≡ found s new)
 Moves f (Err e) old new = (e ≡ Text) × (f old ≡ wrong)
-
--- the error that a fault becomes
-abbrev pub IsErrorOf : JsonFault → Error → Type 0
-IsErrorOf Text e = e ≡ ExternalFormat Json
-IsErrorOf Depth e = e ≡ LimitExceeded
-IsErrorOf Memory e = e ≡ OutOfMemory

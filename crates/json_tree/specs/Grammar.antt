@@ -1,7 +1,8 @@
--- The grammar of JSON text (RFC 8259), as relations between values and bytes. That the whole is UTF-8 (section 8.1) is said beside it.
+-- The grammar of JSON text (RFC 8259, sections 2 to 7), as relations between values and bytes. That the whole is UTF-8 (section 8.1) is said beside it.
 use Rattle.std.specs.Prelude.{◌≡◌, ◌⊎◌, ℕ, zero, suc, List, [], ◌∷◌, ◌++◌, Bool, true, false, ◌==◌, ◌||◌, ◌&&◌, nat_le}
 use Rattle.arrow_base.specs.JsonString.{IsString}
-use Rattle.json_tree.specs.Tree.{Json, null, boolean, number, string, array, object, put_together}
+use Rattle.json_tree.specs.Tree.{Json, null, boolean, number, string, array, object}
+use Rattle.json_tree.specs.Keys.{Gathers}
 
 -- Section 2: white space is space, horizontal tab, line feed and carriage return.
 
@@ -108,13 +109,14 @@ Member Of member bytes =
     (key : List ℕ) × (spaces : List ℕ) × (value : List ℕ) × AfterSpaces (Quoted member.0) key × Spaces spaces × AfterSpaces (Of member.1) value
     × (bytes ≡ key ++ (spaces ++ 0x3a ∷ value))
 
--- A value in which at most so many brackets are open at once. An object's members are put together by their keys.
+-- A value in which at most so many brackets are open at once.
 abbrev pub Encodes : ℕ → Json → List ℕ → Type 0
 Encodes zero value bytes = Scalar value bytes
 Encodes (suc depth) value bytes =
     Scalar value bytes
     ⊎ (((items : List Json) × (inside : List ℕ) × Listed (λ item. AfterSpaces (Encodes depth item)) 0x5d items inside × (value ≡ array items) × (bytes ≡ 0x5b ∷ inside))
-    ⊎ ((members : List (List ℕ × Json)) × (inside : List ℕ) × Listed (Member (Encodes depth)) 0x7d members inside × (value ≡ object (put_together members)) × (bytes ≡ 0x7b ∷ inside)))
+    ⊎ ((members : List (List ℕ × Json)) × (gathered : List (List ℕ × Json)) × (inside : List ℕ) × Listed (Member (Encodes depth)) 0x7d members inside × Gathers members gathered
+    × (value ≡ object gathered) × (bytes ≡ 0x7b ∷ inside)))
 
 -- Section 2: JSON-text = ws value ws.
 abbrev pub IsText : ℕ → Json → List ℕ → Type 0

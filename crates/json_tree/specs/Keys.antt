@@ -1,44 +1,23 @@
--- Members by their keys (RFC 8259, section 4).
-use Rattle.std.specs.Prelude.{◌≡◌, ℕ, suc, List, [], ◌∷◌, Bool, true, false, not, ◌||◌, ◌&&◌, Option, Some, None, cond}
+-- The members of an object by their keys (RFC 8259, section 4).
+use Rattle.std.specs.Prelude.{◌≡◌, ℕ, List, [], ◌∷◌, reverse, filter, not, Option, Some, None, cond}
 use Rattle.std.specs.Str.{bytes_eq}
-use Rattle.std.specs.BTreeMap.{BTreeMap, get_by_text}
-use Rattle.std.specs.declared.string.String.{String}
-use Rattle.std.specs.declared.alloc.Global.{Global}
-
--- one more member: a key that is there keeps its place and takes the new value
-unfoldable pub put : {V : Type 0} → List (List ℕ × V) → List ℕ × V → List (List ℕ × V)
-put [] new = new ∷ []
-put (m ∷ ms) new = cond (bytes_eq m.0 new.0) ((m.0, new.1) ∷ ms) (m ∷ put ms new)
-
--- the value of a key
-abbrev pub value_of : {V : Type 0} → List ℕ → List (List ℕ × V) → Option V
-value_of key [] = None
-value_of key (m ∷ ms) = cond (bytes_eq m.0 key) (Some m.1) (value_of key ms)
 
 abbrev pub keys_of : {V : Type 0} → List (List ℕ × V) → List (List ℕ)
 keys_of [] = []
 keys_of (m ∷ ms) = m.0 ∷ keys_of ms
 
--- the key is one of these
-abbrev pub meets : List ℕ → List (List ℕ) → Bool
-meets key [] = false
-meets key (k ∷ ks) = bytes_eq key k || meets key ks
+-- each key once, in the order in which the keys first stand
+abbrev pub first_keys : List (List ℕ) → List (List ℕ)
+first_keys [] = []
+first_keys (k ∷ ks) = k ∷ filter (λ other. not (bytes_eq k other)) (first_keys ks)
 
--- no key stands twice
-abbrev pub distinct : List (List ℕ) → Bool
-distinct [] = true
-distinct (k ∷ ks) = not (meets k ks) && distinct ks
+-- the value of the first member with the key
+abbrev pub value_of : {V : Type 0} → List ℕ → List (List ℕ × V) → Option V
+value_of key [] = None
+value_of key (m ∷ ms) = cond (bytes_eq m.0 key) (Some m.1) (value_of key ms)
 
--- the place of a key, or the length
-abbrev pub place : List ℕ → List (List ℕ) → ℕ
-place key [] = 0
-place key (k ∷ ks) = cond (bytes_eq k key) 0 (suc (place key ks))
-
--- the place of a key, counted from n
-abbrev pub place_from : ℕ → List ℕ → List (List ℕ) → Option ℕ
-place_from n key [] = None
-place_from n key (k ∷ ks) = cond (bytes_eq k key) (Some n) (place_from (suc n) key ks)
-
--- the map gives each of the keys its place, where 16 others stand before them, and nothing else
-abbrev pub Indexed : BTreeMap (String Global) ℕ → List (List ℕ) → Type 0
-Indexed places keys = (key : List ℕ) → get_by_text places key ≡ place_from 16 key keys
+-- Section 4 asks for distinct names, and leaves open what a name stands for that is there twice: here the object has each name
+-- of the text once, in the order in which the names first stand, with the value of the last member of this name.
+pub record Gathers {V : Type 0} (members object : List (List ℕ × V)) : Type 0 where
+  pub keys : keys_of object ≡ first_keys (keys_of members)
+  pub values : (key : List ℕ) → value_of key object ≡ value_of key (reverse members)

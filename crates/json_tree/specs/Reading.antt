@@ -1,8 +1,9 @@
--- Reading from left to right: what is found and what is left, or the first fault. The contracts of private functions alone
--- cite it, and `proofs/` shows that it finds just what the grammar relates to the bytes.
+-- Reading a JSON text (RFC 8259, sections 2 to 7) from left to right: what is found and what is left, or the first fault.
+-- Contracts of private functions alone cite this file, and `proofs/` shows that it finds just what the grammar relates to the bytes.
 use Rattle.std.specs.Prelude.{ℕ, zero, suc, List, [], ◌∷◌, ◌++◌, length, Bool, true, false, cond, ◌==◌, Option, Some, None}
 use Rattle.std.specs.Char.{encode_utf8}
-use Rattle.json_tree.specs.Tree.{Json, null, boolean, number, string, array, object, put_together}
+use Rattle.json_tree.specs.Tree.{Json, null, boolean, number, string, array, object}
+use Rattle.json_tree.specs.Layout.{put}
 use Rattle.json_tree.specs.Grammar.{is_space, is_digit, is_exponent_mark, text_null, text_true, text_false}
 use Rattle.arrow_base.specs.JsonString.{is_unescaped, short_escape, hexadecimal}
 use Rattle.std.specs.Char.Utf16.{is_high_surrogate, is_low_surrogate, surrogate_pair_char}
@@ -149,6 +150,14 @@ scalar_at b = on_first wrong (λ x t. cond (x == 34) (bind (string_at b) (λ s r
 
 unfoldable pub member_at : (List ℕ → Outcome Json) → List ℕ → Outcome (List ℕ × Json)
 member_at f b = bind (string_at (skip b)) (λ k r. bind (strip (58 ∷ []) (skip r)) (λ _ q. bind (led f q) (λ x p. found (k, x) p)))
+
+-- these members and then more, put in one after another
+abbrev pub put_all : List (List ℕ × Json) → List (List ℕ × Json) → List (List ℕ × Json)
+put_all members [] = members
+put_all members (m ∷ more) = put_all (put members m) more
+
+abbrev pub put_together : List (List ℕ × Json) → List (List ℕ × Json)
+put_together members = put_all [] members
 
 abbrev pub array_at : (List ℕ → Outcome Json) → List ℕ → Outcome Json
 array_at f t = bind (listed_at (led f) 93 t) (λ xs r. found (array xs) r)

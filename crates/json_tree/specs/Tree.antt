@@ -1,6 +1,5 @@
 -- The values that JSON texts stand for (RFC 8259, section 3).
 use Rattle.std.specs.Prelude.{ℕ, List, [], ◌∷◌, Bool, false, cond, ◌==◌, ◌||◌}
-pub use Rattle.json_tree.specs.Keys.{put}
 use Rattle.json_tree.specs.declared.value.Value.{Value, Null, Bool as TheBool, Number as TheNumber, String, Array, Object}
 use Rattle.json_tree.specs.declared.value.Number.TheVariants.{Integer, Float}
 
@@ -26,15 +25,6 @@ string text = String text
 
 abbrev pub array : List Json → Json
 array items = Array items
-
--- these members and then more, put in one after another
-abbrev pub put_all : List (List ℕ × Json) → List (List ℕ × Json) → List (List ℕ × Json)
-put_all members [] = members
-put_all members (m ∷ more) = put_all (put members m) more
-
--- RFC 8259, section 4, asks for distinct names and leaves the others open: here a key named again keeps its first place and takes its last value
-abbrev pub put_together : List (List ℕ × Json) → List (List ℕ × Json)
-put_together members = put_all [] members
 
 abbrev pub object : List (List ℕ × Json) → Json
 object members = Object (record { members = members })

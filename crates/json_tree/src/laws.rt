@@ -2,8 +2,7 @@
 ghost use Rattle.std.specs.Prelude.{◌≡◌, ℕ, List};
 ghost use Rattle.std.specs.Str.{IsUtf8};
 ghost use Rattle.arrow_base.specs.WrittenString.{json_string};
-ghost use Rattle.json_tree.specs.Brackets.{HoldsTooMany};
-ghost use Rattle.json_tree.specs.Meaning.{IsJson, IsJsonText};
+ghost use Rattle.json_tree.specs.Meaning.{HoldsTooMany, IsJson, IsJsonText};
 ghost use Rattle.json_tree.specs.Tree.{string};
 
 use crate::value::Value;
@@ -13,8 +12,8 @@ pub fn one_value()
     ensures { (bytes : List ℕ) (one other : Value) → IsJsonText one bytes → IsJsonText other bytes → one ≡ other }
 {}
 
-/// No prefix of a JSON text of at most 128 open brackets holds more. So `parse` answers such a text
-/// by its value, or by `Memory`.
+/// A JSON text in which at most 128 brackets are open at once has no prefix that holds too many. So
+/// `parse` answers such a text by its value, or by `Memory`.
 pub fn within_the_limit()
     ensures { (bytes : List ℕ) (v : Value) → IsJson v bytes → HoldsTooMany bytes → ⊥ }
 {}

@@ -4,7 +4,8 @@
 //! many keys takes no quadratic time.
 ghost use Rattle.std.specs.Prelude.{◌≡◌, ◌≤◌, ◌<◌, ◌+◌, ◌-◌, ◌++◌, ◌∷◌, ℕ, List, [], OnOk, OnErr, IfOk, IfErr, MatchResult, true, Some, None, MatchOption, length, drop};
 ghost use Rattle.std.specs.Str.{bytes_eq};
-ghost use Rattle.json_tree.specs.Keys.{put, place, value_of, keys_of, distinct, Indexed};
+ghost use Rattle.json_tree.specs.Keys.{value_of, keys_of};
+ghost use Rattle.json_tree.specs.Layout.{put, place, distinct, Indexed};
 
 use crate::value::{Blank, JsonFault};
 use arrow_core::Text;
@@ -29,7 +30,8 @@ pub(crate) struct Members<V> {
 impl<V> Model for Members<V> {
     ghost use Rattle.std.specs.Prelude.{◌≡◌, ℕ, List, true, drop};
     ghost use Rattle.std.specs.Coded.{coded_list, coded_ℕ, coded×};
-    ghost use Rattle.json_tree.specs.Keys.{keys_of, distinct, Indexed};
+    ghost use Rattle.json_tree.specs.Keys.{keys_of};
+    ghost use Rattle.json_tree.specs.Layout.{distinct, Indexed};
 
     ghost Value = { List (List ℕ × V) };
 

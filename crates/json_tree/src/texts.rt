@@ -1,9 +1,8 @@
 //! Whole texts (RFC 8259, sections 2 and 8.1).
 ghost use Rattle.std.specs.Prelude.{◌≡◌, [], Err, IfOk};
 ghost use Rattle.std.specs.Str.{IsUtf8};
-ghost use Rattle.json_tree.specs.Brackets.{HoldsTooMany};
 ghost use Rattle.json_tree.specs.Gives.{Gives};
-ghost use Rattle.json_tree.specs.Meaning.{IsJson, IsJsonText};
+ghost use Rattle.json_tree.specs.Meaning.{HoldsTooMany, IsJson, IsJsonText};
 ghost use Rattle.json_tree.specs.Reading.{deep, text_at};
 
 use crate::reader::Reader;
@@ -47,9 +46,9 @@ fn fault_of_prefix<'a>(alloc: Global, prefix: &'a [u8]) -> JsonFault
 /// mark is refused. A key that stands twice in an object keeps its first place and takes its last
 /// value. A text may have 128 brackets open at once.
 ///
-/// `Depth` comes exactly where some prefix of the bytes is a prefix of a JSON text and holds 129
-/// brackets that are open at its end, whatever follows it. Else `Text` comes exactly where the bytes
-/// are no JSON text. `Memory` may come in place of any answer.
+/// `Depth` comes exactly where some prefix of the bytes is a prefix of a JSON text, but of none in
+/// which at most 128 brackets are open at once (section 9 lets a reader set such a limit). Else
+/// `Text` comes exactly where the bytes are no JSON text. `Memory` may come in place of any answer.
 pub fn parse(alloc: Global, bytes: &[u8]) -> Result<Value, JsonFault>
     ensures value { IfOk result (λ v. IsJson v bytes.now) }
     ensures shallow { IfOk result (λ v. HoldsTooMany bytes.now → ⊥) }

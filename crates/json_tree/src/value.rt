@@ -1,6 +1,6 @@
 //! The tree of values that a JSON text stands for.
-ghost use Rattle.std.specs.Prelude.{◌≡◌, true, Some, None, MatchOption};
-ghost use Rattle.json_tree.specs.Keys.{value_of, keys_of, distinct};
+ghost use Rattle.std.specs.Prelude.{◌≡◌, ◌≢◌, Some, None, MatchOption, AllPairs};
+ghost use Rattle.json_tree.specs.Keys.{value_of, keys_of};
 ghost use Rattle.json_tree.specs.Tree.{null};
 
 use crate::members::Members;
@@ -93,7 +93,7 @@ impl Object {
     /// The members in order, as pairs of key and value.
     pub fn members(&self) -> &[(Text, Value)]
         ensures members { result.now ≡ self.now.members }
-        ensures distinct { distinct (keys_of self.now.members) ≡ true }
+        ensures distinct { AllPairs (λ one other. one ≢ other) (keys_of self.now.members) }
     {
         self.members.as_slice()
     }
@@ -108,7 +108,7 @@ impl Object {
 }
 
 impl From<JsonFault> for Error {
-    ghost use Rattle.json_tree.specs.Gives.{IsErrorOf};
+    ghost use Rattle.json_tree.specs.Meaning.{IsErrorOf};
 
     ghost from_gives = { IsErrorOf };
 

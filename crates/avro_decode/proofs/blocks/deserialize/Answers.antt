@@ -1,19 +1,17 @@
 use Rattle.std.proofs.Common.{◌∙◌, List, drop, map, sym, ap, subst}
 use Rattle.arrow_types.specs.declared.slot.Slot.{Slot}
+use Rattle.arrow_builders.specs.Shapes.{shape}
 use Rattle.arrow_builders.specs.declared.array.MutableArray.{MutableArray}
-use Rattle.arrow_builders.specs.MutableArrays.{builder_kind}
 use Rattle.avro_decode.specs.Columns.{AreColumns}
-use Rattle.avro_decode.proofs.CarriedKinds.{kinds_supported}
+use Rattle.avro_decode.proofs.Capacity.{fits_stay}
 use Rattle.avro_decode.proofs.Wholes.{same_lengths, never_refused}
-use Rattle.avro_decode.proofs.Counting.{on_ok}
+use Rattle.avro_skip.proofs.Counting.{on_ok}
 use Rattle.avro_decode.proofs.Valid.{decoded_is_valid}
 use Rattle.avro_decode.proofs.blocks.deserialize.Goals as goal
 
-pub freeze-requires : goal.freeze-requires
-freeze-requires c =
-    let made = c.in_ok-builders.ensures in
-    let lent = ap (λ (builders : List MutableArray). map builder_kind builders) c.as_mut_slice-builders.ensures.value in
-    record { supported = kinds_supported _ _ _ made.together.supported (c.in_ok-deserialize_into.ensures.kinds ∙ lent ∙ made.kinds) }
+pub freeze-requires-clause-types_fit : goal.freeze-requires-clause-types_fit
+freeze-requires-clause-types_fit c =
+    fits_stay _ _ (c.in_ok-deserialize_into.ensures.shapes ∙ ap (λ (bs : List MutableArray). map shape bs) c.as_mut_slice-builders.ensures.value) c.in_ok-builders.ensures.types_fit
 
 pub returns-clause-err : goal.returns-clause-err
 returns-clause-err c =

@@ -1,7 +1,10 @@
-use Rattle.std.proofs.Common.{◌<◌, length, arith}
+use Rattle.std.proofs.Common.{◌<◌, length, subst, sym, arith}
 use Rattle.arrow_array.specs.Arrays.{array_type, array_slots}
+use Rattle.arrow_builders.specs.Fits.{TypesFit}
 use Rattle.arrow_builders.specs.MutableArrays.{builder_type, builder_slots}
-use Rattle.avro_decode.proofs.CarriedKinds.{kinds_stay}
+use Rattle.arrow_builders.specs.Shapes.{Shape, shape}
+use Rattle.arrow_builders.specs.Tight.{IsTight}
+use Rattle.avro_decode.proofs.Builders.{all_here, all_set}
 use Rattle.avro_decode.proofs.Wholes.{done_more}
 use Rattle.avro_decode.proofs.blocks.freeze.Goals as goal
 
@@ -11,8 +14,10 @@ loop-i-preserved c =
     let boxed = c.in_ok-array.ensures in
     let pushed = c.in_ok-push.ensures.items in
     let lt : c.loop-i.i < length c.loop-i.builders = omega (arith, c.loop-i-test.true, c.loop-i.auto.builders) in
+    let fits = all_here (λ b. TypesFit (shape b)) c.loop-i.builders c.loop-i.i c.index-builders-i.result lt inv.types_fit in
     record {
-      supported = kinds_stay _ c.loop-i.i c.index-builders-i.result _ boxed.kind inv.supported;
+      tight = all_set IsTight c.loop-i.builders c.loop-i.i _ inv.tight boxed.tight;
+      types_fit = all_set (λ b. TypesFit (shape b)) c.loop-i.builders c.loop-i.i _ inv.types_fit (subst TypesFit (sym boxed.shape) fits);
       data_types = rw pushed (done_more array_type builder_type _ c.loop-i.builders c.loop-i.i _ c.index-builders-i.result _ _ lt inv.data_types boxed.array_type);
       slots = rw pushed (done_more array_slots builder_slots _ c.loop-i.builders c.loop-i.i _ c.index-builders-i.result _ _ lt inv.slots boxed.array_slots);
     }

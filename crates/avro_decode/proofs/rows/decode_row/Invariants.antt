@@ -1,20 +1,23 @@
-use Rattle.std.proofs.Common.{◌≡◌, ◌≤◌, length, map, drop}
-use Rattle.arrow_builders.specs.MutableArrays.{builder_type, builder_slots, builder_kind}
+use Rattle.std.proofs.Common.{◌≡◌, ◌≤◌, All, length, map, drop}
+use Rattle.arrow_builders.specs.MutableArrays.{builder_slots}
+use Rattle.arrow_builders.specs.Shapes.{shape}
+use Rattle.arrow_builders.specs.Tight.{IsTight}
 use Rattle.avro_schema.specs.Number.{MovesForward}
-use Rattle.avro_decode.specs.Costs.{passed}
-use Rattle.avro_decode.specs.Growing.{AllGrow}
-use Rattle.avro_decode.specs.Supported.{kept_kinds}
+use Rattle.avro_grammar.specs.ValidBlock.{kept}
+use Rattle.avro_skip.specs.Costs.{passed}
+use Rattle.avro_decode.specs.Growth.{ChildrenGrow}
 use Rattle.avro_decode.proofs.RowSteps.{RowSoFar}
 use Rattle.avro_decode.proofs.rows.decode_row.Given as goal
 
 abbrev pub invariant-loop-i : goal.invariant-loop-i
 invariant-loop-i g l = record {
-  kinds : map builder_kind l.builders ≡ map builder_kind l.fn.builders;
-  data_types : map builder_type l.builders ≡ map builder_type l.fn.builders;
+  same : g.C.Ahead.whose l.cursor ≡ g.C.Ahead.whose l.fn.cursor;
+  shapes : map shape l.builders ≡ map shape l.fn.builders;
+  tight : All IsTight l.builders;
   few : l.column ≤ l.i;
   within : l.column ≤ length l.fn.builders;
-  left : drop l.column (map builder_kind l.fn.builders) ≡ kept_kinds (drop l.i l.avro_fields) (drop l.i l.projection);
-  reads : RowSoFar g.C.Cursor.rest g.C.Cursor.shown g.C.Cursor.calls l.fn.cursor l.cursor l.column l.i l.avro_fields l.projection (map builder_slots l.fn.builders) (map builder_slots l.builders);
-  forward : MovesForward (g.C.Cursor.rest l.fn.cursor) (g.C.Cursor.rest l.cursor);
-  grows : AllGrow (passed (g.C.Cursor.rest l.fn.cursor) (g.C.Cursor.rest l.cursor)) l.fn.builders l.builders;
+  left : drop l.column (kept l.avro_fields l.projection) ≡ kept (drop l.i l.avro_fields) (drop l.i l.projection);
+  reads : RowSoFar g.C.Ahead.rest g.C.Ahead.shown g.C.Ahead.calls l.fn.cursor l.cursor l.column l.i l.avro_fields l.projection (map builder_slots l.fn.builders) (map builder_slots l.builders);
+  forward : MovesForward (g.C.Ahead.rest l.fn.cursor) (g.C.Ahead.rest l.cursor);
+  grows : ChildrenGrow (passed (g.C.Ahead.rest l.fn.cursor) (g.C.Ahead.rest l.cursor)) (kept l.avro_fields l.projection) l.fn.builders l.builders;
 }

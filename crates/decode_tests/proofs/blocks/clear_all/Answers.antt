@@ -3,7 +3,10 @@ use Rattle.std.specs.List.{AllZip}
 use Rattle.std.proofs.Math.Seq.{map-set_same}
 use Rattle.arrow_builders.specs.declared.array.MutableArray.{MutableArray}
 use Rattle.arrow_builders.specs.Nodes.{Emptied}
-use Rattle.arrow_builders.specs.MutableArrays.{builder_type, builder_kind, nodes}
+use Rattle.arrow_builders.specs.Shapes.{shape}
+use Rattle.arrow_builders.specs.Tight.{IsTight}
+use Rattle.std.proofs.lemmas.List.Elements.{AllWithin-more_set}
+use Rattle.arrow_builders.specs.MutableArrays.{builder_type, nodes}
 use Rattle.avro_decode.specs.Capacity.{BetweenNodes}
 use Rattle.decode_tests.proofs.blocks.clear_all.Invariants.{EmptiedSoFar}
 use Rattle.decode_tests.proofs.blocks.clear_all.Goals as goal
@@ -29,14 +32,15 @@ all_emptied zero (b ∷ bs) (c ∷ cs) le h = absurd (omega (arith, le))
 all_emptied (suc n) (b ∷ bs) (c ∷ cs) le h = (h.0, all_emptied n bs cs (omega (arith, le)) h.1)
 
 pub loop-i-init : goal.loop-i-init
-loop-i-init c = record { data_types = refl; kinds = refl; capacity = none_emptied _ }
+loop-i-init c = record { data_types = refl; shapes = refl; tight = λ k d lo hi. absurd (omega (arith, lo, hi)); capacity = none_emptied _ }
 
 pub loop-i-preserved : goal.loop-i-preserved
 loop-i-preserved c =
     let inv = c.loop-i.invariant in
     record {
       data_types = map-set_same builder_type _ _ _ c.index-builders-i.result c.clear.ensures.data_type ∙ inv.data_types;
-      kinds = map-set_same builder_kind _ _ _ c.index-builders-i.result c.clear.ensures.kind ∙ inv.kinds;
+      shapes = map-set_same shape _ _ _ c.index-builders-i.result c.clear.ensures.shape ∙ inv.shapes;
+      tight = AllWithin-more_set c.loop-i.builders c.loop-i.i _ (omega (arith, c.loop-i-test.true, c.loop-i.auto.builders)) IsTight inv.tight c.clear.ensures.tight;
       capacity = rw (add-one c.loop-i.i) (one_more c.loop-i.i _ c.loop-i.builders c.index-builders-i.result _ (omega (arith, c.loop-i-test.true, c.loop-i.auto.builders)) c.clear.ensures.capacity inv.capacity);
     }
 

@@ -1,8 +1,10 @@
 use Rattle.std.proofs.Common.{◌≡◌, ℕ, zero, suc, List, [], ◌∷◌, map}
 use Rattle.arrow_builders.specs.declared.array.MutableArray.{MutableArray}
 use Rattle.arrow_builders.specs.Nodes.{Emptied}
-use Rattle.arrow_builders.specs.MutableArrays.{builder_type, builder_kind, nodes}
-use Rattle.std.specs.List.{AllZip}
+use Rattle.arrow_builders.specs.Shapes.{shape}
+use Rattle.arrow_builders.specs.Tight.{IsTight}
+use Rattle.arrow_builders.specs.MutableArrays.{builder_type, nodes}
+use Rattle.std.specs.List.{AllZip, AllWithin}
 use Rattle.decode_tests.proofs.blocks.clear_all.Given as goal
 
 -- the first n builders are emptied, and the others as they were
@@ -15,6 +17,7 @@ EmptiedSoFar n _ _ = ⊥
 abbrev pub invariant-loop-i : goal.invariant-loop-i
 invariant-loop-i l = record {
   data_types : map builder_type l.builders ≡ map builder_type l.fn.builders;
-  kinds : map builder_kind l.builders ≡ map builder_kind l.fn.builders;
+  shapes : map shape l.builders ≡ map shape l.fn.builders;
+  tight : AllWithin IsTight l.builders 0 l.i;
   capacity : EmptiedSoFar l.i l.fn.builders l.builders;
 }

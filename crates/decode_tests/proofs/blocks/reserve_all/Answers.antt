@@ -3,7 +3,9 @@ use Rattle.std.specs.List.{AllZip}
 use Rattle.std.proofs.Math.Seq.{map-set_same}
 use Rattle.std.proofs.lemmas.List.Elements.{All-cons, All-set, AllWithin-more_set}
 use Rattle.arrow_builders.specs.Nodes.{Node, IsEmpty, NoLessSpare, HasSpare}
-use Rattle.arrow_builders.specs.MutableArrays.{builder_type, builder_kind, nodes}
+use Rattle.arrow_builders.specs.MutableArrays.{builder_type, nodes}
+use Rattle.arrow_builders.specs.Shapes.{shape}
+use Rattle.arrow_builders.specs.Tight.{IsTight}
 use Rattle.decode_tests.proofs.blocks.reserve_all.Goals as goal
 
 -- capacity alone leaves a node empty
@@ -21,9 +23,15 @@ pub returns-in_err-reserve_for-clause-data_types : goal.returns-in_err-reserve_f
 returns-in_err-reserve_for-clause-data_types c =
     map-set_same builder_type _ _ _ c.index-builders-i.result c.reserve_for.ensures.data_type ∙ c.loop-i.invariant.data_types
 
-pub returns-in_err-reserve_for-clause-kinds : goal.returns-in_err-reserve_for-clause-kinds
-returns-in_err-reserve_for-clause-kinds c =
-    map-set_same builder_kind _ _ _ c.index-builders-i.result c.reserve_for.ensures.kind ∙ c.loop-i.invariant.kinds
+pub returns-in_err-reserve_for-clause-shapes : goal.returns-in_err-reserve_for-clause-shapes
+returns-in_err-reserve_for-clause-shapes c =
+    map-set_same shape _ _ _ c.index-builders-i.result c.reserve_for.ensures.shape ∙ c.loop-i.invariant.shapes
+
+pub returns-in_err-reserve_for-clause-tight : goal.returns-in_err-reserve_for-clause-tight
+returns-in_err-reserve_for-clause-tight c =
+    let tight = c.loop-i.invariant.tight in
+    let lt : c.loop-i.i < length c.loop-i.builders = omega (arith, c.loop-i-test.true, c.loop-i.auto.builders) in
+    All-set IsTight _ c.loop-i.i _ (c.reserve_for.ensures.tight (tight c.loop-i.i c.index-builders-i.result lt)) tight
 
 pub returns-in_err-reserve_for-clause-empty : goal.returns-in_err-reserve_for-clause-empty
 returns-in_err-reserve_for-clause-empty c =
@@ -37,7 +45,8 @@ loop-i-preserved c =
     let lt : c.loop-i.i < length c.loop-i.builders = omega (arith, c.loop-i-test.true, c.loop-i.auto.builders) in
     record {
       data_types = map-set_same builder_type _ _ _ c.index-builders-i.result c.reserve_for.ensures.data_type ∙ inv.data_types;
-      kinds = map-set_same builder_kind _ _ _ c.index-builders-i.result c.reserve_for.ensures.kind ∙ inv.kinds;
+      shapes = map-set_same shape _ _ _ c.index-builders-i.result c.reserve_for.ensures.shape ∙ inv.shapes;
+      tight = All-set IsTight _ c.loop-i.i _ (c.reserve_for.ensures.tight (inv.tight c.loop-i.i c.index-builders-i.result lt)) inv.tight;
       empty = All-set (λ b. All IsEmpty (nodes b)) _ c.loop-i.i _ (still_empty _ _ c.reserve_for.ensures.capacity (inv.empty c.loop-i.i c.index-builders-i.result lt)) inv.empty;
       has_capacity = AllWithin-more_set c.loop-i.builders c.loop-i.i _ lt (λ b. All (HasSpare 7) (nodes b)) inv.has_capacity c.in_ok-reserve_for.ensures.ok;
     }

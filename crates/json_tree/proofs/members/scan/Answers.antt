@@ -1,5 +1,6 @@
 use Rattle.std.proofs.Common.{inl}
-use Rattle.json_tree.specs.Keys.{place, keys_of}
+use Rattle.json_tree.specs.Keys.{keys_of}
+use Rattle.json_tree.specs.Layout.{place}
 use Rattle.json_tree.proofs.Places.{scan-end}
 use Rattle.json_tree.proofs.members.scan.Goals as goal
 

@@ -1,5 +1,6 @@
 use Rattle.std.proofs.Common.{◌≡◌, ◌≤◌, ◌+◌, ◌-◌, length, drop}
-use Rattle.json_tree.specs.Keys.{place, keys_of}
+use Rattle.json_tree.specs.Keys.{keys_of}
+use Rattle.json_tree.specs.Layout.{place}
 use Rattle.json_tree.proofs.members.scan.Given as goal
 
 abbrev pub invariant-loop-i : goal.invariant-loop-i

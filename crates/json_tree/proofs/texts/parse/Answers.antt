@@ -1,11 +1,8 @@
 use Rattle.std.proofs.Common.{refl, sym, subst, take}
 use Rattle.std.specs.Str.{IsValidUpTo}
 use Rattle.json_tree.specs.declared.value.JsonFault.TheVariants.{Text, Depth}
-use Rattle.json_tree.proofs.Answering.{ok-json, ok-not_deep, if-not, err-deep, err-not_deep, err-not_json, prefix-deep, prefix-not_deep, err_is}
-use Rattle.json_tree.proofs.Firsts.{too_many-deep}
-use Rattle.json_tree.proofs.Completing.{deep-too_many}
-use Rattle.json_tree.specs.Brackets.{HoldsTooMany}
-use Rattle.json_tree.proofs.Reaching.{IsDeep}
+use Rattle.json_tree.proofs.Answering.{ok-json, ok-shallow, err-deep, err-not_deep, err-not_json, prefix-deep, prefix-not_deep, err_is}
+use Rattle.json_tree.proofs.Completing.{deep-too_many, too_many-deep}
 use Rattle.json_tree.proofs.texts.parse.Goals as goal
 
 pub returns-in-Ok-clause-value : goal.returns-in-Ok-clause-value
@@ -35,6 +32,4 @@ returns-in-Err-clause-not_deep c e d =
     prefix-not_deep b (take n b) n refl v (c.fault_of_prefix.ensures.text (err_is c.fault_of_prefix.result Text e)) (too_many-deep b d)
 
 pub returns-in-Ok-clause-shallow : goal.returns-in-Ok-clause-shallow
-returns-in-Ok-clause-shallow c =
-    let b = c.args.bytes.now in
-    if-not c.whole_text.result (IsDeep b) (HoldsTooMany b) (ok-not_deep c.whole_text.result b c.whole_text.ensures c.in-Ok.ensures.cases.1) (too_many-deep b)
+returns-in-Ok-clause-shallow c = ok-shallow c.whole_text.result c.args.bytes.now c.whole_text.ensures c.in-Ok.ensures.cases.1

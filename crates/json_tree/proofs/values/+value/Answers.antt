@@ -3,7 +3,8 @@ use Rattle.std.proofs.lemmas.Result.{err_from_is_err_and}
 use Rattle.json_tree.specs.Tree.{array, object}
 use Rattle.json_tree.specs.Reading.{found, string_at, value_at}
 use Rattle.json_tree.specs.Gives.{Gives, Fails}
-use Rattle.json_tree.specs.Keys.{place, keys_of, distinct, Indexed}
+use Rattle.json_tree.specs.Keys.{keys_of}
+use Rattle.json_tree.specs.Layout.{distinct, place, Indexed}
 use Rattle.json_tree.proofs.Places.{keys-set, put-fill}
 use Rattle.json_tree.proofs.Turns.{array-empty, array-start, array-bad, array-next, array-end, object-empty, object-start, key-err, colon-err, item-err, member-ok, object-err, object-bad, object-next, object-end, value-array, next-known, pushed-set}
 use Rattle.json_tree.specs.declared.value.JsonFault.TheVariants.{Text}

@@ -1,6 +1,6 @@
 use Rattle.std.proofs.Common.{◌≡◌, ℕ, ◌≤◌, ◌+◌, ◌*◌, List, length}
-use Rattle.json_tree.specs.Tree.{Json, put_together}
-use Rattle.json_tree.specs.Reading.{led, entry_at, listed_at, member_at, value_at}
+use Rattle.json_tree.specs.Tree.{Json}
+use Rattle.json_tree.specs.Reading.{put_together, led, entry_at, listed_at, member_at, value_at}
 use Rattle.json_tree.proofs.values.+value.Given as goal
 
 abbrev pub decreases-array : goal.decreases-array

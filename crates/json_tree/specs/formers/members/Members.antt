@@ -1,4 +1,5 @@
--- `Members` as a type that may hold the type that holds it, by its values.
+-- `Members`, the members of an object (RFC 8259, section 4), as a type that may hold the type that holds it, by its values. Only
+-- what Rattle states of the types of this crate cites this file.
 use Rattle.std.specs.Prelude.{ℕ, List, [], ◌∷◌, map, drop, true}
 use mathlib.Core.Path.{◌≡◌, refl, sym, ap, subst}
 use mathlib.Core.HLevel.{×_prop, Π_prop}
@@ -25,7 +26,8 @@ use Rattle.json_tree.specs.contracts.members.Members as C
 use Rattle.json_tree.specs.contracts.members.Members.TheInside as I
 use Rattle.std.specs.BTreeMap.{BTreeMap}
 use Rattle.std.specs.declared.string.String.{String}
-use Rattle.json_tree.specs.Keys.{keys_of, distinct, Indexed}
+use Rattle.json_tree.specs.Keys.{keys_of}
+use Rattle.json_tree.specs.Layout.{distinct, Indexed}
 
 -- a key beside one of g's values
 abbrev member : Former {0} → Former {0}

@@ -3,12 +3,18 @@ use Rattle.arrow_array.proofs.fixed_size_list.FixedSizeListArray.try_new.Goals a
 
 pub invariant_of-result : goal.invariant_of-result
 invariant_of-result c =
-    rw c.in-Ok.ensures.holds record {
+    let values = rw c.in_ok-values.ensures.first at c.new-values.ensures.holds in
+    rw (c.in_ok-values.ensures.second, c.in_ok-values.ensures.third, values) record {
       fits = c.fits.ensures.0 c.if-not-fits.false;
       size_is = c.size_of_type-size.ensures;
       count_is = rw (c.len.ensures, c.size_of_type-size.ensures) refl;
       bounded = omega (arith, c.len.ensures, c.len.type_inv);
     }
 
-pub returns-in-Ok-clause-fits : goal.returns-in-Ok-clause-fits
-returns-in-Ok-clause-fits c = c.fits.ensures.0 c.if-not-fits.false
+pub returns-clause-slots : goal.returns-clause-slots
+returns-clause-slots c =
+    let values = rw c.in_ok-values.ensures.first at c.new-values.ensures.holds in
+    rw (c.in_ok-values.ensures.second, c.in_ok-values.ensures.third, values) refl
+
+pub returns-clause-fits : goal.returns-clause-fits
+returns-clause-fits c = c.fits.ensures.0 c.if-not-fits.false

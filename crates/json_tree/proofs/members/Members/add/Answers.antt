@@ -1,5 +1,6 @@
 use Rattle.std.proofs.Common.{◌≡◌, ◌≤◌, ◌<◌, ◌∷◌, ◌++◌, ◌∙◌, [], length, true, ap, sym, subst, drop, arith}
-use Rattle.json_tree.specs.Keys.{place, keys_of, distinct, Indexed}
+use Rattle.json_tree.specs.Keys.{keys_of}
+use Rattle.json_tree.specs.Layout.{distinct, place, Indexed}
 use Rattle.json_tree.proofs.Places.{keys-append, length-keys, distinct-push, indexed-scanned}
 use Rattle.json_tree.proofs.members.Members.add.Goals as goal
 

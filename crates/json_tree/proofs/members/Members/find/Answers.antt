@@ -1,5 +1,6 @@
 use Rattle.std.proofs.Common.{◌≡◌, ◌≤◌, ◌<◌, ◌+◌, ◌-◌, ◌∙◌, drop, length, MatchOption, subst}
-use Rattle.json_tree.specs.Keys.{place, keys_of}
+use Rattle.json_tree.specs.Keys.{keys_of}
+use Rattle.json_tree.specs.Layout.{place}
 use Rattle.json_tree.proofs.Places.{found-behind}
 use Rattle.json_tree.proofs.members.Members.find.Goals as goal
 

@@ -1,5 +1,6 @@
 use Rattle.std.proofs.Common.{◌≡◌, ◌<◌, ◌∙◌, length, ap, sym, subst}
-use Rattle.json_tree.specs.Keys.{place, keys_of, value_of}
+use Rattle.json_tree.specs.Keys.{keys_of, value_of}
+use Rattle.json_tree.specs.Layout.{place}
 use Rattle.json_tree.proofs.Places.{value-found, value-none}
 use Rattle.json_tree.proofs.members.Members.get.Goals as goal
 

@@ -1,5 +1,6 @@
 use Rattle.std.proofs.Common.{◌≡◌, ◌≤◌, ◌<◌, ◌∙◌, length, ap, sym, subst, drop, true}
-use Rattle.json_tree.specs.Keys.{put, place, keys_of, distinct, Indexed}
+use Rattle.json_tree.specs.Keys.{keys_of}
+use Rattle.json_tree.specs.Layout.{distinct, put, place, Indexed}
 use Rattle.json_tree.proofs.Places.{put-set, keys-set, new-put, new-place, old-place}
 use Rattle.json_tree.proofs.members.Members.put.Goals as goal
 

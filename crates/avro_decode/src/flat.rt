@@ -1,0 +1,143 @@
+//! Values without parts, each into the builder of its kind.
+
+ghost use Rattle.std.specs.Prelude.{◌↔◌, IsTrue, length, ◌≡◌, ◌≤◌, ◌∷◌, [], true, false, OnOk};
+ghost use Rattle.arrow_builders.specs.MutableArrays.{builder_slots, builder_kind, nodes};
+ghost use Rattle.arrow_builders.specs.Shapes.{shape};
+ghost use Rattle.arrow_builders.specs.Tight.{IsTight};
+ghost use Rattle.avro_schema.specs.declared.schema.Schema.{Fixed as FixedSchema};
+ghost use Rattle.avro_grammar.specs.Encodes.{IsNull};
+ghost use Rattle.avro_reference.specs.Read.{push_one, read, fixed_at};
+ghost use Rattle.avro_skip.specs.Costs.{passed, Moves, CostsKept};
+ghost use Rattle.avro_flat.specs.Decoding.{Gives, HasMemory};
+ghost use Rattle.avro_decode.specs.Growth.{Grows, AllReach, HaveSpare, flat_kind, fixed_kind};
+ghost use Rattle.avro_decode.specs.Masks.{mask};
+ghost use Rattle.avro_decode.specs.Suits.{Suits};
+ghost use Rattle.avro_decode.specs.Supported.{IsSupportedFlat};
+
+use arrow_builders::MutableArray;
+use avro_flat::{
+    DecodeFault, decode_binary, decode_boolean, decode_decimal, decode_duration, decode_fixed,
+    decode_fixed_decimal, decode_int, decode_long, decode_string,
+};
+use avro_schema::{AvroSchema, Fixed, FixedLogical};
+use avro_skip::Ahead;
+
+/// Reads one value of a schema without parts into one more slot.
+#[inline(always)]
+#[tactic(auto, using(crate::proofs::Sets::kinds))]
+pub fn decode_flat<C: Ahead>(
+    cursor: &mut C,
+    schema: &AvroSchema,
+    builder: &mut MutableArray,
+) -> Result<(), DecodeFault>
+    requires flat { IsSupportedFlat schema.now }
+    requires kind { builder_kind builder.old ≡ flat_kind schema.now }
+    requires suits { Suits schema.now (shape builder.old) }
+    requires offsets { AllReach (mask true schema.now) (length (C.rest cursor.old))
+        (nodes builder.old) }
+    ensures tight { OnOk result (IsTight builder.new) }
+    ensures shape { shape builder.new ≡ shape builder.old }
+    ensures grows { Grows (mask false schema.now) (passed (C.rest cursor.old) (C.rest cursor.new))
+        (nodes builder.old) (nodes builder.new) }
+    ensures has_capacity { HaveSpare (mask false schema.now) (length (C.rest cursor.old))
+        (nodes builder.old) → HasMemory result }
+    ensures same { C.whose cursor.new ≡ C.whose cursor.old }
+    ensures moves { Moves C.rest C.calls cursor.old cursor.new }
+    ensures costs { OnOk result (CostsKept C.rest C.shown C.calls cursor.old cursor.new) }
+    ensures reads { Gives (λ _. (builder_slots builder.new, C.rest cursor.new)) result
+        (push_one (builder_slots builder.old) (read schema.now (C.rest cursor.old))) }
+{
+    match schema {
+        AvroSchema::Boolean => {
+            let MutableArray::Boolean(values) = builder else {
+                unreachable!()
+            };
+            decode_boolean(cursor, values)
+        }
+        AvroSchema::Int(_) => {
+            let MutableArray::Int32(values) = builder else {
+                unreachable!()
+            };
+            decode_int(cursor, values)
+        }
+        AvroSchema::Long(_) => {
+            let MutableArray::Int64(values) = builder else {
+                unreachable!()
+            };
+            decode_long(cursor, values)
+        }
+        AvroSchema::String(_) => {
+            let MutableArray::Utf8(values) = builder else {
+                unreachable!()
+            };
+            decode_string(cursor, values)
+        }
+        AvroSchema::Bytes(None) => {
+            let MutableArray::Binary(values) = builder else {
+                unreachable!()
+            };
+            decode_binary(cursor, values)
+        }
+        AvroSchema::Bytes(Some(_)) => {
+            let MutableArray::Int128(values) = builder else {
+                unreachable!()
+            };
+            decode_decimal(cursor, values)
+        }
+        AvroSchema::Fixed(fixed) => decode_fixed_type(cursor, fixed, builder),
+        _ => unreachable!(),
+    }
+}
+
+/// Reads a value of a fixed type, of any logical type, into one more slot.
+#[inline(always)]
+#[tactic(auto, using(crate::proofs::Sets::kinds))]
+fn decode_fixed_type<C: Ahead>(
+    cursor: &mut C,
+    fixed: &Fixed,
+    builder: &mut MutableArray,
+) -> Result<(), DecodeFault>
+    requires some { 1 ≤ fixed.now.size }
+    requires kind { builder_kind builder.old ≡ fixed_kind fixed.now.logical }
+    requires suits { Suits (FixedSchema fixed.now) (shape builder.old) }
+    ensures tight { OnOk result (IsTight builder.new) }
+    ensures shape { shape builder.new ≡ shape builder.old }
+    ensures grows { Grows (true ∷ []) (passed (C.rest cursor.old) (C.rest cursor.new))
+        (nodes builder.old) (nodes builder.new) }
+    ensures has_capacity { HaveSpare (true ∷ []) (length (C.rest cursor.old))
+        (nodes builder.old) → HasMemory result }
+    ensures same { C.whose cursor.new ≡ C.whose cursor.old }
+    ensures moves { Moves C.rest C.calls cursor.old cursor.new }
+    ensures costs { OnOk result (CostsKept C.rest C.shown C.calls cursor.old cursor.new) }
+    ensures reads { Gives (λ _. (builder_slots builder.new, C.rest cursor.new)) result
+        (push_one (builder_slots builder.old)
+        (fixed_at fixed.now.size fixed.now.logical (C.rest cursor.old))) }
+{
+    match fixed.logical {
+        None => {
+            let MutableArray::FixedSizeBinary(values) = builder else {
+                unreachable!()
+            };
+            decode_fixed(cursor, fixed.size, values)
+        }
+        Some(FixedLogical::Decimal(_, _)) => {
+            let MutableArray::Int128(values) = builder else {
+                unreachable!()
+            };
+            decode_fixed_decimal(cursor, fixed.size, values)
+        }
+        Some(FixedLogical::Duration) => {
+            let MutableArray::MonthDayNano(values) = builder else {
+                unreachable!()
+            };
+            decode_duration(cursor, values)
+        }
+    }
+}
+
+/// Whether a schema is null's.
+pub fn is_null(schema: &AvroSchema) -> bool
+    ensures { IsTrue result ↔ IsNull schema.now }
+{
+    matches!(schema, AvroSchema::Null)
+}

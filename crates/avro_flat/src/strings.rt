@@ -1,0 +1,66 @@
+//! Strings.
+
+ghost use Rattle.std.specs.Prelude.{◌≡◌, ◌≤◌, ◌++◌, ◌∷◌, [], length, MatchResult, OnOk};
+ghost use Rattle.std.specs.Str.{IsUtf8};
+ghost use Rattle.arrow_types.specs.declared.slot.Slot.TheVariants.{String as StringSlot};
+ghost use Rattle.avro_reference.specs.Read.{push_one, string_at};
+ghost use Rattle.arrow_flat.specs.Builders.{content_node};
+ghost use Rattle.arrow_flat.specs.Nodes.{Takes, HasSpare};
+ghost use Rattle.avro_skip.specs.Costs.{passed, Moves, CostsKept};
+ghost use Rattle.avro_flat.specs.Decoding.{Gives, IsStringFault, HasMemory};
+ghost use Rattle.avro_flat.specs.Growing.{OffsetsReach, Fills};
+
+use crate::fault::{DecodeFault, pushed};
+use crate::utf8::is_utf8;
+use arrow_flat::MutableUtf8Array;
+use avro_skip::{Ahead, read_length};
+use std::convert::AsSlice;
+
+/// Reads a string: a length of 0 or more, and as many bytes, which have to be UTF-8 (Avro 1.11,
+/// "Primitive Types").
+#[inline(never)]
+#[tactic(auto, using(crate::proofs::Sets::strings))]
+pub fn decode_string<C: Ahead>(
+    cursor: &mut C,
+    values: &mut MutableUtf8Array<i32>,
+) -> Result<(), DecodeFault>
+    requires offsets { OffsetsReach (length (C.rest cursor.old)) (content_node values.old) }
+    ensures data_type { values.new.data_type ≡ values.old.data_type }
+    ensures grows { Fills (passed (C.rest cursor.old) (C.rest cursor.new)) (content_node values.old)
+        (content_node values.new) }
+    ensures has_capacity { HasSpare (length (C.rest cursor.old)) (content_node values.old)
+        → HasMemory result }
+    ensures same { C.whose cursor.new ≡ C.whose cursor.old }
+    ensures moves { Moves C.rest C.calls cursor.old cursor.new }
+    ensures costs { OnOk result (CostsKept C.rest C.shown C.calls cursor.old cursor.new) }
+    ensures reads { Gives (λ _. (values.new.slots, C.rest cursor.new)) result
+        (push_one values.old.slots (string_at (C.rest cursor.old))) }
+{
+    let Some(length) = read_length(cursor) else {
+        return Err(DecodeFault::Bytes);
+    };
+    let Some(bytes) = cursor.take(length) else {
+        return Err(DecodeFault::Bytes);
+    };
+    push_string(values, bytes.as_slice())
+}
+
+/// Pushes a string, which has to be UTF-8.
+#[inline(always)]
+#[tactic(auto, using(crate::proofs::Pushes::takes_none))]
+fn push_string(values: &mut MutableUtf8Array<i32>, bytes: &[u8]) -> Result<(), DecodeFault>
+    requires offsets { OffsetsReach (length bytes.now) (content_node values.old) }
+    ensures data_type { values.new.data_type ≡ values.old.data_type }
+    ensures grows { Takes 1 (length bytes.now) (content_node values.old) (content_node values.new) }
+    ensures has_capacity { 1 ≤ values.old.spare → length bytes.now ≤ values.old.byte_spare
+        → HasMemory result }
+    ensures string { MatchResult result
+        (λ _. IsUtf8 bytes.now × (values.new.slots ≡ values.old.slots ++ StringSlot bytes.now ∷ []))
+        (λ e. IsStringFault e bytes.now) }
+{
+    if !is_utf8(bytes) {
+        return Err(DecodeFault::Bytes);
+    }
+    let string = unsafe { std::str::from_utf8_unchecked(bytes) };
+    pushed(values.push(Some(string)))
+}

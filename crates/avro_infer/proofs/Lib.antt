@@ -1,0 +1,4 @@
+pub mod CarriedSchemas
+pub mod ColumnTypes
+pub mod Inferring
+pub mod Parts

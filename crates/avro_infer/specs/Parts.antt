@@ -1,0 +1,7 @@
+-- What stands among the members of a union or the fields of a record, as code looks for it.
+use Rattle.std.specs.Prelude.{List, [], ◌∷◌, ◌⊎◌}
+
+-- P holds of an element
+abbrev pub AnyOf : {X : Type 0} → (X → Type 0) → List X → Type 0
+AnyOf P [] = ⊥
+AnyOf P (x ∷ xs) = P x ⊎ AnyOf P xs

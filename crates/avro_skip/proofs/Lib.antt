@@ -1,0 +1,9 @@
+pub mod Counting
+pub mod Flats
+pub mod Numbers
+pub mod Sets
+pub mod Signed
+pub mod Steps
+pub mod Underway
+pub mod Unfolded
+pub mod Unions

@@ -1,0 +1,120 @@
+//! Skipped values of schemas that have no others in them.
+
+ghost use Rattle.std.specs.Prelude.{◌≡◌, ◌+◌, ◌<◌, ◌≤◌, length, Some, None, MatchResult, OnOk};
+ghost use Rattle.avro_grammar.specs.Skips.{fixed_size as fixed_size_of};
+ghost use Rattle.avro_reference.specs.Skip.{skip, jump_at, skip_number as skip_number_at, skip_sized as skip_sized_at};
+ghost use Rattle.avro_skip.specs.Costs.{Moves};
+ghost use Rattle.avro_skip.specs.Lengths.{as_length};
+ghost use Rattle.avro_skip.specs.Skipping.{IsCarriedFlat, Passes, PassesMore, Jumps, sized_items_at};
+
+use crate::ahead::{Ahead, read_length};
+use crate::fault::SkipFault;
+use avro_schema::{AvroSchema, Fixed, FixedLogical};
+
+/// Skips a value of a schema that has no others in it.
+#[tactic(auto, using(crate::proofs::Sets::flats))]
+pub fn skip_flat<A: Ahead>(cursor: &mut A, schema: &AvroSchema) -> Result<(), SkipFault>
+    requires flat { IsCarriedFlat schema.now }
+    ensures same { A.whose cursor.new ≡ A.whose cursor.old }
+    ensures moves { Moves A.rest A.calls cursor.old cursor.new }
+    ensures shorter { OnOk result (length (A.rest cursor.new) < length (A.rest cursor.old)) }
+    ensures passes { Passes A.rest A.shown A.calls cursor.old cursor.new result
+        (skip schema.now (A.rest cursor.old)) }
+{
+    match schema {
+        AvroSchema::Boolean => skip_bytes(cursor, 1),
+        AvroSchema::Int(_) | AvroSchema::Long(_) | AvroSchema::Enum(_) => skip_number(cursor),
+        AvroSchema::Float => skip_bytes(cursor, 4),
+        AvroSchema::Double => skip_bytes(cursor, 8),
+        AvroSchema::Bytes(_) | AvroSchema::String(_) => skip_sized(cursor),
+        AvroSchema::Fixed(fixed) => skip_bytes(cursor, fixed_size(fixed)),
+        _ => unreachable!(),
+    }
+}
+
+/// How many bytes a fixed-size value has (Avro 1.11, "Fixed" and "Duration").
+fn fixed_size(fixed: &Fixed) -> usize
+    ensures { result ≡ fixed_size_of fixed.now.size fixed.now.logical }
+{
+    match fixed.logical {
+        Some(FixedLogical::Duration) => 12,
+        _ => fixed.size,
+    }
+}
+
+/// Skips a number.
+#[tactic(auto, using(crate::proofs::Sets::numbered))]
+fn skip_number<A: Ahead>(cursor: &mut A) -> Result<(), SkipFault>
+    ensures same { A.whose cursor.new ≡ A.whose cursor.old }
+    ensures moves { Moves A.rest A.calls cursor.old cursor.new }
+    ensures shorter { OnOk result (length (A.rest cursor.new) < length (A.rest cursor.old)) }
+    ensures passes { Passes A.rest A.shown A.calls cursor.old cursor.new result
+        (skip_number_at (A.rest cursor.old)) }
+{
+    match cursor.number() {
+        Some(_) => Ok(()),
+        None => Err(SkipFault::Bytes),
+    }
+}
+
+/// Skips a length and so many bytes, unseen.
+#[tactic(auto, using(crate::proofs::Sets::numbered))]
+fn skip_sized<A: Ahead>(cursor: &mut A) -> Result<(), SkipFault>
+    ensures same { A.whose cursor.new ≡ A.whose cursor.old }
+    ensures moves { Moves A.rest A.calls cursor.old cursor.new }
+    ensures shorter { OnOk result (length (A.rest cursor.new) < length (A.rest cursor.old)) }
+    ensures passes { Passes A.rest A.shown A.calls cursor.old cursor.new result
+        (skip_sized_at (A.rest cursor.old)) }
+{
+    match read_length(cursor) {
+        Some(length) => skip_bytes(cursor, length),
+        None => Err(SkipFault::Bytes),
+    }
+}
+
+/// Skips the items of an array's block, unseen, by the size that the block states (Avro 1.11,
+/// "Arrays").
+#[tactic(auto, using(crate::proofs::Sets::numbered))]
+pub fn skip_sized_items<A: Ahead>(cursor: &mut A) -> Result<(), SkipFault>
+    ensures same { A.whose cursor.new ≡ A.whose cursor.old }
+    ensures moves { Moves A.rest A.calls cursor.old cursor.new }
+    ensures passes { PassesMore A.rest A.shown A.calls cursor.old cursor.new result
+        (λ before. sized_items_at before (A.rest cursor.old)) }
+{
+    let Some(size) = cursor.number() else {
+        return Err(SkipFault::Bytes);
+    };
+    match block_size(size) {
+        Ok(length) => skip_bytes(cursor, length),
+        Err(fault) => Err(fault),
+    }
+}
+
+/// The size that a block states.
+fn block_size(size: i64) -> Result<usize, SkipFault>
+    ensures { MatchResult result (λ length. as_length size ≡ Some length)
+        (λ fault. (fault ≡ SkipFault.NegativeSize) × (as_length size ≡ None)) }
+{
+    match usize::try_from(size) {
+        Ok(length) => Ok(length),
+        Err(_) => Err(SkipFault::NegativeSize),
+    }
+}
+
+/// Skips `count` bytes, unseen.
+#[tactic(auto, using(crate::proofs::Sets::jumps))]
+fn skip_bytes<A: Ahead>(cursor: &mut A, count: usize) -> Result<(), SkipFault>
+    ensures same { A.whose cursor.new ≡ A.whose cursor.old }
+    ensures moves { Moves A.rest A.calls cursor.old cursor.new }
+    ensures shown { A.shown cursor.new ≡ A.shown cursor.old }
+    ensures calls { A.calls cursor.new ≤ A.calls cursor.old + 1 }
+    ensures shorter { OnOk result (length (A.rest cursor.new) + count
+        ≡ length (A.rest cursor.old)) }
+    ensures jumps { Jumps (A.rest cursor.new) result (jump_at count (A.rest cursor.old)) }
+{
+    if cursor.jump(count) {
+        Ok(())
+    } else {
+        Err(SkipFault::Bytes)
+    }
+}

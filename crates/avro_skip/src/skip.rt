@@ -1,0 +1,160 @@
+//! Values that are skipped. No more of them is looked at than tells how long they are; the rest is
+//! skipped.
+
+ghost use Rattle.std.specs.Prelude.{◌≡◌, ◌≢◌, ◌⊎◌, ◌+◌, ◌<◌, ◌≤◌, length, pos, OnOk};
+ghost use Rattle.avro_grammar.specs.Carried.{Carried, CarriedList};
+ghost use Rattle.avro_grammar.specs.Encodes.{IsNull};
+ghost use Rattle.avro_grammar.specs.Listed.{CarriedMembersOf};
+ghost use Rattle.avro_reference.specs.Skip.{skip, skip_items as skip_items_at, skip_block_items as skip_block_items_at, skip_array};
+ghost use Rattle.avro_reference.specs.Listed.{skip_union_of, skip_fields_of};
+ghost use Rattle.avro_skip.specs.Costs.{Moves};
+ghost use Rattle.avro_skip.specs.Skipping.{Passes, PassesMore, member_at};
+
+use crate::ahead::Ahead;
+use crate::fault::SkipFault;
+use crate::flat::{skip_flat, skip_sized_items};
+use avro_schema::{AvroField, AvroSchema};
+
+/// Skips one value of a carried schema (Avro 1.11, "Binary Encoding").
+///
+/// `NegativeSize` comes where a block of an array states a size below 0, and `Bytes` where the
+/// bytes are no such value otherwise: whichever fault is the first from the left. Items of blocks
+/// that state their size are passed by one jump, and so are the bytes of strings, of binary values
+/// and of fixed-size ones.
+#[cycle(skips)]
+pub fn skip_value<A: Ahead>(cursor: &mut A, schema: &AvroSchema) -> Result<(), SkipFault>
+    requires carried { Carried schema.now }
+    ensures same { A.whose cursor.new ≡ A.whose cursor.old }
+    ensures moves { Moves A.rest A.calls cursor.old cursor.new }
+    ensures shorter { OnOk result (length (A.rest cursor.new) < length (A.rest cursor.old)) }
+    ensures passes { Passes A.rest A.shown A.calls cursor.old cursor.new result
+        (skip schema.now (A.rest cursor.old)) }
+{
+    match schema {
+        AvroSchema::Record(record) => skip_fields(cursor, record.fields.as_slice()),
+        AvroSchema::Array(item) => skip_blocks(cursor, item.get()),
+        AvroSchema::Union(members) => skip_union(cursor, members.as_slice()),
+        _ => skip_flat(cursor, schema),
+    }
+}
+
+#[cycle(skips)]
+#[tactic(auto, using(crate::proofs::Sets::unions))]
+fn skip_union<A: Ahead>(cursor: &mut A, members: &[AvroSchema]) -> Result<(), SkipFault>
+    requires carried { CarriedMembersOf members.now }
+    ensures same { A.whose cursor.new ≡ A.whose cursor.old }
+    ensures moves { Moves A.rest A.calls cursor.old cursor.new }
+    ensures shorter { OnOk result (length (A.rest cursor.new) < length (A.rest cursor.old)) }
+    ensures passes { Passes A.rest A.shown A.calls cursor.old cursor.new result
+        (skip_union_of members.now (A.rest cursor.old)) }
+{
+    let [first, second] = members else {
+        unreachable!()
+    };
+    let Some(member) = cursor.number() else {
+        return Err(SkipFault::Bytes);
+    };
+    if member == 0 {
+        skip_member(cursor, first)
+    } else if member == 1 {
+        skip_member(cursor, second)
+    } else {
+        Err(SkipFault::Bytes)
+    }
+}
+
+/// Skips the value of one member. Null has no bytes.
+#[cycle(skips)]
+#[tactic(auto, using(crate::proofs::Sets::nulls))]
+fn skip_member<A: Ahead>(cursor: &mut A, schema: &AvroSchema) -> Result<(), SkipFault>
+    requires member { IsNull schema.now ⊎ Carried schema.now }
+    ensures same { A.whose cursor.new ≡ A.whose cursor.old }
+    ensures moves { Moves A.rest A.calls cursor.old cursor.new }
+    ensures passes { Passes A.rest A.shown A.calls cursor.old cursor.new result
+        (member_at schema.now (A.rest cursor.old)) }
+{
+    if matches!(schema, AvroSchema::Null) {
+        Ok(())
+    } else {
+        skip_value(cursor, schema)
+    }
+}
+
+/// Skips the fields of a record, in order.
+#[cycle(skips)]
+fn skip_fields<A: Ahead>(cursor: &mut A, fields: &[AvroField]) -> Result<(), SkipFault>
+    requires carried { CarriedList fields.now }
+    ensures same { A.whose cursor.new ≡ A.whose cursor.old }
+    ensures moves { Moves A.rest A.calls cursor.old cursor.new }
+    ensures shorter { OnOk result (length (A.rest cursor.new) + length fields.now
+        ≤ length (A.rest cursor.old)) }
+    ensures passes { PassesMore A.rest A.shown A.calls cursor.old cursor.new result
+        (λ before. skip_fields_of fields.now before (A.rest cursor.old)) }
+{
+    for i in 0..fields.len() {
+        skip_value(cursor, &fields[i].schema)?;
+    }
+    Ok(())
+}
+
+/// Skips the blocks of an array, up to the number 0 that ends them.
+#[cycle(skips)]
+fn skip_blocks<A: Ahead>(cursor: &mut A, item: &AvroSchema) -> Result<(), SkipFault>
+    requires carried { Carried item.now }
+    ensures same { A.whose cursor.new ≡ A.whose cursor.old }
+    ensures moves { Moves A.rest A.calls cursor.old cursor.new }
+    ensures shorter { OnOk result (length (A.rest cursor.new) < length (A.rest cursor.old)) }
+    ensures passes { Passes A.rest A.shown A.calls cursor.old cursor.new result
+        (skip_array (skip item.now) (A.rest cursor.old)) }
+{
+    loop {
+        let Some(count) = cursor.number() else {
+            return Err(SkipFault::Bytes);
+        };
+        if count == 0 {
+            return Ok(());
+        }
+        skip_block_items(cursor, item, count)?;
+    }
+}
+
+/// Skips the items of a block after its count. Where the count is below 0 their size stands before
+/// them.
+#[cycle(skips)]
+fn skip_block_items<A: Ahead>(
+    cursor: &mut A,
+    item: &AvroSchema,
+    count: i64,
+) -> Result<(), SkipFault>
+    requires carried { Carried item.now }
+    requires some { count ≢ pos 0 }
+    ensures same { A.whose cursor.new ≡ A.whose cursor.old }
+    ensures moves { Moves A.rest A.calls cursor.old cursor.new }
+    ensures passes { PassesMore A.rest A.shown A.calls cursor.old cursor.new result
+        (λ before. skip_block_items_at (skip item.now) count before (A.rest cursor.old)) }
+{
+    if count > 0 {
+        skip_items(cursor, item, count as u64)
+    } else if count == i64::MIN {
+        // No such count has an opposite: the items would be more than a number can count.
+        Err(SkipFault::Bytes)
+    } else {
+        skip_sized_items(cursor)
+    }
+}
+
+/// Skips `count` items. There may be fewer bytes ahead than items: only where they end is it told
+/// which fault comes first.
+#[cycle(skips)]
+fn skip_items<A: Ahead>(cursor: &mut A, item: &AvroSchema, count: u64) -> Result<(), SkipFault>
+    requires carried { Carried item.now }
+    ensures same { A.whose cursor.new ≡ A.whose cursor.old }
+    ensures moves { Moves A.rest A.calls cursor.old cursor.new }
+    ensures passes { PassesMore A.rest A.shown A.calls cursor.old cursor.new result
+        (λ before. skip_items_at (skip item.now) count before (A.rest cursor.old)) }
+{
+    for _ in 0..count {
+        skip_value(cursor, item)?;
+    }
+    Ok(())
+}
