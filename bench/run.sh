@@ -1,5 +1,5 @@
 #!/bin/sh
-# Measures one of the folders beside this script: arrays, block, builders or json_tree.
+# Measures one of the folders beside this script: arrays, block, builders, container, dates, json_tree or json_write.
 #     bench/run.sh NAME
 # `main.rattle` of the folder is a Rattle program over the crates that `crates` names, `plain.rs`, where there is one, the same in plain
 # Rust, and `measure.py` runs both on the same input and prints what it found. All is built in a folder of its own outside of

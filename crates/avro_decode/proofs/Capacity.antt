@@ -1,9 +1,8 @@
 -- What builders hold after a block, and that their capacity lasts.
-use Rattle.std.proofs.Common.{◌≡◌, ◌∙◌, ℕ, zero, suc, ◌+◌, ◌<◌, ◌≤◌, Bool, true, false, List, [], ◌∷◌, length, get_or, map, All, refl, sym, ap, subst, arith}
+use Rattle.std.proofs.Common.{◌≡◌, ℕ, suc, ◌≤◌, Bool, true, false, List, [], ◌∷◌, length, get_or, map, All, refl, sym, subst, arith}
 use Rattle.std.specs.Prelude.{IsTrue, if◌then◌else◌}
 use Rattle.std.specs.List.{AllZip}
 use Rattle.std.proofs.lemmas.List.Elements.{All-cons}
-use Rattle.arrow_types.specs.declared.slot.Slot.{Slot}
 use Rattle.arrow_builders.specs.declared.array.MutableArray.{MutableArray}
 use Rattle.arrow_builders.specs.MutableArrays.{builder_type, builder_slots, nodes}
 use Rattle.arrow_builders.specs.Nodes.{Node, HasSpare, KeepsCapacity, IsEmpty, Emptied}
@@ -15,7 +14,7 @@ use Rattle.avro_grammar.specs.ValidBlock.{small_limit}
 use Rattle.avro_skip.specs.Costs.{passed}
 use Rattle.avro_decode.specs.Capacity.{AtNodes, BetweenNodes, ReservedCapacityStays}
 use Rattle.avro_decode.specs.Growth.{Fills, AllFill, Reaches, AllReach, HaveSpare, BothFill, ChildrenGrow, ChildrenReach, ChildrenHaveSpare}
-use Rattle.avro_decode.specs.Masks.{mask, paid, later, content, total, AllPaid}
+use Rattle.avro_decode.specs.Masks.{mask, paid, later, content, total, BytesPayForAll}
 use Rattle.avro_decode.proofs.Columns.{AreEmpty}
 
 -- ---- empty nodes
@@ -147,7 +146,7 @@ nodes_spare (m ∷ ms) n (x ∷ xs) t h =
     let q = rest_of IsTrue m ms t in
     (q.0, r.0, nodes_spare ms n xs q.1 r.1)
 
-pub all_spare : (n : ℕ) (fs : List AvroField) (bs : List MutableArray) → AtNodes (HasSpare n) bs → AllPaid fs → ChildrenHaveSpare n fs bs
+pub all_spare : (n : ℕ) (fs : List AvroField) (bs : List MutableArray) → AtNodes (HasSpare n) bs → BytesPayForAll fs → ChildrenHaveSpare n fs bs
 all_spare n [] bs h p = tt
 all_spare n (f ∷ fs) [] h p = tt
 all_spare n (f ∷ fs) (b ∷ bs) h p =

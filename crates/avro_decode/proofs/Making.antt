@@ -1,195 +1,363 @@
--- The types that schemas have, and the builders that are made for them.
-use Rattle.std.proofs.Common.{◌≡◌, ◌∙◌, ◌⊎◌, inl, inr, ℕ, zero, suc, ◌<◌, ◌≤◌, Bool, true, false, Option, None, Some, List, [], ◌∷◌, length, map, All, refl, sym, ap, subst, arith}
-use Rattle.std.specs.List.{AllZip}
+-- Which schemas and data types stand in a schema that can be kept, and the builder that is made for it.
+use Rattle.std.proofs.Common.{◌≡◌, ◌∙◌, ◌⊎◌, inl, inr, ℕ, suc, ◌<◌, ◌≤◌, false, Option, None, Some, List, [], ◌∷◌, length, map, All, refl, sym, ap, subst, arith}
+use Rattle.std.specs.Prelude.{sum_by}
+use Rattle.std.proofs.lemmas.Bool.{cases_lt}
 use Rattle.std.proofs.lemmas.List.Elements.{All-cons}
 use Rattle.arrow_types.specs.declared.physical.PhysicalType.TheVariants as physical
+use Rattle.arrow_types.specs.declared.slot.Slot.TheVariants as slot
 use Rattle.arrow_types.specs.declared.types.Field.{Field}
-use Rattle.arrow_types.specs.declared.types.DataType.{DataType}
+use Rattle.arrow_types.specs.declared.types.DataType.{DataType, List', Struct', items-the_row-Field, items_hidden-the_row-Field-1}
 use Rattle.arrow_types.specs.declared.types.DataType as data_type
 use Rattle.arrow_types.specs.declared.types.IntervalUnit.TheVariants as interval
-use Rattle.arrow_types.specs.declared.types.DataType.TheBlock.{shape-the_row-Field-0, hidden-the_row-Field-0, shape-the_row-Field-1, hidden-the_row-Field-1}
+use Rattle.arrow_types.specs.declared.types.DataType.TheBlock.{shape-the_row-Field-0, hidden-the_row-Field-0}
+use Rattle.arrow_types.specs.Layouts.{physical_type}
 use Rattle.arrow_builders.specs.Children.{fields_of}
 use Rattle.arrow_builders.specs.Fits.{TypesFit, field_types}
-use Rattle.arrow_builders.specs.MutableArrays.{builder_type, builder_slots, nodes}
+use Rattle.arrow_builders.specs.MutableArrays.{builder_type, nodes}
 use Rattle.arrow_builders.specs.Nodes.{IsEmpty}
-use Rattle.arrow_builders.specs.Shapes.{Shape, lists, records, shape, shape_type}
-use Rattle.arrow_builders.specs.Tight.{IsTight}
+use Rattle.arrow_builders.specs.Shapes.{Shape, flat, dictionary, lists, records, shape, shape_type}
 use Rattle.arrow_builders.specs.declared.array.MutableArray.{MutableArray}
-use Rattle.arrow_builders.proofs.Heads.{type_is, no_slots}
-use Rattle.arrow_builders.proofs.TightLaws.{empty_tight}
+use Rattle.arrow_builders.proofs.Heads.{type_is}
 use Rattle.avro_schema.specs.declared.schema.AvroField.{AvroField}
 use Rattle.avro_schema.specs.declared.schema.BytesLogical.TheVariants as bytes_logical
+use Rattle.avro_schema.specs.declared.schema.Enum.{Enum as TheEnum}
 use Rattle.avro_schema.specs.declared.schema.Fixed.{Fixed as TheFixed}
 use Rattle.avro_schema.specs.declared.schema.FixedLogical.{FixedLogical}
 use Rattle.avro_schema.specs.declared.schema.FixedLogical.TheVariants as fixed_logical
 use Rattle.avro_schema.specs.declared.schema.IntLogical.TheVariants as int_logical
 use Rattle.avro_schema.specs.declared.schema.LongLogical.TheVariants as long_logical
-use Rattle.avro_schema.specs.declared.schema.Schema.{Schema, Null, Boolean, Int, Long, Bytes, String, Record, Fixed, Array', Union', Row_of-Schema, end_of-Schema, more_of-Schema}
-use Rattle.avro_schema.specs.declared.schema.Record.{Record as TheRecord, Record', Row_of-AvroField, end_of-AvroField, more_of-AvroField}
-use Rattle.avro_grammar.specs.Carried.{HasFields}
+use Rattle.avro_schema.specs.declared.schema.Record.{Record as TheRecord, out-Record}
+use Rattle.avro_schema.specs.declared.schema.Schema.{Schema, Null, Boolean, Int, Long, Float, Double, Bytes, String, Record, Enum, Fixed, Array, Union, Array', Map', Union'}
+use Rattle.avro_schema.specs.declared.schema.Schema.TheBlock.{shape-the_row-Schema-0 as shape_0, hidden-the_row-Schema-0 as hidden_0}
+use Rattle.avro_grammar.specs.Carried.{IsFixedSize, Carried}
 use Rattle.avro_grammar.specs.Encodes.{IsNull}
-use Rattle.avro_grammar.specs.Types.{HasType, HasMemberType, HasItemType, HasRecordType, HasFieldTypes, fixed_type}
-use Rattle.avro_grammar.specs.ValidBlock.{kept}
-use Rattle.avro_decode.specs.Making.{made, made_fields, IsMade, AreMade, HasField}
-use Rattle.avro_decode.specs.Suits.{Suits, IsFixedDecimal, SuitsRecord, SuitsItem, SuitsMembers, SuitsFields, AllSuit}
-use Rattle.avro_decode.specs.Supported.{Supported, SupportedRecord, SupportedItem, SupportedMembers, SupportedFields, AllSupported, AllTyped, kept_types}
+use Rattle.avro_grammar.specs.Listed.{CarriedMembersOf}
+use Rattle.avro_grammar.specs.TypeLaws.{HasMemberTypeOf}
+use Rattle.avro_grammar.specs.Types.{IsListOf, HasType, HasColumnType, fixed_type, symbol_type}
+use Rattle.avro_grammar.specs.ValidBlock.{small_limit, HasFloat, SymbolsFit, EnumsFit}
+use Rattle.avro_grammar.proofs.ByLists.{moved, carried_array, carried_union, carried_record}
+use Rattle.avro_grammar.proofs.TypeLemmas.{type_composites, float_composites, enum_composites}
+use Rattle.avro_infer.specs.Columns.{HasColumnTypes}
+use Rattle.avro_infer.proofs.ColumnTypes.{flip}
+use Rattle.avro_decode.specs.Making.{CanBeKept, IsNewBuilder, AreNewBuilders, IsFlatType}
+use Rattle.avro_decode.specs.Growth.{SuitsPair}
+use Rattle.avro_decode.specs.Suits.{Suits, IsFixedDecimal, AllSuit}
+use Rattle.avro_decode.proofs.Suited.{suits_union, record_suits_all}
 
--- ---- lists and structs
+-- ---- flat values
 
-abbrev made_of : Field → Shape
-made_of f = made f.data_type
-
-pub made_list : (item : Field) → made (data_type.List item) ≡ lists physical.List (data_type.List item) (made item.data_type)
-unfolding shape-the_row-Field-0 hidden-the_row-Field-0 denote.Hole.Carrier.hidden
-made_list item = refl
-
-pub is_made_list : (item : Field) → IsMade (data_type.List item) ≡ IsMade item.data_type
-unfolding shape-the_row-Field-0 hidden-the_row-Field-0 denote.Hole.Carrier.hidden
-is_made_list item = refl
-
-made_below : (fs : List Field) → made_fields (hidden-the_row-Field-1 fs) ≡ fields_of (map made_of fs)
-unfolding shape-the_row-Field-1 hidden-the_row-Field-1 denote.Hole.Carrier.hidden
-made_below [] = refl
-made_below (f ∷ fs) = rw (made_below fs) refl
-
-pub made_struct : (fs : List Field) → made (data_type.Struct fs) ≡ records (data_type.Struct fs) (fields_of (map made_of fs))
-unfolding shape-the_row-Field-1 hidden-the_row-Field-1 denote.Hole.Carrier.hidden
-made_struct fs = ap (records (data_type.Struct fs)) (made_below fs)
-
-abbrev pub AllMade : List Field → Type 0
-AllMade [] = Unit {0}
-AllMade (f ∷ fs) = IsMade f.data_type × AllMade fs
-
-are_made : (fs : List Field) → AreMade (hidden-the_row-Field-1 fs) ≡ AllMade fs
-unfolding shape-the_row-Field-1 hidden-the_row-Field-1 denote.Hole.Carrier.hidden
-are_made [] = refl
-are_made (f ∷ fs) = rw (are_made fs) refl
-
-has_field : (fs : List Field) → 0 < length fs → HasField (hidden-the_row-Field-1 fs)
-unfolding shape-the_row-Field-1 hidden-the_row-Field-1 denote.Hole.Carrier.hidden
-has_field [] h = absurd (omega (arith, h))
-has_field (f ∷ fs) h = tt
-
-pub struct_is_made : (fs : List Field) → 0 < length fs → AllMade fs → IsMade (data_type.Struct fs)
-unfolding shape-the_row-Field-1 hidden-the_row-Field-1 denote.Hole.Carrier.hidden
-struct_is_made fs some h = (has_field fs some, subst (λ (P : Type 0). P) (sym (are_made fs)) h)
-
-pub fields_are_made : (fs : List Field) → IsMade (data_type.Struct fs) → AllMade fs
-unfolding shape-the_row-Field-1 hidden-the_row-Field-1 denote.Hole.Carrier.hidden
-fields_are_made fs h = subst (λ (P : Type 0). P) (are_made fs) h.1
-
--- ---- a schema's type
-
--- a builder is made for the type; it takes the schema's values, and its children fit
-pub record HasBuilder (s : Schema) (t : DataType) : Type 0 where
-  pub is_made : IsMade t
-  pub suits : Suits s (made t)
-  pub fit : TypesFit (made t)
-  pub type : shape_type (made t) ≡ t
-
-null_not_supported : (s : Schema) → IsNull s → Supported s → ⊥
-null_not_supported Null n c = c
-null_not_supported _ n c = absurd n
-
-list_has : (shape : _) (item : Row_of-Schema _) (f : Field) → SuitsItem item (made f.data_type) → IsMade f.data_type → TypesFit (made f.data_type) → shape_type (made f.data_type) ≡ f.data_type → HasBuilder (Array' shape item) (data_type.List f)
-list_has shape item f suits is_made fit type = record {
-  is_made = subst (λ (P : Type 0). P) (sym (is_made_list f)) is_made;
-  suits = subst (Suits (Array' shape item)) (sym (made_list f)) suits;
-  fit = subst TypesFit (sym (made_list f)) ((f, refl, sym type), fit);
-  type = ap shape_type (made_list f);
-}
-
-abbrev AllHave : {m : _} → Row_of-AvroField m → List Field → Type 0
-AllHave row fs = AllMade fs × SuitsFields row (fields_of (map made_of fs)) × TypesFit (fields_of (map made_of fs)) × (map (λ f. f.data_type) fs ≡ field_types (fields_of (map made_of fs)))
-
-some_types : {m : _} (row : Row_of-AvroField m) (fs : List Field) → HasFields row → HasFieldTypes false row fs → 0 < length fs
-some_types end_of-AvroField fs h t = absurd h
-some_types (more_of-AvroField name doc s rest) [] h t = absurd t
-some_types (more_of-AvroField name doc s rest) (f ∷ fs) h t = omega arith
-
-types_length : (fs : List Field) → 0 < length fs → 0 < length (field_types (fields_of (map made_of fs)))
-types_length [] h = absurd (omega (arith, h))
-types_length (f ∷ fs) h = omega arith
-
-struct_has : (r : TheRecord) (fs : List Field) → 0 < length fs → SuitsRecord r (fields_of (map made_of fs)) → AllMade fs → TypesFit (fields_of (map made_of fs)) → map (λ f. f.data_type) fs ≡ field_types (fields_of (map made_of fs)) → HasBuilder (Record r) (data_type.Struct fs)
-struct_has r fs some suits are fit types = record {
-  is_made = struct_is_made fs some are;
-  suits = subst (Suits (Record r)) (sym (made_struct fs)) suits;
-  fit = subst TypesFit (sym (made_struct fs)) (types_length fs some, (fs, refl, types), fit);
-  type = ap shape_type (made_struct fs);
-}
-
-fixed_has : (f : TheFixed) (t : DataType) → 1 ≤ f.size → t ≡ fixed_type f.size f.logical → HasBuilder (Fixed f) t
-fixed_has f t c h = from f.logical refl
+fixed_typed : (f : TheFixed) (t : DataType) → IsFixedSize f.size f.logical → t ≡ fixed_type f.size f.logical → IsFlatType t × Suits (Fixed f) (flat (physical_type t) t)
+fixed_typed f t c h = from f.logical refl
   where
-    from : (logical : Option FixedLogical) → f.logical ≡ logical → HasBuilder (Fixed f) t
+    from : (logical : Option FixedLogical) → f.logical ≡ logical → IsFlatType t × Suits (Fixed f) (flat (physical_type t) t)
     from None e =
         let q : t ≡ data_type.FixedSizeBinary f.size = h ∙ ap (fixed_type f.size) e in
-        subst (HasBuilder (Fixed f)) (sym q) (record { is_made = c; suits = (e, c, refl); fit = tt; type = refl })
+        let s : 1 ≤ f.size = subst (IsFixedSize f.size) e c in
+        rw q (s, (e, c, refl))
     from (Some (fixed_logical.Decimal precision scale)) e =
         let q : t ≡ data_type.Decimal precision scale = h ∙ ap (fixed_type f.size) e in
-        subst (HasBuilder (Fixed f)) (sym q) (record { is_made = tt; suits = (subst IsFixedDecimal (sym e) tt, c); fit = tt; type = refl })
+        rw q (tt, (subst IsFixedDecimal (sym e) tt, c))
     from (Some fixed_logical.Duration) e =
         let q : t ≡ data_type.Interval interval.MonthDayNano = h ∙ ap (fixed_type f.size) e in
-        subst (HasBuilder (Fixed f)) (sym q) (record { is_made = tt; suits = (e, c); fit = tt; type = refl })
+        rw q (tt, (e, c))
 
-mutual
-  pub has_builder : (s : Schema) (t : DataType) → Supported s → HasType false s t → HasBuilder s t
-  has_builder Boolean t c h = rw h (record { is_made = tt; suits = tt; fit = tt; type = refl })
-  has_builder (Int None) t c h = rw h (record { is_made = tt; suits = tt; fit = tt; type = refl })
-  has_builder (Int (Some int_logical.Date)) t c h = rw h (record { is_made = tt; suits = tt; fit = tt; type = refl })
-  has_builder (Int (Some int_logical.Time)) t c h = rw h (record { is_made = tt; suits = tt; fit = tt; type = refl })
-  has_builder (Long None) t c h = rw h (record { is_made = tt; suits = tt; fit = tt; type = refl })
-  has_builder (Long (Some long_logical.Time)) t c h = rw h (record { is_made = tt; suits = tt; fit = tt; type = refl })
-  has_builder (Long (Some long_logical.TimestampMillis)) t c h = rw h (record { is_made = tt; suits = tt; fit = tt; type = refl })
-  has_builder (Long (Some long_logical.TimestampMicros)) t c h = rw h (record { is_made = tt; suits = tt; fit = tt; type = refl })
-  has_builder (Long (Some long_logical.TimestampNanos)) t c h = rw h (record { is_made = tt; suits = tt; fit = tt; type = refl })
-  has_builder (Long (Some long_logical.LocalTimestampMillis)) t c h = rw h (record { is_made = tt; suits = tt; fit = tt; type = refl })
-  has_builder (Long (Some long_logical.LocalTimestampMicros)) t c h = rw h (record { is_made = tt; suits = tt; fit = tt; type = refl })
-  has_builder (Long (Some long_logical.LocalTimestampNanos)) t c h = rw h (record { is_made = tt; suits = tt; fit = tt; type = refl })
-  has_builder (Bytes None) t c (inl h) = rw h (record { is_made = tt; suits = tt; fit = tt; type = refl })
-  has_builder (Bytes None) t c (inr h) = absurd cc
-  has_builder (Bytes (Some (bytes_logical.Decimal precision scale))) t c h = rw h (record { is_made = tt; suits = tt; fit = tt; type = refl })
-  has_builder (String logical) t c (inl h) = rw h (record { is_made = tt; suits = tt; fit = tt; type = refl })
-  has_builder (String logical) t c (inr h) = absurd cc
-  has_builder (Fixed f) t c h = fixed_has f t c h
-  has_builder (Record r) t c h = subst (HasBuilder (Record r)) (sym h.1) (record_has r h.0 c h.2)
-  has_builder (Array' shape item) t c (f, inl e, h) =
-      let r = item_has item f c h in
-      subst (HasBuilder (Array' shape item)) (sym e) (list_has shape item f r.0 r.1 r.2 r.3)
-  has_builder (Array' shape item) t c (f, inr e, h) = absurd cc
-  has_builder (Union' shape members) t c h =
-      let r = member_has members t c h in
-      record { is_made = r.1; suits = r.0; fit = r.2; type = r.3 }
-  has_builder _ t c h = absurd c
+-- the schema is flat, and no enum
+abbrev pub IsOther : Schema → Type 0
+IsOther (Record r) = ⊥
+IsOther (Array' p item) = ⊥
+IsOther (Union' p members) = ⊥
+IsOther (Enum e) = ⊥
+IsOther _ = Unit {0}
 
-  record_has : (r : TheRecord) (fs : List Field) → SupportedRecord r → HasRecordType false r fs → HasBuilder (Record r) (data_type.Struct fs)
-  record_has (Record' name namespace doc shape fields) fs c h =
-      let a = fields_have fields fs c.1 h in
-      struct_has (Record' name namespace doc shape fields) fs (some_types fields fs c.0 h) (c.0, a.1) a.0 a.2 a.3
+flat_typed : (s : Schema) (t : DataType) → IsOther s → CanBeKept s → HasType false s t → IsFlatType t × Suits s (flat (physical_type t) t)
+flat_typed Boolean t o k h = rw h (tt, tt)
+flat_typed (Int None) t o k h = rw h (tt, tt)
+flat_typed (Int (Some int_logical.Date)) t o k h = rw h (tt, tt)
+flat_typed (Int (Some int_logical.Time)) t o k h = rw h (tt, tt)
+flat_typed (Long None) t o k h = rw h (tt, tt)
+flat_typed (Long (Some long_logical.Time)) t o k h = rw h (tt, tt)
+flat_typed (Long (Some long_logical.TimestampMillis)) t o k h = rw h (tt, tt)
+flat_typed (Long (Some long_logical.TimestampMicros)) t o k h = rw h (tt, tt)
+flat_typed (Long (Some long_logical.TimestampNanos)) t o k h = rw h (tt, tt)
+flat_typed (Long (Some long_logical.LocalTimestampMillis)) t o k h = rw h (tt, tt)
+flat_typed (Long (Some long_logical.LocalTimestampMicros)) t o k h = rw h (tt, tt)
+flat_typed (Long (Some long_logical.LocalTimestampNanos)) t o k h = rw h (tt, tt)
+flat_typed (Bytes None) t o k (inl h) = rw h (tt, tt)
+flat_typed (Bytes None) t o k (inr h) = absurd cc
+flat_typed (Bytes (Some (bytes_logical.Decimal precision scale))) t o k h = rw h (tt, tt)
+flat_typed (String logical) t o k (inl h) = rw h (tt, tt)
+flat_typed (String logical) t o k (inr h) = absurd cc
+flat_typed (Fixed f) t o k h = fixed_typed f t k.carried h
+flat_typed Float t o k h = absurd (k.no_float tt)
+flat_typed Double t o k h = absurd (k.no_float tt)
+flat_typed Null t o k h = absurd k.carried
+flat_typed (Map' p value) t o k h = absurd k.carried
+flat_typed (Record r) t o k h = absurd o
+flat_typed (Enum e) t o k h = absurd o
+flat_typed (Array' p item) t o k h = absurd o
+flat_typed (Union' p members) t o k h = absurd o
 
-  item_has : {m : _} (row : Row_of-Schema m) (f : Field) → SupportedItem row → HasItemType false row f → SuitsItem row (made f.data_type) × IsMade f.data_type × TypesFit (made f.data_type) × (shape_type (made f.data_type) ≡ f.data_type)
-  item_has (more_of-Schema s end_of-Schema) f c h =
-      let r = has_builder s f.data_type c h.1 in
-      (r.suits, r.is_made, r.fit, r.type)
-  item_has _ f c h = absurd c
+pub flat_type : (s : Schema) (t : DataType) → IsOther s → CanBeKept s → HasType false s t → IsFlatType t
+flat_type s t o k h = (flat_typed s t o k h).0
 
-  member_has : {m : _} (row : Row_of-Schema m) (t : DataType) → SupportedMembers row → HasMemberType false row t → SuitsMembers row (made t) × IsMade t × TypesFit (made t) × (shape_type (made t) ≡ t)
-  member_has (more_of-Schema a (more_of-Schema b end_of-Schema)) t (inl c) (inl h) =
-      let r = has_builder b t c.1 h.1 in
-      (inl (c.0, r.suits, c.2), r.is_made, r.fit, r.type)
-  member_has (more_of-Schema a (more_of-Schema b end_of-Schema)) t (inl c) (inr h) = absurd (null_not_supported b h.1 c.1)
-  member_has (more_of-Schema a (more_of-Schema b end_of-Schema)) t (inr c) (inl h) = absurd (null_not_supported a h.0 c.0)
-  member_has (more_of-Schema a (more_of-Schema b end_of-Schema)) t (inr c) (inr h) =
-      let r = has_builder a t c.0 h.0 in
-      (inr (r.suits, c.1, c.2), r.is_made, r.fit, r.type)
-  member_has _ t c h = absurd c
+pub new_flat : (s : Schema) (t : DataType) (b : MutableArray) → IsOther s → CanBeKept s → HasType false s t → shape b ≡ flat (physical_type t) t → All IsEmpty (nodes b) → IsNewBuilder s t b
+new_flat s t b o k h e n = record {
+  suits = subst (Suits s) (sym e) (flat_typed s t o k h).1;
+  types_fit = subst TypesFit (sym e) tt;
+  data_type = type_is b ∙ ap shape_type e;
+  empty = n;
+}
 
-  fields_have : {m : _} (row : Row_of-AvroField m) (fs : List Field) → SupportedFields row → HasFieldTypes false row fs → AllHave row fs
-  fields_have end_of-AvroField [] c h = (tt, tt, tt, refl)
-  fields_have end_of-AvroField (f ∷ fs) c h = absurd h
-  fields_have (more_of-AvroField name doc s rest) [] c h = absurd h
-  fields_have (more_of-AvroField name doc s rest) (f ∷ fs) c h =
-      let r = has_builder s f.data_type c.0 h.0.1 in
-      let a = fields_have rest fs c.1 h.1 in
-      ((r.is_made, a.0), (r.suits, a.1), (r.fit, a.2), rw (r.type, a.3) refl)
+-- ---- enums
+
+symbols_fit : (e : TheEnum) → EnumsFit (Enum e) → SymbolsFit e
+symbols_fit e h = from (cases_lt small_limit (length e.symbols)) (cases_lt small_limit (sum_by length e.symbols))
+  where
+    from : (small_limit < length e.symbols) ⊎ (length e.symbols ≤ small_limit) → (small_limit < sum_by length e.symbols) ⊎ (sum_by length e.symbols ≤ small_limit) → SymbolsFit e
+    from (inl many) total = absurd (h (λ fit. omega (arith, many, fit.0)))
+    from (inr few) (inl large) = absurd (h (λ fit. omega (arith, large, fit.1)))
+    from (inr few) (inr total) = (few, total)
+
+pub enum_fits : (s : Schema) (e : TheEnum) (symbols : List (List ℕ)) → s ≡ Enum e → symbols ≡ e.symbols → CanBeKept s → sum_by length symbols ≤ small_limit
+enum_fits s e symbols is same k =
+    subst (λ (xs : List (List ℕ)). sum_by length xs ≤ small_limit) (sym same) (symbols_fit e (subst EnumsFit is k.symbols)).1
+
+pub new_dictionary : (s : Schema) (t : DataType) (b : MutableArray) (e : TheEnum) (symbols : List (List ℕ)) → s ≡ Enum e → symbols ≡ e.symbols → CanBeKept s → HasType false s t → shape b ≡ dictionary symbol_type (map slot.String symbols) → All IsEmpty (nodes b) → IsNewBuilder s t b
+new_dictionary s t b e symbols is same k h sh n =
+    let type : t ≡ symbol_type = subst (λ (x : Schema). HasType false x t) is h in
+    let fit = symbols_fit e (subst EnumsFit is k.symbols) in
+    let suits : Suits (Enum e) (dictionary symbol_type (map slot.String symbols)) = (fit, ap (map slot.String) same) in
+    record {
+      suits = subst (λ (x : Schema). Suits x (shape b)) (sym is) (subst (Suits (Enum e)) (sym sh) suits);
+      types_fit = subst TypesFit (sym sh) tt;
+      data_type = type_is b ∙ ap shape_type sh ∙ sym type;
+      empty = n;
+    }
+
+-- ---- arrays
+
+abbrev items_of : DataType → List Field
+items_of (List' p row) = items-the_row-Field _ row
+items_of (Struct' p row) = items-the_row-Field _ row
+items_of _ = []
+
+items_of_list : (f : Field) → items_of (data_type.List f) ≡ f ∷ []
+unfolding shape-the_row-Field-0 hidden-the_row-Field-0 denote.Hole.Carrier.hidden
+items_of_list f = refl
+
+items_of_struct : (fs : List Field) → items_of (data_type.Struct fs) ≡ fs
+items_of_struct fs = items_hidden-the_row-Field-1 fs
+
+only : (f g : Field) → f ∷ [] ≡ g ∷ [] → f ≡ g
+only f g e = cc
+
+suits_lists : (item : Schema) (t : DataType) (s : Shape) → Suits (Array item) (lists physical.List t s) ≡ Suits item s
+unfolding shape_0 hidden_0 denote.Hole.Carrier.hidden
+suits_lists item t s = refl
+
+module _ (s : Schema) (t : DataType) (item i : Schema) (e : s ≡ Array item) (x : i ≡ item) where
+  abbrev ListOfItem : Type 0
+  ListOfItem = (g : Field) × (t ≡ data_type.List g) × HasColumnType false item g
+
+  list_type : HasType false s t → ListOfItem
+  list_type h = from ((type_composites.array false item t).0 (subst (λ (y : Schema). HasType false y t) e h))
+    where
+      from : (g : Field) × IsListOf false g t × HasColumnType false item g → ListOfItem
+      from (g, inl l, c) = (g, l, c)
+      from (g, inr l, c) = absurd cc
+
+  pub is_list : HasType false s t → (g : Field) × (t ≡ data_type.List g)
+  is_list h = let k = list_type h in (k.0, k.1)
+
+  pub item_kept : CanBeKept s → CanBeKept i
+  item_kept k = subst CanBeKept (sym x) (record {
+    carried = moved (carried_array item) (subst Carried e k.carried);
+    no_float = λ h. k.no_float (subst HasFloat (sym e) ((float_composites.array item).1 h));
+    symbols = (enum_composites.array item).0 (subst EnumsFit e k.symbols);
+  })
+
+  module _ (f y : Field) (d : t ≡ data_type.List f) (z : y ≡ f) where
+    pub item_typed : HasType false s t → HasType false i y.data_type
+    item_typed h =
+        let k = list_type h in
+        let same : k.0 ≡ y = only k.0 f (sym (items_of_list k.0) ∙ ap items_of (sym k.1 ∙ d) ∙ items_of_list f) ∙ sym z in
+        subst (λ (j : Schema). HasType false j y.data_type) (sym x) (subst (λ (g : Field). HasType false item g.data_type) same k.2.1)
+
+    pub new_list : (v b : MutableArray) → IsNewBuilder i y.data_type v → shape b ≡ lists physical.List t (shape v) → All IsEmpty (nodes b) → IsNewBuilder s t b
+    new_list v b h sh n =
+        let suits : Suits (Array item) (lists physical.List t (shape v)) = moved (sym (suits_lists item t (shape v))) (subst (λ (j : Schema). Suits j (shape v)) x h.suits) in
+        let type : f.data_type ≡ shape_type (shape v) = ap (λ (g : Field). g.data_type) (sym z) ∙ sym h.data_type ∙ type_is v in
+        record {
+          suits = subst (λ (y : Schema). Suits y (shape b)) (sym e) (subst (Suits (Array item)) (sym sh) suits);
+          types_fit = subst TypesFit (sym sh) ((f, d, type), h.types_fit);
+          data_type = type_is b ∙ ap shape_type sh;
+          empty = n;
+        }
+
+-- ---- unions
+
+-- one member's builder is the union's
+pub record IsChosen (members : List Schema) (s : Schema) (t : DataType) : Type 0 where
+  pub kept : CanBeKept s
+  pub typed : HasType false s t
+  pub back : (b : MutableArray) → IsNewBuilder s t b → IsNewBuilder (Union members) t b
+
+null_not_carried : (s : Schema) → IsNull s → Carried s → ⊥
+null_not_carried Null n c = c
+null_not_carried _ n c = absurd n
+
+of_union : (members : List Schema) (s : Schema) (t : DataType) (b : MutableArray) → SuitsPair members (shape b) → IsNewBuilder s t b → IsNewBuilder (Union members) t b
+of_union members s t b suits h = record {
+  suits = moved (sym (suits_union members (shape b))) suits;
+  types_fit = h.types_fit;
+  data_type = h.data_type;
+  empty = h.empty;
+}
+
+module _ (a b : Schema) (t : DataType) (k : CanBeKept (Union (a ∷ b ∷ []))) (h : HasType false (Union (a ∷ b ∷ [])) t) where
+  carried : CarriedMembersOf (a ∷ b ∷ [])
+  carried = moved (carried_union (a ∷ b ∷ [])) k.carried
+
+  types : HasMemberTypeOf false (a ∷ b ∷ []) t
+  types = (type_composites.union false (a ∷ b ∷ []) t).0 h
+
+  floats : All (λ s. HasFloat s → ⊥) (a ∷ b ∷ [])
+  floats = (float_composites.union (a ∷ b ∷ [])).0 k.no_float
+
+  enums : All EnumsFit (a ∷ b ∷ [])
+  enums = (enum_composites.union (a ∷ b ∷ [])).0 k.symbols
+
+  second_chosen : IsNull a → IsChosen (a ∷ b ∷ []) b t
+  second_chosen n = from carried types
+    where
+      from : CarriedMembersOf (a ∷ b ∷ []) → HasMemberTypeOf false (a ∷ b ∷ []) t → IsChosen (a ∷ b ∷ []) b t
+      from (inl c) (inl y) = record {
+        kept = record { carried = c.1; no_float = floats 1 a (omega arith); symbols = enums 1 a (omega arith) };
+        typed = y.1;
+        back = λ v w. of_union (a ∷ b ∷ []) b t v (inl (c.0, w.suits, c.2)) w;
+      }
+      from (inl c) (inr y) = absurd (null_not_carried b y.1 c.1)
+      from (inr c) y = absurd (null_not_carried a n c.0)
+
+  first_chosen : (IsNull a → ⊥) → IsChosen (a ∷ b ∷ []) a t
+  first_chosen n = from carried types
+    where
+      from : CarriedMembersOf (a ∷ b ∷ []) → HasMemberTypeOf false (a ∷ b ∷ []) t → IsChosen (a ∷ b ∷ []) a t
+      from (inl c) y = absurd (n c.0)
+      from (inr c) (inl y) = absurd (n y.0)
+      from (inr c) (inr y) = record {
+        kept = record { carried = c.0; no_float = floats 0 a (omega arith); symbols = enums 0 a (omega arith) };
+        typed = y.0;
+        back = λ v w. of_union (a ∷ b ∷ []) a t v (inr (w.suits, c.1, c.2)) w;
+      }
+
+module _ (members : List Schema) (a b : Schema) (t : DataType) (two : members ≡ a ∷ b ∷ []) (k : CanBeKept (Union members)) (h : HasType false (Union members) t) where
+  kept_two : CanBeKept (Union (a ∷ b ∷ []))
+  kept_two = subst (λ (xs : List Schema). CanBeKept (Union xs)) two k
+
+  typed_two : HasType false (Union (a ∷ b ∷ [])) t
+  typed_two = subst (λ (xs : List Schema). HasType false (Union xs) t) two h
+
+  pub choose_second : IsNull a → IsChosen members b t
+  choose_second n = subst (λ (xs : List Schema). IsChosen xs b t) (sym two) (second_chosen a b t kept_two typed_two n)
+
+  pub choose_first : (IsNull a → ⊥) → IsChosen members a t
+  choose_first n = subst (λ (xs : List Schema). IsChosen xs a t) (sym two) (first_chosen a b t kept_two typed_two n)
+
+pub are_two : (members : List Schema) → CanBeKept (Union members) → length members ≡ 2
+are_two members k = from members (moved (carried_union members) k.carried)
+  where
+    from : (xs : List Schema) → CarriedMembersOf xs → length xs ≡ 2
+    from [] c = absurd c
+    from (a ∷ []) c = absurd c
+    from (a ∷ b ∷ []) c = refl
+    from (a ∷ b ∷ d ∷ more) c = absurd c
+
+-- ---- records
+
+pub as_many : (fs : List Field) (avros : List AvroField) → HasColumnTypes false fs avros → length fs ≡ length avros
+as_many [] [] h = refl
+as_many [] (a ∷ avros) h = absurd h
+as_many (f ∷ fs) [] h = absurd h
+as_many (f ∷ fs) (a ∷ avros) h = ap suc (as_many fs avros h.1)
+
+pub all_suit : (avros : List AvroField) (fs : List Field) (bs : List MutableArray) → AreNewBuilders avros fs bs → AllSuit avros bs
+all_suit [] [] [] h = tt
+all_suit [] [] (b ∷ bs) h = absurd h
+all_suit [] (f ∷ fs) bs h = absurd h
+all_suit (a ∷ avros) [] bs h = absurd h
+all_suit (a ∷ avros) (f ∷ fs) [] h = absurd h
+all_suit (a ∷ avros) (f ∷ fs) (b ∷ bs) h = (h.0.suits, all_suit avros fs bs h.1)
+
+pub all_types : (avros : List AvroField) (fs : List Field) (bs : List MutableArray) → AreNewBuilders avros fs bs → map builder_type bs ≡ map (λ f. f.data_type) fs
+all_types [] [] [] h = refl
+all_types [] [] (b ∷ bs) h = absurd h
+all_types [] (f ∷ fs) bs h = absurd h
+all_types (a ∷ avros) [] bs h = absurd h
+all_types (a ∷ avros) (f ∷ fs) [] h = absurd h
+all_types (a ∷ avros) (f ∷ fs) (b ∷ bs) h = rw (h.0.data_type, all_types avros fs bs h.1) refl
+
+pub all_new : (P : MutableArray → Type 0) (avros : List AvroField) (fs : List Field) (bs : List MutableArray) → ((s : Schema) (t : DataType) (b : MutableArray) → IsNewBuilder s t b → P b) → AreNewBuilders avros fs bs → All P bs
+all_new P [] [] [] q h = λ k d lt. absurd (omega (arith, lt))
+all_new P [] [] (b ∷ bs) q h = absurd h
+all_new P [] (f ∷ fs) bs q h = absurd h
+all_new P (a ∷ avros) [] bs q h = absurd h
+all_new P (a ∷ avros) (f ∷ fs) [] q h = absurd h
+all_new P (a ∷ avros) (f ∷ fs) (b ∷ bs) q h = All-cons P b bs (q a.schema f.data_type b h.0) (all_new P avros fs bs q h.1)
+
+children_fit : (avros : List AvroField) (fs : List Field) (bs : List MutableArray) → AreNewBuilders avros fs bs → TypesFit (fields_of (map shape bs)) × (map (λ f. f.data_type) fs ≡ field_types (fields_of (map shape bs)))
+children_fit [] [] [] h = (tt, refl)
+children_fit [] [] (b ∷ bs) h = absurd h
+children_fit [] (f ∷ fs) bs h = absurd h
+children_fit (a ∷ avros) [] bs h = absurd h
+children_fit (a ∷ avros) (f ∷ fs) [] h = absurd h
+children_fit (a ∷ avros) (f ∷ fs) (b ∷ bs) h =
+    let r = children_fit avros fs bs h.1 in
+    let type : f.data_type ≡ shape_type (shape b) = sym h.0.data_type ∙ type_is b in
+    ((h.0.types_fit, r.0), rw (type, r.1) refl)
+
+some_children : (avros : List AvroField) (fs : List Field) (bs : List MutableArray) → 0 < length avros → AreNewBuilders avros fs bs → 0 < length (field_types (fields_of (map shape bs)))
+some_children [] fs bs some h = absurd (omega (arith, some))
+some_children (a ∷ avros) [] bs some h = absurd h
+some_children (a ∷ avros) (f ∷ fs) [] some h = absurd h
+some_children (a ∷ avros) (f ∷ fs) (b ∷ bs) some h = omega arith
+
+module _ (s : Schema) (t : DataType) (r : TheRecord) (avros : List AvroField) (e : s ≡ Record r) (x : avros ≡ (out-Record r).fields) where
+  struct_type : HasType false s t → (gs : List Field) × (t ≡ data_type.Struct gs) × HasColumnTypes false gs avros
+  struct_type h =
+      let k = (type_composites.fields false r t).0 (subst (λ (y : Schema). HasType false y t) e h) in
+      (k.0, k.1, subst (HasColumnTypes false k.0) (sym x) (flip (λ (a : AvroField) (f : Field). HasColumnType false a.schema f) (out-Record r).fields k.0 k.2))
+
+  pub is_struct : HasType false s t → (gs : List Field) × (t ≡ data_type.Struct gs)
+  is_struct h = let k = struct_type h in (k.0, k.1)
+
+  some_fields : CanBeKept s → 0 < length avros
+  some_fields k = subst (λ (xs : List AvroField). 0 < length xs) (sym x) ((carried_record r).0 (subst Carried e k.carried)).0
+
+  pub fields_kept : CanBeKept s → All (λ a. CanBeKept a.schema) avros
+  fields_kept k = subst (All (λ a. CanBeKept a.schema)) (sym x) all
+    where
+      all : All (λ a. CanBeKept a.schema) (out-Record r).fields
+      all = λ i d lt. record {
+        carried = ((carried_record r).0 (subst Carried e k.carried)).1 i d lt;
+        no_float = (float_composites.fields r).0 (λ h. k.no_float (subst HasFloat (sym e) h)) i d lt;
+        symbols = (enum_composites.fields r).0 (subst EnumsFit e k.symbols) i d lt;
+      }
+
+  module _ (fs ys : List Field) (d : t ≡ data_type.Struct fs) (z : ys ≡ fs) where
+    pub fields_typed : HasType false s t → HasColumnTypes false ys avros
+    fields_typed h =
+        let k = struct_type h in
+        let same : k.0 ≡ ys = sym (items_of_struct k.0) ∙ ap items_of (sym k.1 ∙ d) ∙ items_of_struct fs ∙ sym z in
+        subst (λ (gs : List Field). HasColumnTypes false gs avros) same k.2
+
+    pub new_struct : (vs : List MutableArray) (b : MutableArray) → CanBeKept s → AreNewBuilders avros ys vs → shape b ≡ records t (fields_of (map shape vs)) → All IsEmpty (nodes b) → IsNewBuilder s t b
+    new_struct vs b k h sh n =
+        let suits : Suits (Record r) (records t (fields_of (map shape vs))) = record_suits_all r vs (subst (λ (xs : List AvroField). (0 < length xs) × AllSuit xs vs) x (some_fields k, all_suit avros ys vs h)) in
+        let c = children_fit avros ys vs h in
+        record {
+          suits = subst (λ (y : Schema). Suits y (shape b)) (sym e) (subst (Suits (Record r)) (sym sh) suits);
+          types_fit = subst TypesFit (sym sh) (some_children avros ys vs (some_fields k) h, (ys, d ∙ ap data_type.Struct (sym z), c.1), c.0);
+          data_type = type_is b ∙ ap shape_type sh;
+          empty = n;
+        }

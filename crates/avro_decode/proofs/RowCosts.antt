@@ -1,5 +1,5 @@
 -- What the fields of a row, and rows, cost together.
-use Rattle.std.proofs.Common.{ℕ, ◌+◌, List, [], ◌∷◌, ◌++◌, length, arith}
+use Rattle.std.proofs.Common.{ℕ, ◌+◌, List, [], ◌∷◌, ◌++◌, arith}
 use Rattle.std.proofs.lemmas.List.Sums.{sum_by-append}
 use Rattle.avro_grammar.specs.Rows.{Pieces, total_kept, total_seen, total_hidden}
 use Rattle.avro_skip.specs.Costs.{passed, Costs, CostsKept}

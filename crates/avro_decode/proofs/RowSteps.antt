@@ -1,6 +1,6 @@
 -- One step of the loops over fields and over rows.
-use Rattle.std.proofs.Common.{◌≡◌, ◌∙◌, ℕ, zero, suc, ◌+◌, ◌-◌, ◌<◌, ◌≤◌, Bool, true, false, List, [], ◌∷◌, ◌++◌, length, get_or, set, drop, map, All, Option, Some, None, Result, Ok, Err, refl, sym, ap, subst, add-one, arith}
-use Rattle.std.proofs.lemmas.List.{length-map, map-set, get_or-map, map-append, length-append}
+use Rattle.std.proofs.Common.{◌≡◌, ◌∙◌, ℕ, zero, suc, ◌+◌, ◌-◌, ◌<◌, ◌≤◌, Bool, true, false, List, [], ◌∷◌, ◌++◌, length, get_or, set, drop, map, Some, Ok, Err, refl, sym, ap, subst, add-one, arith}
+use Rattle.std.proofs.lemmas.List.{map-set, get_or-map, map-append, length-append}
 use Rattle.std.proofs.Math.Seq.{drop-cons}
 use Rattle.arrow_types.specs.declared.slot.Slot.{Slot}
 use Rattle.arrow_builders.specs.declared.array.MutableArray.{MutableArray}
@@ -11,7 +11,7 @@ use Rattle.avro_grammar.specs.Skips.{Passed}
 use Rattle.avro_grammar.specs.Rows.{Pieces, no_pieces, total_kept, total_seen, total_hidden}
 use Rattle.avro_grammar.specs.ValidBlock.{kept}
 use Rattle.avro_reference.specs.Read.{read, push_one}
-use Rattle.avro_reference.specs.Skip.{Fault, Bad, Negative, skip}
+use Rattle.avro_reference.specs.Skip.{Bad, Negative, skip}
 use Rattle.avro_reference.specs.Block.{row, rows, rows_after, block, add_kept, add_skipped}
 use Rattle.avro_reference.proofs.RowSteps.{row_left, kept_next, kept_bad, skipped_next, skipped_err, row_done, rows_next, rows_err, rows_done, block_ended, block_left, block_err}
 use Rattle.avro_skip.specs.Costs.{Costs, CostsKept}

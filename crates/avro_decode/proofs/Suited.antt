@@ -1,5 +1,5 @@
 -- What suits a schema, at arrays, unions and records; and its mask.
-use Rattle.std.proofs.Common.{◌≡◌, ◌∙◌, ℕ, suc, ◌+◌, ◌*◌, ◌<◌, ◌≤◌, Bool, true, false, Option, Some, None, List, [], ◌∷◌, ◌++◌, map, length, refl, ap, subst, inl, inr, arith}
+use Rattle.std.proofs.Common.{◌≡◌, ◌∙◌, ℕ, suc, ◌+◌, ◌*◌, ◌<◌, ◌≤◌, Bool, true, false, Option, Some, None, List, [], ◌∷◌, ◌++◌, map, length, refl, sym, ap, subst, inl, inr, arith}
 use Rattle.std.proofs.lemmas.List.{length-append}
 use Rattle.arrow_builders.specs.Children.{fields_of}
 use Rattle.arrow_builders.specs.MutableArrays.{nodes}
@@ -21,7 +21,7 @@ use Rattle.avro_skip.specs.Costs.{passed}
 use Rattle.avro_schema.specs.declared.schema.AvroField.{AvroField}
 use Rattle.avro_schema.specs.declared.schema.FixedLogical.{FixedLogical}
 use Rattle.avro_schema.specs.declared.schema.Record.{Record as TheRecord, Record', out-Record, Row_of-AvroField, end_of-AvroField, more_of-AvroField, items-the_row-AvroField}
-use Rattle.avro_schema.specs.declared.schema.Schema.{Schema, Null, Boolean, Int, Long, Bytes, String, Array, Union, Record, Array', Union', Fixed, Row_of-Schema, end_of-Schema, more_of-Schema}
+use Rattle.avro_schema.specs.declared.schema.Schema.{Schema, Null, Boolean, Int, Long, Bytes, String, Enum, Array, Union, Record, Array', Union', Fixed, Row_of-Schema, end_of-Schema, more_of-Schema}
 use Rattle.avro_schema.specs.declared.schema.Schema.TheBlock.{shape-the_row-Schema-0, hidden-the_row-Schema-0, shape-the_row-Schema-1, hidden-the_row-Schema-1}
 use Rattle.avro_grammar.specs.Carried.{HasFields}
 use Rattle.avro_grammar.specs.Encodes.{is_null}
@@ -92,6 +92,16 @@ suits_record r b h =
     let k : SuitsRecord r (fields_of (map shape b.values.items)) = subst (Suits (Record r)) (shape-record b) h in
     subst (λ (fs : List AvroField). (0 < length fs) × AllSuit fs b.values.items) (fields_are r) (suits_some r b.values.items k)
 
+row_has : {m : _} (row : Row_of-AvroField m) → 0 < length (items-the_row-AvroField _ row) → HasFields row
+row_has end_of-AvroField h = absurd (omega (arith, h))
+row_has (more_of-AvroField name doc s rest) h = tt
+
+row_suits_all : (r : TheRecord) (bs : List MutableArray) → (0 < length (row_fields r)) × AllSuit (row_fields r) bs → SuitsRecord r (fields_of (map shape bs))
+row_suits_all (Record' name namespace doc p fields) bs h = (row_has fields h.0, subst (λ (P : Type 0). P) (sym (suits_row fields bs)) h.1)
+
+pub record_suits_all : (r : TheRecord) (bs : List MutableArray) → (0 < length (out-Record r).fields) × AllSuit (out-Record r).fields bs → SuitsRecord r (fields_of (map shape bs))
+record_suits_all r bs h = row_suits_all r bs (subst (λ (fs : List AvroField). (0 < length fs) × AllSuit fs bs) (sym (fields_are r)) h)
+
 pub suits_not_null : (s : Schema) (sh : Shape) → Suits s sh → is_null s ≡ false
 suits_not_null Null sh h = absurd h
 suits_not_null _ sh h = refl
@@ -105,6 +115,7 @@ mutual
   mask_fits n (Long logical) (flat k t) h nulls = refl
   mask_fits n (Bytes logical) (flat k t) h nulls = refl
   mask_fits n (String logical) (flat k t) h nulls = refl
+  mask_fits n (Enum e) (dictionary t items) h nulls = refl
   mask_fits n (Fixed f) (flat k t) h true = refl
   mask_fits n (Fixed f) (flat k t) h false = refl
   mask_fits n (Record r) (records t fs) h nulls = ap suc (record_fits n r fs h nulls)
@@ -209,6 +220,7 @@ mutual
   light (Fixed f) (flat physical.FixedSizeBinary t) h = (omega arith, λ e. absurd (not_paid f.logical h.0 e), tt)
   light (Fixed f) (flat (physical.Primitive primitive.Int128) t) h = (omega arith, λ e. refl, tt)
   light (Fixed f) (flat (physical.Primitive primitive.MonthDayNano) t) h = (omega arith, λ e. refl, tt)
+  light (Enum e) (dictionary t items) h = (omega arith, λ e. refl, tt)
   light (Record r) (records t fs) h = (omega arith, λ e. refl, record_light r fs h)
   light (Array' p item) (lists physical.List t s) h = (omega arith, λ e. refl, item_light item s h)
   light (Union' p members) s h = members_light members s h

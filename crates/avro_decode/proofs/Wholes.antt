@@ -1,5 +1,5 @@
 -- A block's columns, and the arrays of its builders.
-use Rattle.std.proofs.Common.{◌≡◌, ◌∙◌, ℕ, zero, suc, ◌+◌, ◌<◌, ◌≤◌, Bool, List, [], ◌∷◌, ◌++◌, length, get_or, drop, set, map, All, Result, Ok, Err, refl, sym, ap, subst, add-one, arith}
+use Rattle.std.proofs.Common.{◌≡◌, ◌∙◌, ℕ, zero, suc, ◌+◌, ◌<◌, ◌≤◌, Bool, List, [], ◌∷◌, ◌++◌, length, get_or, drop, set, map, Result, Ok, Err, refl, sym, ap, subst, add-one, arith}
 use Rattle.std.specs.Prelude.{IfErr}
 use Rattle.std.proofs.lemmas.List.{append-nil, length-map, get_or-map, drop-set-lt}
 use Rattle.std.proofs.lemmas.List.FromFn.{get_or-map-range_with_len}
@@ -11,6 +11,12 @@ use Rattle.arrow_array.specs.Chunks.{AreSameLength}
 use Rattle.avro_schema.specs.declared.schema.AvroField.{AvroField}
 use Rattle.avro_grammar.specs.Rows.{Pieces, Rows, column, total_kept, total_seen, total_hidden}
 use Rattle.avro_grammar.specs.NegativeSize.{NegativeSize}
+use Rattle.avro_grammar.specs.ValidBlock.{kept}
+use Rattle.arrow_builders.specs.MutableArrays.{builder_slots}
+use Rattle.arrow_builders.specs.Shapes.{shape}
+use Rattle.arrow_builders.specs.declared.array.MutableArray.{MutableArray}
+use Rattle.avro_decode.specs.Suits.{AllSuit}
+use Rattle.avro_decode.proofs.Fields.{suit_length, shapes_length}
 use Rattle.avro_reference.specs.Skip.{Bad, Negative}
 use Rattle.avro_reference.specs.Block.{block}
 use Rattle.avro_reference.proofs.Exact.{block_gives_rows, block_is_bad, block_is_negative}
@@ -26,12 +32,16 @@ use Rattle.avro_decode.proofs.Columns.{AreEmpty, grown_columns, length-grown_by}
 wide_same : (m n : ℕ) (rs : List (List Slot)) → m ≡ n → AreWide m rs → AreWide n rs
 wide_same m n rs e w = rw (sym e) w
 
-pub block_columns : (n : ℕ) (fields : List AvroField) (projection : List Bool) (before now : List (List Slot)) (start : List ℕ) → AreEmpty before → (ys : List Pieces) × (block n fields projection start ≡ Ok ys) × (now ≡ grown_by before (map (λ y. y.slots) ys)) × AreWide (length now) (map (λ y. y.slots) ys) → AreColumns n fields projection start now
-block_columns n fields projection before now start h g =
+-- a column for each field whose values its builders take
+pub a_column_each : (fields : List AvroField) (old new : List MutableArray) → AllSuit fields old → map shape new ≡ map shape old → length (map builder_slots new) ≡ length fields
+a_column_each fields old new suits same = length-map new builder_slots ∙ shapes_length old new same ∙ sym (suit_length fields old suits)
+
+pub block_columns : (n : ℕ) (fields : List AvroField) (projection : List Bool) (before now : List (List Slot)) (start : List ℕ) → length now ≡ length (kept fields projection) → AreEmpty before → (ys : List Pieces) × (block n fields projection start ≡ Ok ys) × (now ≡ grown_by before (map (λ y. y.slots) ys)) × AreWide (length now) (map (λ y. y.slots) ys) → AreColumns n fields projection start now
+block_columns n fields projection before now start many h g =
     let table = map (λ (y : Pieces). y.slots) g.0 in
     let rows = (block_gives_rows n fields projection start g.0).0 g.1 in
     let l : length now ≡ length before = ap length g.2 ∙ length-grown_by table before in
-    (table, rows.1, g.2 ∙ grown_columns table before h (wide_same (length now) (length before) table l g.3) ∙ ap (λ (cs : List (List Slot)). columns (length cs) table) (sym g.2))
+    (table, rows.1, many, g.2 ∙ grown_columns table before h (wide_same (length now) (length before) table l g.3) ∙ ap (λ (cs : List (List Slot)). columns (length cs) table) (sym g.2))
 
 pub block_refused : (n : ℕ) (fields : List AvroField) (projection : List Bool) (start : List ℕ) (d : BlockFault) → d ≡ Bytes → AreCounted n start → IsFault d (block n fields projection start) → AreCounted n start × ((table : List (List Slot)) → Rows n fields projection start table → ⊥) × (NegativeSize n fields projection start → ⊥)
 block_refused n fields projection start d is c e =
@@ -104,7 +114,7 @@ same_lengths n fields projection bytes arrays h = λ i j d lt less. long i d (om
         let l = length-map arrays array_slots in
         let a : get_or (map array_slots arrays) k [] ≡ array_slots (get_or arrays k d) = get_or-map array_slots arrays k d [] lt in
         let b : get_or (columns (length (map array_slots arrays)) h.0) k [] ≡ column h.0 k = get_or-map-range_with_len (column h.0) 0 (length (map array_slots arrays)) k k [] (omega (arith, lt, l)) (omega arith) in
-        ap length (sym a ∙ ap (λ (cs : List (List Slot)). get_or cs k []) h.2 ∙ b) ∙ length-map h.0 _
+        ap length (sym a ∙ ap (λ (cs : List (List Slot)). get_or cs k []) h.3 ∙ b) ∙ length-map h.0 _
 
 pub never_refused : {C E : Type 0} (P Q : E → Type 0) (r : Result C E) (A : Type 0) → A → IfErr r (λ e. P e × (A → ⊥)) → IfErr r Q
 never_refused P Q (Ok x) A a h = tt

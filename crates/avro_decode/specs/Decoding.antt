@@ -16,7 +16,7 @@ use Rattle.avro_flat.specs.declared.fault.DecodeFault.{DecodeFault}
 use Rattle.avro_decode.specs.declared.fault.BlockFault.{BlockFault}
 use Rattle.avro_decode.specs.declared.fault.BlockFault.TheVariants.{Bytes, NegativeSize, Memory}
 
--- ---- values with parts
+-- ---- nested values
 
 -- null, which has no bytes, or a value
 abbrev pub null_or : Bool → Schema → Reader Slot

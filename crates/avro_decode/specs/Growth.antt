@@ -1,6 +1,7 @@
 -- How the nodes of builders grow while they are filled, and what else of builders the decoder goes by. Contracts of
 -- private functions alone cite this file.
 use Rattle.std.specs.Prelude.{◌≡◌, ℕ, zero, suc, ◌+◌, ◌≤◌, ◌⊎◌, Bool, true, false, List, [], ◌∷◌, ◌++◌, length, Option, None, Some, if◌then◌else◌}
+use Rattle.arrow_types.specs.declared.types.IntegerType.TheVariants as integer
 use Rattle.arrow_types.specs.declared.physical.PhysicalType.{PhysicalType}
 use Rattle.arrow_types.specs.declared.physical.PhysicalType.TheVariants as physical
 use Rattle.arrow_types.specs.declared.physical.PrimitiveType.TheVariants as primitive
@@ -12,13 +13,12 @@ use Rattle.arrow_builders.specs.declared.array.MutableArray.{MutableArray}
 use Rattle.avro_schema.specs.declared.schema.AvroField.{AvroField}
 use Rattle.avro_schema.specs.declared.schema.FixedLogical.{FixedLogical}
 use Rattle.avro_schema.specs.declared.schema.FixedLogical.TheVariants as fixed_logical
-use Rattle.avro_schema.specs.declared.schema.Schema.{Schema, Boolean, Int, Long, Bytes, String, Fixed, Record, Array'}
+use Rattle.avro_schema.specs.declared.schema.Schema.{Schema, Boolean, Int, Long, Bytes, String, Fixed, Record, Enum, Array'}
 use Rattle.avro_grammar.specs.Carried.{IsNoUnion}
 use Rattle.avro_grammar.specs.Encodes.{IsNull, is_null}
 use Rattle.avro_grammar.specs.ValidBlock.{small_limit}
 use Rattle.avro_decode.specs.Masks.{mask, paid, later, content, total}
 use Rattle.avro_decode.specs.Suits.{Suits}
-use Rattle.avro_decode.specs.Supported.{Supported}
 
 -- n slots are added at most, and n content bytes where they are paid for; none goes, and no other capacity is lost
 abbrev pub Fills : Bool → ℕ → Node → Node → Type 0
@@ -91,10 +91,6 @@ abbrev pub SuitsPair : List Schema → Shape → Type 0
 SuitsPair (a ∷ b ∷ []) s = (IsNull a × Suits b s × IsNoUnion b) ⊎ (Suits a s × IsNoUnion a × IsNull b)
 SuitsPair _ s = ⊥
 
-abbrev pub SupportedPair : List Schema → Type 0
-SupportedPair (a ∷ b ∷ []) = (IsNull a × Supported b × IsNoUnion b) ⊎ (Supported a × IsNoUnion a × IsNull b)
-SupportedPair _ = ⊥
-
 -- what follows of the builder's kind
 abbrev pub HasKindOf : Schema → PhysicalType → Type 0
 HasKindOf (Record r) k = k ≡ physical.Struct
@@ -114,4 +110,5 @@ flat_kind (Bytes None) = physical.Binary
 flat_kind (Bytes (Some decimal)) = physical.Primitive primitive.Int128
 flat_kind (String logical) = physical.Utf8
 flat_kind (Fixed f) = fixed_kind f.logical
+flat_kind (Enum e) = physical.Dictionary integer.Int32
 flat_kind _ = physical.Null

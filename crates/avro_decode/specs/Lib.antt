@@ -7,4 +7,3 @@ pub mod Making
 pub mod Masks
 pub mod Refusals
 pub mod Suits
-pub mod Supported

@@ -64,6 +64,6 @@ abbrev pub total : List AvroField → List MutableArray → ℕ
 total (f ∷ fs) (b ∷ bs) = content (mask false f.schema) (nodes b) + total fs bs
 total _ _ = 0
 
--- the bytes pay for all content of these fields
-abbrev pub AllPaid : List AvroField → Type 0
-AllPaid fields = All (λ f. All IsTrue (mask false f.schema)) fields
+-- the bytes of these fields pay for all of their content
+abbrev pub BytesPayForAll : List AvroField → Type 0
+BytesPayForAll fields = All (λ f. All IsTrue (mask false f.schema)) fields

@@ -9,29 +9,36 @@ use Rattle.avro_schema.specs.declared.schema.AvroField.{AvroField}
 use Rattle.avro_grammar.specs.Carried.{CarriedList}
 use Rattle.avro_grammar.specs.NegativeSize.{NegativeSize}
 use Rattle.avro_grammar.specs.Rows.{Rows}
-use Rattle.avro_grammar.specs.ValidBlock.{kept, HaveSameLength, small_limit, ValidBlock}
-use Rattle.avro_decode.specs.Supported.{AllSupported, AllTyped}
+use Rattle.avro_grammar.specs.ValidBlock.{HaveSameLength, KeepNoFloat, KeptEnumsFit, small_limit, ValidBlock}
+use Rattle.avro_infer.specs.Columns.{AllTyped}
 
--- the schemas are carried, and the kept ones supported
-abbrev pub AreSupported : List AvroField → List Bool → Type 0
-AreSupported avro_fields projection = CarriedList avro_fields × AllSupported (kept avro_fields projection)
+-- ---- fields, Avro fields and a projection
 
--- the fields, the Avro fields and the projection belong together: what `CanBeColumns` asks of them, of small types
--- alone, and of kept schemas that the decoder supports
+-- they belong together: what `CanBeColumns` asks of them, of small types alone
 pub record BelongTogether (fields : List Field) (avro_fields : List AvroField) (projection : List Bool) : Type 0 where
   pub lengths : HaveSameLength fields avro_fields projection
   pub some : 0 < length fields
-  pub supported : AreSupported avro_fields projection
+  pub carried : CarriedList avro_fields
   pub typed : AllTyped fields avro_fields
+  pub no_float : KeepNoFloat avro_fields projection
+  pub symbols : KeptEnumsFit avro_fields projection
 
--- why they do not, in this order
+-- the lengths agree, there is a field, and each schema is carried
+abbrev pub HaveCarriedFields : List Field → List AvroField → List Bool → Type 0
+HaveCarriedFields fields avro_fields projection = HaveSameLength fields avro_fields projection × (0 < length fields) × CarriedList avro_fields
+
+-- why they do not belong together, in this order
 abbrev pub FieldsRefused : List Field → List AvroField → List Bool → Error → Type 0
 FieldsRefused fields avro_fields projection (InvalidArgumentError reason.Lengths) = HaveSameLength fields avro_fields projection → ⊥
 FieldsRefused fields avro_fields projection (NotYetImplemented reason.NoField) = HaveSameLength fields avro_fields projection × (fields ≡ [])
-FieldsRefused fields avro_fields projection (NotYetImplemented reason.NotCarried) = HaveSameLength fields avro_fields projection × (0 < length fields) × (AreSupported avro_fields projection → ⊥)
-FieldsRefused fields avro_fields projection (InvalidArgumentError reason.FieldType) = HaveSameLength fields avro_fields projection × (0 < length fields) × AreSupported avro_fields projection × (AllTyped fields avro_fields → ⊥)
+FieldsRefused fields avro_fields projection (NotYetImplemented reason.NotCarried) = HaveSameLength fields avro_fields projection × (0 < length fields) × (CarriedList avro_fields → ⊥)
+FieldsRefused fields avro_fields projection (InvalidArgumentError reason.FieldType) = HaveCarriedFields fields avro_fields projection × (AllTyped fields avro_fields → ⊥)
+FieldsRefused fields avro_fields projection (NotYetImplemented reason.Float) = HaveCarriedFields fields avro_fields projection × AllTyped fields avro_fields × (KeepNoFloat avro_fields projection → ⊥)
+FieldsRefused fields avro_fields projection Overflow = HaveCarriedFields fields avro_fields projection × AllTyped fields avro_fields × KeepNoFloat avro_fields projection × (KeptEnumsFit avro_fields projection → ⊥)
 FieldsRefused fields avro_fields projection OutOfMemory = Unit {0}
 FieldsRefused fields avro_fields projection _ = ⊥
+
+-- ---- bytes
 
 -- no more bytes than offsets of 32 bits count, and no more rows than bytes
 abbrev pub AreCounted : ℕ → List ℕ → Type 0
@@ -53,12 +60,11 @@ BlockRefused fields n avro_fields projection bytes e =
 
 -- ---- valid blocks
 
--- what the decoder supports: its schemas, small types, and no more bytes than offsets of 32 bits count
-pub record Supports (fields : List Field) (avro_fields : List AvroField) (projection : List Bool) (bytes : List ℕ) : Type 0 where
-  pub schemas : AllSupported (kept avro_fields projection)
+-- columns of small types alone, and no more bytes than offsets of 32 bits count
+pub record IsSmallBlock (fields : List Field) (avro_fields : List AvroField) (bytes : List ℕ) : Type 0 where
   pub types : AllTyped fields avro_fields
   pub few : length bytes ≤ small_limit
 
--- a valid block that the decoder supports is refused for out of memory alone
+-- a valid block of small types and so few bytes is refused for out of memory alone
 abbrev pub ValidBlocksAreRead : Type 0
-ValidBlocksAreRead = (fields : List Field) (n : ℕ) (avro_fields : List AvroField) (projection : List Bool) (bytes : List ℕ) (e : Error) → ValidBlock n bytes fields avro_fields projection → Supports fields avro_fields projection bytes → BlockRefused fields n avro_fields projection bytes e → e ≡ OutOfMemory
+ValidBlocksAreRead = (fields : List Field) (n : ℕ) (avro_fields : List AvroField) (projection : List Bool) (bytes : List ℕ) (e : Error) → ValidBlock n bytes fields avro_fields projection → IsSmallBlock fields avro_fields bytes → BlockRefused fields n avro_fields projection bytes e → e ≡ OutOfMemory

@@ -1,19 +1,20 @@
--- Which builders take the values of a schema, by the kinds of the builder and of its children at every depth; data
--- types do not count, but for the size of fixed-size binary values.
-use Rattle.std.specs.Prelude.{◌≡◌, ◌≤◌, List, [], ◌∷◌, ◌⊎◌, Option, None, Some}
-use Rattle.arrow_types.specs.declared.physical.PhysicalType.{PhysicalType}
+-- Which builders take the values of a schema, by the kinds of the builder and of its children at every depth, and by
+-- the values of a dictionary; data types do not count, but for the size of fixed-size binary values.
+use Rattle.std.specs.Prelude.{◌≡◌, List, [], ◌∷◌, ◌⊎◌, map, Option, None, Some}
+use Rattle.arrow_types.specs.declared.slot.Slot.TheVariants as slot
 use Rattle.arrow_types.specs.declared.physical.PhysicalType.TheVariants as physical
 use Rattle.arrow_types.specs.declared.physical.PrimitiveType.TheVariants as primitive
 use Rattle.arrow_array.specs.Parts.{byte_width}
-use Rattle.arrow_builders.specs.Shapes.{Shape, flat, lists, records, no_field, field, shape as shape_of}
+use Rattle.arrow_builders.specs.Shapes.{Shape, flat, dictionary, lists, records, no_field, field, shape as shape_of}
 use Rattle.arrow_builders.specs.declared.array.MutableArray.{MutableArray}
 use Rattle.avro_schema.specs.declared.schema.AvroField.{AvroField}
 use Rattle.avro_schema.specs.declared.schema.FixedLogical.{FixedLogical}
 use Rattle.avro_schema.specs.declared.schema.FixedLogical.TheVariants as fixed_logical
-use Rattle.avro_schema.specs.declared.schema.Schema.{Schema, Boolean, Int, Long, Bytes, String, Record, Fixed, Array', Union', Row_of-Schema, end_of-Schema, more_of-Schema}
+use Rattle.avro_schema.specs.declared.schema.Schema.{Schema, Boolean, Int, Long, Bytes, String, Record, Enum, Fixed, Array', Union', Row_of-Schema, end_of-Schema, more_of-Schema}
 use Rattle.avro_schema.specs.declared.schema.Record.{Record as TheRecord, Record', Row_of-AvroField, end_of-AvroField, more_of-AvroField}
-use Rattle.avro_grammar.specs.Carried.{IsNoUnion, HasFields}
+use Rattle.avro_grammar.specs.Carried.{IsNoUnion, IsFixedSize, HasFields}
 use Rattle.avro_grammar.specs.Encodes.{IsNull}
+use Rattle.avro_grammar.specs.ValidBlock.{SymbolsFit}
 
 abbrev pub IsFixedDecimal : Option FixedLogical → Type 0
 IsFixedDecimal (Some (fixed_logical.Decimal precision scale)) = Unit {0}
@@ -27,9 +28,10 @@ abbrev mutual
   Suits (Bytes None) (flat physical.Binary t) = Unit {0}
   Suits (Bytes (Some decimal)) (flat (physical.Primitive primitive.Int128) t) = Unit {0}
   Suits (String logical) (flat physical.Utf8 t) = Unit {0}
-  Suits (Fixed f) (flat physical.FixedSizeBinary t) = (f.logical ≡ None) × (1 ≤ f.size) × (byte_width t ≡ f.size)
-  Suits (Fixed f) (flat (physical.Primitive primitive.Int128) t) = IsFixedDecimal f.logical × (1 ≤ f.size)
-  Suits (Fixed f) (flat (physical.Primitive primitive.MonthDayNano) t) = (f.logical ≡ Some fixed_logical.Duration) × (1 ≤ f.size)
+  Suits (Fixed f) (flat physical.FixedSizeBinary t) = (f.logical ≡ None) × IsFixedSize f.size f.logical × (byte_width t ≡ f.size)
+  Suits (Fixed f) (flat (physical.Primitive primitive.Int128) t) = IsFixedDecimal f.logical × IsFixedSize f.size f.logical
+  Suits (Fixed f) (flat (physical.Primitive primitive.MonthDayNano) t) = (f.logical ≡ Some fixed_logical.Duration) × IsFixedSize f.size f.logical
+  Suits (Enum e) (dictionary t items) = SymbolsFit e × (items ≡ map slot.String e.symbols)
   Suits (Record r) (records t fields) = SuitsRecord r fields
   Suits (Array' shape item) (lists physical.List t s) = SuitsItem item s
   Suits (Union' shape members) s = SuitsMembers members s

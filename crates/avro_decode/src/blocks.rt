@@ -13,15 +13,15 @@ ghost use Rattle.avro_grammar.specs.Carried.{CarriedList};
 ghost use Rattle.avro_grammar.specs.ValidBlock.{kept, ValidBlock};
 ghost use Rattle.avro_reference.specs.Block.{block};
 ghost use Rattle.avro_skip.specs.Costs.{passed, Moves};
+ghost use Rattle.avro_infer.specs.Columns.{AllTyped};
 ghost use Rattle.avro_decode.specs.Capacity.{AtNodes, BetweenNodes};
-ghost use Rattle.avro_decode.specs.Columns.{AreColumns};
+ghost use Rattle.avro_decode.specs.Columns.{AreColumns, kept_types};
 ghost use Rattle.avro_decode.specs.Counting.{ShowsAtMost, CallsAtMost};
 ghost use Rattle.avro_decode.specs.Decoding.{BlockHasMemory, GivesBlock};
 ghost use Rattle.avro_decode.specs.Growth.{ChildrenGrow, ChildrenReach, ChildrenHaveSpare};
-ghost use Rattle.avro_decode.specs.Masks.{total, AllPaid};
+ghost use Rattle.avro_decode.specs.Masks.{total, BytesPayForAll};
 ghost use Rattle.avro_decode.specs.Refusals.{BelongTogether, AreCounted, BytesRefused, BlockRefused};
 ghost use Rattle.avro_decode.specs.Suits.{AllSuit};
-ghost use Rattle.avro_decode.specs.Supported.{AllTyped, kept_types};
 
 use crate::fault::BlockFault;
 use crate::prepare::make_builders;
@@ -45,12 +45,14 @@ const MOST_BYTES: usize = 2_147_483_647;
 /// the kept slots of its rows. In this order:
 /// `InvalidArgumentError(Lengths)` where the lengths of the three lists differ,
 /// `NotYetImplemented(NoField)` where there is no field, `NotYetImplemented(NotCarried)` where a
-/// schema isn't carried or a kept one isn't supported, `InvalidArgumentError(FieldType)` where a
-/// field hasn't the type and the nullability of its schema, `Overflow` where the block has more
-/// than 2147483647 bytes, `ExternalFormat(Rows)` where it states more rows than it has bytes,
-/// `OutOfSpec(NegativeSize)` where after whole rows, and whole fields of one more, a block of
-/// an array that isn't kept states a size below 0, and `ExternalFormat(BlockBytes)` where its bytes
-/// aren't its rows otherwise. `OutOfMemory` at any time.
+/// schema isn't carried, be it kept or not, `InvalidArgumentError(FieldType)` where a field hasn't
+/// the type and the nullability of its schema, `NotYetImplemented(Float)` where a kept schema holds
+/// a float or a double at any depth, `Overflow` where one holds an enum whose symbols are more than
+/// 2147483647 or have more bytes together, or where the block has more than 2147483647 bytes,
+/// `ExternalFormat(Rows)` where it states more rows than it has bytes, `OutOfSpec(NegativeSize)`
+/// where after whole rows, and whole fields of one more, a block of an array that isn't kept states
+/// a size below 0, and `ExternalFormat(BlockBytes)` where its bytes aren't its rows otherwise.
+/// `OutOfMemory` at any time.
 pub fn deserialize(
     alloc: Global,
     block: &Block,
@@ -80,17 +82,18 @@ pub fn deserialize(
 /// Reads `rows` rows from all bytes ahead, each kept value into one more slot of its builder.
 ///
 /// The builders are as `make_builders` gives them for these lists, or as `clear` leaves such: of
-/// kinds that suit their schemas, of the fields' data types, tight, and empty at every node. Ok: no
-/// byte is left, and the builders hold the columns. The refusals are those of `deserialize` from
-/// `Overflow` on, over the bytes ahead, and `OutOfMemory`.
+/// kinds and dictionary values that suit their schemas, of the fields' data types, tight, and empty
+/// at every node. Ok: no byte is left, and the builders hold the columns. The refusals are those of
+/// `deserialize` over the bytes ahead, from `Overflow` of too many bytes on, and `OutOfMemory`.
 ///
-/// With n bytes ahead, on every answer: kinds and data types stay at every node; no node has more
-/// than n slots, all nodes together have no more than n content bytes, and none has lost capacity;
-/// the cursor has only moved forward, and was called at most 2n + 1 times. Of content bytes those
-/// of fixed-size binary values beneath a union are left out: these are as many as their slots times
-/// their size. With spare capacity for n slots and n content bytes at each node, and no such
-/// values, there is no `OutOfMemory`. After an Err the builders' slots aren't told; `clear` makes
-/// them usable again.
+/// With n bytes ahead, on every answer kinds, data types and dictionary values stay at every node;
+/// no node has more than n slots, all nodes together have no more than n content bytes, and none
+/// has lost capacity; the cursor has only moved forward, and was called at most 2n + 1 times. Of
+/// content bytes those of fixed-size binary values to which nulls come (a union's member, or a
+/// field of records in one, but not items of an array) are left out: these are as many as their
+/// slots times their size. With spare capacity for n slots and n content bytes at each node, and no
+/// such values, there is no `OutOfMemory`. After an Err the builders' slots aren't told; `clear`
+/// makes them usable again.
 ///
 /// On Ok no more bytes were shown than those of kept fields, those that tell how long the others
 /// are, and one for each skipped boolean: what isn't kept is skipped. Bytes and calls are told as
@@ -135,7 +138,7 @@ pub fn deserialize_into<'a, C: Cursor<'a>>(
         ≤ length (C.rest cursor.old) }
     ensures capacity { BetweenNodes KeepsCapacity builders.old builders.new }
     ensures has_capacity { AtNodes (HasSpare (length (C.rest cursor.old))) builders.old
-        → AllPaid (kept avro_fields.now projection.now)
+        → BytesPayForAll (kept avro_fields.now projection.now)
         → IfErr result (λ e. e ≡ OutOfMemory → ⊥) }
 {
     if cursor.left() > MOST_BYTES {

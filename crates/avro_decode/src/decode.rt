@@ -20,14 +20,18 @@ ghost use Rattle.avro_decode.specs.Suits.{Suits, AllSuit};
 ghost use Rattle.avro_decode.specs.Growth.{SuitsPair, HasKindOf};
 ghost use Rattle.arrow_builders.specs.Tight.{IsTight, AllTight};
 
-use crate::flat::{decode_flat, is_null};
+use crate::flat::decode_flat;
 use arrow_builders::{DynMutableListArray, DynMutableStructArray, MutableArray};
 use avro_flat::{DecodeFault, pushed};
+use avro_infer::is_null;
 use avro_schema::{AvroField, AvroSchema};
 use avro_skip::Ahead;
 
 /// Reads one value of a schema into one more slot.
+// It is inlined wherever a value is read, so that a flat one takes no call into the cycle.
+// `decode_pair`, `decode_array` and `decode_record`, which the others go through, are not.
 #[cycle(decode)]
+#[inline(always)]
 #[tactic(auto, using(crate::proofs::Sets::values))]
 pub fn decode_value<C: Ahead>(
     cursor: &mut C,
@@ -71,6 +75,7 @@ pub fn decode_value<C: Ahead>(
 }
 
 #[cycle(decode)]
+#[inline(always)]
 #[tactic(auto, using(crate::proofs::Sets::values))]
 fn decode_union<C: Ahead>(
     cursor: &mut C,
@@ -107,8 +112,9 @@ fn decode_union<C: Ahead>(
     }
 }
 
-/// Reads the value of the member at a index, where null is the first one or the second.
+/// Reads the value of the member at an index, where null is the first one or the second.
 #[cycle(decode)]
+#[inline(never)]
 #[tactic(auto, using(crate::proofs::Sets::values))]
 fn decode_pair<C: Ahead>(
     cursor: &mut C,
@@ -143,6 +149,7 @@ fn decode_pair<C: Ahead>(
 
 /// Reads one member. A null has no bytes.
 #[cycle(decode)]
+#[inline(always)]
 #[tactic(auto, using(crate::proofs::Sets::values))]
 fn decode_member<C: Ahead>(
     cursor: &mut C,
@@ -174,6 +181,7 @@ fn decode_member<C: Ahead>(
 
 /// Reads an array: the child takes its items, and then the list of them is pushed.
 #[cycle(decode)]
+#[inline(never)]
 #[tactic(auto, using(crate::proofs::Sets::values))]
 fn decode_array<C: Ahead>(
     cursor: &mut C,
@@ -309,7 +317,7 @@ fn decode_sized<C: Ahead>(
 
 #[cycle(decode)]
 #[tactic(auto, using(crate::proofs::Sets::values))]
-fn decode_items<C: Ahead>(
+pub fn decode_items<C: Ahead>(
     cursor: &mut C,
     item: &AvroSchema,
     count: u64,
@@ -339,6 +347,7 @@ fn decode_items<C: Ahead>(
 
 /// Reads a record: each child takes its field, and then the record of them is pushed.
 #[cycle(decode)]
+#[inline(never)]
 #[tactic(auto, using(crate::proofs::Sets::values))]
 fn decode_record<C: Ahead>(
     cursor: &mut C,

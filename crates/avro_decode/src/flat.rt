@@ -1,28 +1,28 @@
-//! Values without parts, each into the builder of its kind.
+//! Flat values, each into the builder of its kind.
 
-ghost use Rattle.std.specs.Prelude.{◌↔◌, IsTrue, length, ◌≡◌, ◌≤◌, ◌∷◌, [], true, false, OnOk};
+ghost use Rattle.std.specs.Prelude.{length, ◌≡◌, ◌≤◌, ◌∷◌, [], true, false, OnOk};
 ghost use Rattle.arrow_builders.specs.MutableArrays.{builder_slots, builder_kind, nodes};
 ghost use Rattle.arrow_builders.specs.Shapes.{shape};
 ghost use Rattle.arrow_builders.specs.Tight.{IsTight};
 ghost use Rattle.avro_schema.specs.declared.schema.Schema.{Fixed as FixedSchema};
-ghost use Rattle.avro_grammar.specs.Encodes.{IsNull};
+ghost use Rattle.avro_grammar.specs.Carried.{IsFixedSize};
+ghost use Rattle.avro_infer.specs.Inference.{HasNoParts};
 ghost use Rattle.avro_reference.specs.Read.{push_one, read, fixed_at};
 ghost use Rattle.avro_skip.specs.Costs.{passed, Moves, CostsKept};
 ghost use Rattle.avro_flat.specs.Decoding.{Gives, HasMemory};
 ghost use Rattle.avro_decode.specs.Growth.{Grows, AllReach, HaveSpare, flat_kind, fixed_kind};
 ghost use Rattle.avro_decode.specs.Masks.{mask};
 ghost use Rattle.avro_decode.specs.Suits.{Suits};
-ghost use Rattle.avro_decode.specs.Supported.{IsSupportedFlat};
 
 use arrow_builders::MutableArray;
 use avro_flat::{
     DecodeFault, decode_binary, decode_boolean, decode_decimal, decode_duration, decode_fixed,
-    decode_fixed_decimal, decode_int, decode_long, decode_string,
+    decode_fixed_decimal, decode_int, decode_long, decode_string, decode_symbol,
 };
 use avro_schema::{AvroSchema, Fixed, FixedLogical};
 use avro_skip::Ahead;
 
-/// Reads one value of a schema without parts into one more slot.
+/// Reads one value of a flat schema into one more slot.
 #[inline(always)]
 #[tactic(auto, using(crate::proofs::Sets::kinds))]
 pub fn decode_flat<C: Ahead>(
@@ -30,7 +30,7 @@ pub fn decode_flat<C: Ahead>(
     schema: &AvroSchema,
     builder: &mut MutableArray,
 ) -> Result<(), DecodeFault>
-    requires flat { IsSupportedFlat schema.now }
+    requires flat { HasNoParts schema.now }
     requires kind { builder_kind builder.old ≡ flat_kind schema.now }
     requires suits { Suits schema.now (shape builder.old) }
     requires offsets { AllReach (mask true schema.now) (length (C.rest cursor.old))
@@ -85,6 +85,12 @@ pub fn decode_flat<C: Ahead>(
             decode_decimal(cursor, values)
         }
         AvroSchema::Fixed(fixed) => decode_fixed_type(cursor, fixed, builder),
+        AvroSchema::Enum(enumeration) => {
+            let MutableArray::Dictionary(values) = builder else {
+                unreachable!()
+            };
+            decode_symbol(cursor, enumeration.symbols.as_slice(), values)
+        }
         _ => unreachable!(),
     }
 }
@@ -97,7 +103,7 @@ fn decode_fixed_type<C: Ahead>(
     fixed: &Fixed,
     builder: &mut MutableArray,
 ) -> Result<(), DecodeFault>
-    requires some { 1 ≤ fixed.now.size }
+    requires size { IsFixedSize fixed.now.size fixed.now.logical }
     requires kind { builder_kind builder.old ≡ fixed_kind fixed.now.logical }
     requires suits { Suits (FixedSchema fixed.now) (shape builder.old) }
     ensures tight { OnOk result (IsTight builder.new) }
@@ -133,11 +139,4 @@ fn decode_fixed_type<C: Ahead>(
             decode_duration(cursor, values)
         }
     }
-}
-
-/// Whether a schema is null's.
-pub fn is_null(schema: &AvroSchema) -> bool
-    ensures { IsTrue result ↔ IsNull schema.now }
-{
-    matches!(schema, AvroSchema::Null)
 }

@@ -5,11 +5,12 @@ mod blocks;
 mod decode;
 mod fault;
 mod flat;
+mod items;
+mod kept;
 mod laws;
 mod make;
 mod prepare;
 mod rows;
-mod supported;
 
 pub use blocks::{deserialize, deserialize_into};
 pub use laws::{reserved_capacity_stays, valid_blocks_are_read};

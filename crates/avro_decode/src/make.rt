@@ -1,57 +1,102 @@
-//! An empty builder of a data type.
+//! Empty builders for the values of schemas.
 
-ghost use Rattle.std.specs.Prelude.{◌≡◌, map, All, IfOk, IfErr};
+ghost use Rattle.std.specs.Prelude.{◌≡◌, ◌≤◌, length, map, sum_by, false, All, IfOk, IfErr};
 ghost use Rattle.arrow_core.specs.declared.error.Error.TheVariants.{OutOfMemory};
 ghost use Rattle.arrow_types.specs.declared.physical.PhysicalType.TheVariants.{List as ListKind};
-ghost use Rattle.arrow_types.specs.declared.types.DataType.{DataType, List, Struct};
+ghost use Rattle.arrow_types.specs.declared.slot.Slot.TheVariants.{String as StringSlot};
 ghost use Rattle.arrow_types.specs.Layouts.{physical_type};
 ghost use Rattle.arrow_builders.specs.Children.{fields_of};
 ghost use Rattle.arrow_builders.specs.MutableArrays.{nodes};
 ghost use Rattle.arrow_builders.specs.Nodes.{IsEmpty};
-ghost use Rattle.arrow_builders.specs.Shapes.{shape, flat, lists, records};
-ghost use Rattle.avro_decode.specs.Making.{made, IsMade, IsFlatMade};
+ghost use Rattle.arrow_builders.specs.Shapes.{shape, flat, dictionary, lists, records};
+ghost use Rattle.avro_schema.specs.declared.schema.Schema.{Union};
+ghost use Rattle.avro_grammar.specs.Types.{HasType, symbol_type};
+ghost use Rattle.avro_grammar.specs.ValidBlock.{small_limit};
+ghost use Rattle.avro_infer.specs.Columns.{HasColumnTypes};
+ghost use Rattle.avro_decode.specs.Making.{CanBeKept, IsNewBuilder, AreNewBuilders, IsFlatType};
 
+use arrow_array::Utf8Array;
 use arrow_builders::{
-    Container, DynMutableListArray, DynMutableStructArray, MutableArray, MutableBinaryArray,
-    MutableBooleanArray, MutableFixedSizeBinaryArray, MutablePrimitiveArray, MutableUtf8Array,
+    Container, DynMutableListArray, DynMutableStructArray, FixedItemsUtf8Dictionary, MutableArray,
+    MutableBinaryArray, MutableBooleanArray, MutableFixedSizeBinaryArray, MutablePrimitiveArray,
+    MutableUtf8Array,
 };
-use arrow_core::Result;
+use arrow_core::{Error, Result, Text};
 use arrow_types::{DataType, Field, IntervalUnit};
+use avro_infer::is_null;
+use avro_schema::{AvroField, AvroSchema};
 use std::alloc::Global;
 
-/// An empty builder of a type, and of its children's types.
+/// An empty builder for the values of a schema, of its data type, and of its children's types.
 #[cycle(make)]
-#[tactic(auto, using(crate::proofs::NewBuilders::new_values))]
-pub fn make_builder(alloc: Global, data_type: &DataType) -> Result<MutableArray>
-    requires made { IsMade data_type.now }
-    ensures shape { IfOk result (λ b. shape b ≡ made data_type.now) }
-    ensures empty { IfOk result (λ b. All IsEmpty (nodes b)) }
+pub fn make_builder(
+    alloc: Global,
+    schema: &AvroSchema,
+    data_type: &DataType,
+) -> Result<MutableArray>
+    requires kept { CanBeKept schema.now }
+    requires typed { HasType false schema.now data_type.now }
+    ensures made { IfOk result (IsNewBuilder schema.now data_type.now) }
     ensures memory { IfErr result (λ e. e ≡ OutOfMemory) }
 {
-    match data_type {
-        DataType::List(item) => {
-            let values = make_builder(alloc, &item.get().data_type)?;
+    match schema {
+        AvroSchema::Union(members) => make_nullable(alloc, members.as_slice(), data_type),
+        AvroSchema::Array(item) => {
+            let DataType::List(field) = data_type else {
+                unreachable!()
+            };
+            let values = make_builder(alloc, item.get(), &field.get().data_type)?;
             make_list(alloc, values, data_type)
         }
-        DataType::Struct(fields) => {
-            let values = make_children(alloc, fields.as_slice())?;
+        AvroSchema::Record(record) => {
+            let DataType::Struct(fields) = data_type else {
+                unreachable!()
+            };
+            let values = make_children(alloc, record.fields.as_slice(), fields.as_slice())?;
             make_struct(alloc, values, data_type)
         }
+        AvroSchema::Enum(enumeration) => make_dictionary(alloc, enumeration.symbols.as_slice()),
         _ => make_flat(alloc, data_type),
     }
 }
 
+/// An empty builder for the member that isn't null, which takes nulls too.
 #[cycle(make)]
-fn make_children(alloc: Global, fields: &[Field]) -> Result<Vec<MutableArray>>
-    requires made { All (λ f. IsMade f.data_type) fields.now }
-    ensures shapes { IfOk result (λ bs. map shape bs.items
-        ≡ map (λ f. made f.data_type) fields.now) }
-    ensures empty { IfOk result (λ bs. All (λ b. All IsEmpty (nodes b)) bs.items) }
+fn make_nullable(
+    alloc: Global,
+    members: &[AvroSchema],
+    data_type: &DataType,
+) -> Result<MutableArray>
+    requires kept { CanBeKept (Union members.now) }
+    requires typed { HasType false (Union members.now) data_type.now }
+    ensures made { IfOk result (IsNewBuilder (Union members.now) data_type.now) }
+    ensures memory { IfErr result (λ e. e ≡ OutOfMemory) }
+{
+    let [first, second] = members else {
+        unreachable!()
+    };
+    if is_null(first) {
+        make_builder(alloc, second, data_type)
+    } else {
+        make_builder(alloc, first, data_type)
+    }
+}
+
+/// An empty builder for each field of a record.
+#[cycle(make)]
+fn make_children(
+    alloc: Global,
+    avro_fields: &[AvroField],
+    fields: &[Field],
+) -> Result<Vec<MutableArray>>
+    requires kept { All (λ a. CanBeKept a.schema) avro_fields.now }
+    requires typed { HasColumnTypes false fields.now avro_fields.now }
+    ensures made { IfOk result (λ bs. AreNewBuilders avro_fields.now fields.now bs.items) }
     ensures memory { IfErr result (λ e. e ≡ OutOfMemory) }
 {
     let mut children = Vec::new(alloc);
-    for i in 0..fields.len() {
-        let child = make_builder(alloc, &fields[i].data_type)?;
+    for i in 0..avro_fields.len() {
+        let child = make_builder(alloc, &avro_fields[i].schema, &fields[i].data_type)?;
         children.push(child)?;
     }
     Ok(children)
@@ -94,10 +139,37 @@ fn make_struct(
     }
 }
 
-/// An empty builder of a type without children.
+/// An empty builder of a dictionary of these symbols.
+#[tactic(auto, using(crate::proofs::NewBuilders::new_empties))]
+fn make_dictionary(alloc: Global, symbols: &[Text]) -> Result<MutableArray>
+    requires total { sum_by length symbols.now ≤ small_limit }
+    ensures shape { IfOk result (λ b. shape b
+        ≡ dictionary symbol_type (map StringSlot symbols.now)) }
+    ensures empty { IfOk result (λ b. All IsEmpty (nodes b)) }
+    ensures memory { IfErr result (λ e. e ≡ OutOfMemory) }
+{
+    let strings = symbol_strings(alloc, symbols)?;
+    let keys = FixedItemsUtf8Dictionary::with_capacity(alloc, strings, 0)?;
+    Ok(MutableArray::Dictionary(keys))
+}
+
+/// The symbols as an array of strings.
+fn symbol_strings(alloc: Global, symbols: &[Text]) -> Result<Utf8Array<i32>>
+    requires total { sum_by length symbols.now ≤ small_limit }
+    ensures slots { IfOk result (λ strings. strings.slots ≡ map StringSlot symbols.now) }
+    ensures memory { IfErr result (λ e. e ≡ OutOfMemory) }
+{
+    let mut strings = MutableUtf8Array::with_capacity(alloc, 0)?;
+    for i in 0..symbols.len() {
+        strings.push(Some(symbols[i].as_str()))?;
+    }
+    strings.as_box()
+}
+
+/// An empty builder of the type of a flat value that is no enum's.
 #[tactic(auto, using(crate::proofs::NewBuilders::new_empties))]
 fn make_flat(alloc: Global, data_type: &DataType) -> Result<MutableArray>
-    requires flat { IsFlatMade data_type.now }
+    requires flat { IsFlatType data_type.now }
     ensures shape { IfOk result (λ b. shape b ≡ flat (physical_type data_type.now) data_type.now) }
     ensures empty { IfOk result (λ b. All IsEmpty (nodes b)) }
     ensures memory { IfErr result (λ e. e ≡ OutOfMemory) }

@@ -8,13 +8,13 @@ ghost use Rattle.arrow_builders.specs.Nodes.{IsEmpty};
 ghost use Rattle.arrow_builders.specs.Shapes.{shape};
 ghost use Rattle.arrow_builders.specs.Tight.{IsTight};
 ghost use Rattle.avro_grammar.specs.ValidBlock.{kept};
-ghost use Rattle.avro_decode.specs.Making.{made};
+ghost use Rattle.avro_decode.specs.Columns.{kept_types};
+ghost use Rattle.avro_decode.specs.Making.{AreNewBuilders};
 ghost use Rattle.avro_decode.specs.Refusals.{BelongTogether, FieldsRefused};
 ghost use Rattle.avro_decode.specs.Suits.{AllSuit};
-ghost use Rattle.avro_decode.specs.Supported.{kept_types};
 
+use crate::kept::{keep_no_float, kept_enums_fit};
 use crate::make::make_builder;
-use crate::supported::kept_supported;
 use arrow_builders::MutableArray;
 use arrow_core::{Error, Reason, Result};
 use arrow_types::Field;
@@ -34,11 +34,17 @@ fn check_fields(fields: &[Field], avro_fields: &[AvroField], projection: &[bool]
     if fields.is_empty() {
         return Err(Error::NotYetImplemented(Reason::NoField));
     }
-    if !all_carried(avro_fields) || !kept_supported(avro_fields, projection) {
+    if !all_carried(avro_fields) {
         return Err(Error::NotYetImplemented(Reason::NotCarried));
     }
     if !all_typed(fields, avro_fields) {
         return Err(Error::InvalidArgumentError(Reason::FieldType));
+    }
+    if !keep_no_float(avro_fields, projection) {
+        return Err(Error::NotYetImplemented(Reason::Float));
+    }
+    if !kept_enums_fit(avro_fields, projection) {
+        return Err(Error::Overflow);
     }
     Ok(())
 }
@@ -49,9 +55,11 @@ fn check_fields(fields: &[Field], avro_fields: &[AvroField], projection: &[bool]
 ///
 /// In this order: `InvalidArgumentError(Lengths)` where the lengths of fields, Avro fields and
 /// projection differ, `NotYetImplemented(NoField)` where there is no field,
-/// `NotYetImplemented(NotCarried)` where a schema isn't carried or a kept one isn't supported,
-/// `InvalidArgumentError(FieldType)` where a field hasn't the type and nullability of its schema.
-/// `OutOfMemory` at any time.
+/// `NotYetImplemented(NotCarried)` where a schema isn't carried, be it kept or not,
+/// `InvalidArgumentError(FieldType)` where a field hasn't the type and nullability of its schema,
+/// `NotYetImplemented(Float)` where a kept schema holds a float or a double at any depth, and
+/// `Overflow` where one holds an enum whose symbols are more than 2147483647, or have more bytes
+/// together. `OutOfMemory` at any time.
 pub fn make_builders(
     alloc: Global,
     fields: &[Field],
@@ -76,19 +84,18 @@ pub fn make_builders(
 fn new_builders(
     alloc: Global,
     fields: &[Field],
-    _avro_fields: &[AvroField],
+    avro_fields: &[AvroField],
     projection: &[bool],
 ) -> Result<Vec<MutableArray>>
-    requires together { BelongTogether fields.now _avro_fields.now projection.now }
-    ensures shapes { IfOk result (λ builders. map shape builders.items
-        ≡ map (λ f. made f.data_type) (kept fields.now projection.now)) }
-    ensures nodes { IfOk result (λ builders. All (λ b. All IsEmpty (nodes b)) builders.items) }
+    requires together { BelongTogether fields.now avro_fields.now projection.now }
+    ensures made { IfOk result (λ builders. AreNewBuilders (kept avro_fields.now projection.now)
+        (kept fields.now projection.now) builders.items) }
     ensures memory { IfErr result (λ e. e ≡ OutOfMemory) }
 {
     let mut builders = Vec::new(alloc);
     for i in 0..fields.len() {
         if projection[i] {
-            let builder = make_builder(alloc, &fields[i].data_type)?;
+            let builder = make_builder(alloc, &avro_fields[i].schema, &fields[i].data_type)?;
             builders.push(builder)?;
         }
     }

@@ -6,7 +6,7 @@ ghost use Rattle.arrow_builders.specs.Shapes.{shape};
 ghost use Rattle.arrow_builders.specs.Tight.{IsTight};
 ghost use Rattle.avro_grammar.specs.Carried.{Carried, CarriedList};
 ghost use Rattle.avro_grammar.specs.ValidBlock.{kept};
-ghost use Rattle.avro_reference.specs.Read.{push_one, read};
+ghost use Rattle.avro_reference.specs.Read.{push_one, items, read};
 ghost use Rattle.avro_reference.specs.Skip.{skip};
 ghost use Rattle.avro_reference.specs.Block.{row, rows as rows_at, block};
 ghost use Rattle.avro_skip.specs.Costs.{passed, Moves, CostsKept};
@@ -16,9 +16,10 @@ ghost use Rattle.avro_decode.specs.Growth.{Grows, AllReach, HaveSpare, ChildrenG
 ghost use Rattle.avro_decode.specs.Masks.{mask};
 ghost use Rattle.avro_decode.specs.Suits.{Suits, AllSuit};
 
-use crate::decode::decode_value;
+use crate::decode::{decode_items, decode_value};
 use crate::fault::BlockFault;
 use crate::flat::decode_flat;
+use crate::items::decode_flat_items;
 use arrow_builders::MutableArray;
 use avro_flat::DecodeFault;
 use avro_schema::{AvroField, AvroSchema};
@@ -58,7 +59,40 @@ pub fn decode_block<C: Ahead>(
     Ok(())
 }
 
+/// Reads so many rows. Where there is one field and it is kept, they are the items of one column,
+/// and no field has to be found again for each row.
 fn decode_rows<C: Ahead>(
+    cursor: &mut C,
+    rows: usize,
+    avro_fields: &[AvroField],
+    projection: &[bool],
+    builders: &mut [MutableArray],
+) -> Result<(), BlockFault>
+    requires lengths { length avro_fields.now ≡ length projection.now }
+    requires carried { CarriedList avro_fields.now }
+    requires suits { AllSuit (kept avro_fields.now projection.now) builders.old }
+    requires tight { All IsTight builders.old }
+    requires offsets { ChildrenReach (length (C.rest cursor.old))
+        (kept avro_fields.now projection.now) builders.old }
+    ensures shapes { map shape builders.new ≡ map shape builders.old }
+    ensures tight { OnOk result (All IsTight builders.new) }
+    ensures grows { ChildrenGrow (passed (C.rest cursor.old) (C.rest cursor.new))
+        (kept avro_fields.now projection.now) builders.old builders.new }
+    ensures has_capacity { ChildrenHaveSpare (length (C.rest cursor.old))
+        (kept avro_fields.now projection.now) builders.old → BlockHasMemory result }
+    ensures same { C.whose cursor.new ≡ C.whose cursor.old }
+    ensures moves { Moves C.rest C.calls cursor.old cursor.new }
+    ensures reads { GivesRows C.rest C.shown C.calls cursor.old cursor.new
+        (map builder_slots builders.old) (map builder_slots builders.new) result
+        (rows_at rows avro_fields.now projection.now (C.rest cursor.old)) }
+{
+    if avro_fields.len() == 1 && projection[0] {
+        return decode_only_field(cursor, rows, &avro_fields[0].schema, &mut builders[0]);
+    }
+    decode_each_row(cursor, rows, avro_fields, projection, builders)
+}
+
+fn decode_each_row<C: Ahead>(
     cursor: &mut C,
     rows: usize,
     avro_fields: &[AvroField],
@@ -87,6 +121,69 @@ fn decode_rows<C: Ahead>(
         decode_row(cursor, avro_fields, projection, builders)?;
     }
     Ok(())
+}
+
+/// Reads the rows of the one field that there is.
+fn decode_only_field<C: Ahead>(
+    cursor: &mut C,
+    rows: usize,
+    schema: &AvroSchema,
+    builder: &mut MutableArray,
+) -> Result<(), BlockFault>
+    requires suits { Suits schema.now (shape builder.old) }
+    requires tight { IsTight builder.old }
+    requires offsets { AllReach (mask true schema.now) (length (C.rest cursor.old))
+        (nodes builder.old) }
+    ensures shape { shape builder.new ≡ shape builder.old }
+    ensures tight { OnOk result (IsTight builder.new) }
+    ensures grows { Grows (mask false schema.now) (passed (C.rest cursor.old) (C.rest cursor.new))
+        (nodes builder.old) (nodes builder.new) }
+    ensures has_capacity { HaveSpare (mask false schema.now) (length (C.rest cursor.old))
+        (nodes builder.old) → BlockHasMemory result }
+    ensures same { C.whose cursor.new ≡ C.whose cursor.old }
+    ensures moves { Moves C.rest C.calls cursor.old cursor.new }
+    ensures costs { OnOk result (CostsKept C.rest C.shown C.calls cursor.old cursor.new) }
+    ensures reads { GivesField (λ _. (builder_slots builder.new, C.rest cursor.new)) result
+        (items (read schema.now) rows (builder_slots builder.old) (C.rest cursor.old)) }
+{
+    match decode_column_items(cursor, schema, rows as u64, builder) {
+        Ok(()) => Ok(()),
+        Err(DecodeFault::Bytes) => Err(BlockFault::Bytes),
+        Err(DecodeFault::Memory) => Err(BlockFault::Memory),
+    }
+}
+
+/// Reads so many values of a column.
+#[inline(always)]
+#[tactic(auto, using(crate::proofs::Sets::values))]
+fn decode_column_items<C: Ahead>(
+    cursor: &mut C,
+    schema: &AvroSchema,
+    count: u64,
+    builder: &mut MutableArray,
+) -> Result<(), DecodeFault>
+    requires suits { Suits schema.now (shape builder.old) }
+    requires tight { IsTight builder.old }
+    requires offsets { AllReach (mask true schema.now) (length (C.rest cursor.old))
+        (nodes builder.old) }
+    ensures shape { shape builder.new ≡ shape builder.old }
+    ensures tight { OnOk result (IsTight builder.new) }
+    ensures grows { Grows (mask false schema.now) (passed (C.rest cursor.old) (C.rest cursor.new))
+        (nodes builder.old) (nodes builder.new) }
+    ensures has_capacity { HaveSpare (mask false schema.now) (length (C.rest cursor.old))
+        (nodes builder.old) → HasMemory result }
+    ensures same { C.whose cursor.new ≡ C.whose cursor.old }
+    ensures moves { Moves C.rest C.calls cursor.old cursor.new }
+    ensures costs { OnOk result (CostsKept C.rest C.shown C.calls cursor.old cursor.new) }
+    ensures reads { Gives (λ _. (builder_slots builder.new, C.rest cursor.new)) result
+        (items (read schema.now) count (builder_slots builder.old) (C.rest cursor.old)) }
+{
+    match schema {
+        AvroSchema::Union(_) | AvroSchema::Array(_) | AvroSchema::Record(_) => {
+            decode_items(cursor, schema, count, builder)
+        }
+        _ => decode_flat_items(cursor, schema, count, builder),
+    }
 }
 
 /// Reads one row: each kept field into its builder, each other field skipped.
@@ -158,7 +255,7 @@ fn decode_field<C: Ahead>(
     }
 }
 
-/// Reads a value. The reader of one without parts is picked here, inside the loop over rows; unions,
+/// Reads a value. The reader of a flat one is picked here, inside the loop over rows; unions,
 /// arrays and records take a call.
 #[inline(always)]
 #[tactic(auto, using(crate::proofs::Sets::values))]

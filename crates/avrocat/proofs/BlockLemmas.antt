@@ -5,8 +5,7 @@ use Rattle.arrow_array.specs.declared.array.Array.{Array}
 use Rattle.arrow_array.specs.Arrays.{array_type, array_slots}
 use Rattle.avro_schema.specs.declared.schema.AvroField.{AvroField}
 use Rattle.avro_grammar.specs.ValidBlock.{kept}
-use Rattle.avro_decode.specs.Columns.{AreColumns}
-use Rattle.avro_decode.specs.Supported.{kept_types}
+use Rattle.avro_decode.specs.Columns.{AreColumns, kept_types}
 use Rattle.avrocat.specs.Shown.{shown}
 use Rattle.avrocat.specs.declared.command.BlockWords.{BlockWords}
 use Rattle.avrocat.specs.Blocks.{IsValid, ShowsBlock}
@@ -43,6 +42,5 @@ block_shown block fields bytes text before arrays chunk names now valid same typ
   valid = valid;
   columns = map array_slots chunk;
   read = read;
-  each = mapped array_slots chunk ∙ a_column_each fields block.avro_fields block.projection chunk same types;
   lines = written ∙ (λ i. none i ++ shown ((lent ∙ told) i) (map array_slots (is i)));
 }

@@ -14,7 +14,7 @@ use Rattle.avro_grammar.specs.Inferred.{column_field, inferred, is_item, columns
 use Rattle.avro_grammar.proofs.Basics.{null_told}
 use Rattle.avro_grammar.proofs.ByLists.{row_fields, fields_are}
 use Rattle.avro_grammar.proofs.InferredLemmas.{inferred_is_typed}
-use Rattle.avro_decode.specs.Supported.{AllTyped}
+use Rattle.avro_infer.specs.Columns.{AllTyped}
 
 -- ---- types
 

@@ -2,6 +2,7 @@ pub mod BlockLemmas
 pub mod ColumnLemmas
 pub mod Endings
 pub mod Joined
+pub mod KeptNames
 pub mod OneMeaning
 pub mod RefusalLemmas
 pub mod ShownLemmas

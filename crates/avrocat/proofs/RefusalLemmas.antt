@@ -9,7 +9,7 @@ use Rattle.arrow_types.specs.declared.types.Field.{Field}
 use Rattle.avro_schema.specs.declared.schema.AvroField.{AvroField}
 use Rattle.avro_grammar.specs.Inferred.{own_doc, inferred_columns}
 use Rattle.avro_grammar.specs.Carried.{CarriedList}
-use Rattle.avro_decode.specs.Supported.{AllTyped}
+use Rattle.avro_infer.specs.Columns.{AllTyped}
 use Rattle.avro_decode.specs.Refusals.{BelongTogether, FieldsRefused, BytesRefused, BlockRefused}
 use Rattle.arrow_base.specs.Outside.{AppendsPrefix}
 use Rattle.avrocat.specs.declared.command.BlockWords.{BlockWords}
@@ -47,15 +47,17 @@ module _ (block : BlockWords) (fields : List Field) (bytes : List ℕ)
   by_fields (InvalidArgumentError reason.Lengths) h = absurd (h (each, each ∙ same))
   by_fields (NotYetImplemented reason.NoField) h = inr (none_left fields block.avro_fields each h.1)
   by_fields (NotYetImplemented reason.NotCarried) h = inr (omega (arith, h.1, each), h.2)
-  by_fields (InvalidArgumentError reason.FieldType) h = absurd (h.3 fit)
+  by_fields (InvalidArgumentError reason.FieldType) h = absurd (h.1 fit)
+  by_fields (NotYetImplemented reason.Float) h = inr ((omega (arith, h.0.1, each), h.0.2), h.2)
+  by_fields Overflow h = inr ((omega (arith, h.0.1, each), h.0.2), h.2, h.3)
   by_fields OutOfMemory h = inl refl
   by_fields _ h = absurd h
 
   by_bytes : (e : Error) → BelongTogether fields block.avro_fields block.projection → BytesRefused block.rows block.avro_fields block.projection bytes e → (e ≡ OutOfMemory) ⊎ IsWrong block bytes e
   by_bytes Overflow b h = absurd (omega (arith, h, few))
-  by_bytes (ExternalFormat reason.Rows) b h = inr ((omega (arith, b.some, each), b.supported), h.1)
-  by_bytes (ExternalFormat reason.BlockBytes) b h = inr ((omega (arith, b.some, each), b.supported), h.0.1, h.1, h.2)
-  by_bytes (OutOfSpec reason.NegativeSize) b h = inr ((omega (arith, b.some, each), b.supported), h.0.1, h.1)
+  by_bytes (ExternalFormat reason.Rows) b h = inr (((omega (arith, b.some, each), b.carried), b.no_float, b.symbols), h.1)
+  by_bytes (ExternalFormat reason.BlockBytes) b h = inr (((omega (arith, b.some, each), b.carried), b.no_float, b.symbols), h.0.1, h.1, h.2)
+  by_bytes (OutOfSpec reason.NegativeSize) b h = inr (((omega (arith, b.some, each), b.carried), b.no_float, b.symbols), h.0.1, h.1)
   by_bytes OutOfMemory b h = inl refl
   by_bytes _ b h = absurd h
 
@@ -69,7 +71,7 @@ pub no_column : (block : BlockWords) (now : List AvroField) (bytes : List ℕ) (
 no_column block now bytes e lent (inl h) = inl h
 no_column block now bytes e lent (inr h) =
     let none : CarriedList block.avro_fields → ⊥ = λ all. h.1 (subst CarriedList (sym lent) all) in
-    inr (subst (IsWrong block bytes) (sym h.0) (some_field block.avro_fields none, λ s. none s.0))
+    inr (subst (IsWrong block bytes) (sym h.0) (some_field block.avro_fields none, none))
 
 -- the same of lists that are those of the block
 pub of_block : {X : Type 0} (block : BlockWords) (fields : List AvroField) (keeps : List Bool) (bytes given : List ℕ) (answer : Result X Error)
@@ -93,6 +95,7 @@ module _ (block : BlockWords) (source sink : Change) where
   by_what_was_read (NotYetImplemented r) bytes keeps all (inr h) = (keeps, (bytes, all, h))
   by_what_was_read (ExternalFormat r) bytes keeps all (inr h) = (keeps, (bytes, all, h))
   by_what_was_read (OutOfSpec r) bytes keeps all (inr h) = (keeps, (bytes, all, h))
+  by_what_was_read Overflow bytes keeps all (inr h) = (keeps, (bytes, all, h))
   by_what_was_read _ bytes keeps all (inr h) = absurd h
 
   pub write_fails : (answer : Result Unit Error) (bytes text : List ℕ) → TakesAll source.bytes source.bytes_after bytes → ShowsBlock block bytes text

@@ -1,12 +1,11 @@
 -- What is shown of a block.
-use Rattle.std.specs.Prelude.{◌≡◌, ℕ, List, length, map, Some}
+use Rattle.std.specs.Prelude.{◌≡◌, ℕ, List, map, Some}
 use Rattle.std.specs.Io.KnownBytes.{Appends}
 use Rattle.arrow_types.specs.declared.slot.Slot.{Slot}
 use Rattle.arrow_types.specs.declared.types.Field.{Field}
 use Rattle.avro_grammar.specs.Inferred.{inferred_columns}
 use Rattle.avro_grammar.specs.ValidBlock.{kept, ValidBlock}
 use Rattle.avro_decode.specs.Columns.{AreColumns}
-use Rattle.avro_decode.specs.Refusals.{AreSupported}
 use Rattle.avrocat.specs.declared.command.BlockWords.{BlockWords}
 use Rattle.avrocat.specs.Changes.{Change}
 use Rattle.avrocat.specs.Input.{TakesAll}
@@ -16,7 +15,6 @@ use Rattle.avrocat.specs.Shown.{shown}
 pub record IsValid (block : BlockWords) (bytes : List ℕ) : Type 0 where
   pub fields : List Field
   pub typed : inferred_columns block.avro_fields ≡ Some fields
-  pub supported : AreSupported block.avro_fields block.projection
   pub valid : ValidBlock block.rows bytes fields block.avro_fields block.projection
 
 -- and the text is the lines of the columns of the kept fields
@@ -24,7 +22,6 @@ pub record ShowsBlock (block : BlockWords) (bytes text : List ℕ) : Type 0 wher
   pub valid : IsValid block bytes
   pub columns : List (List Slot)
   pub read : AreColumns block.rows block.avro_fields block.projection bytes columns
-  pub each : length columns ≡ length (kept block.avro_fields block.projection)
   pub lines : text ≡ shown (map (λ f. f.name) (kept block.avro_fields block.projection)) columns
 
 -- The source's whole bytes are the block, and the sink got the lines of the kept fields.

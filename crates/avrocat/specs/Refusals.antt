@@ -3,25 +3,32 @@ use Rattle.std.specs.Prelude.{◌≡◌, ℕ, ◌<◌, ◌≤◌, ⊤, None, Som
 use Rattle.std.specs.Io.KnownBytes.{Keeps}
 use Rattle.arrow_base.specs.Outside.{AppendsPrefix}
 use Rattle.arrow_core.specs.declared.error.Error.{Error}
-use Rattle.arrow_core.specs.declared.error.Error.TheVariants.{NotYetImplemented, ExternalFormat, OutOfSpec, LimitExceeded, ReadFault, WriteFault, OutOfMemory}
-use Rattle.arrow_core.specs.declared.error.Reason.TheVariants.{NoField, NotCarried, Rows, BlockBytes, NegativeSize}
+use Rattle.arrow_core.specs.declared.error.Error.TheVariants.{NotYetImplemented, ExternalFormat, OutOfSpec, Overflow, LimitExceeded, ReadFault, WriteFault, OutOfMemory}
+use Rattle.arrow_core.specs.declared.error.Reason.TheVariants.{NoField, NotCarried, Float, Rows, BlockBytes, NegativeSize}
 use Rattle.arrow_types.specs.declared.slot.Slot.{Slot}
+use Rattle.avro_grammar.specs.Carried.{CarriedList}
 use Rattle.avro_grammar.specs.NegativeSize.{NegativeSize as StatesNegativeSize}
 use Rattle.avro_grammar.specs.Rows.{Rows as AreRows}
-use Rattle.avro_decode.specs.Refusals.{AreSupported}
+use Rattle.avro_grammar.specs.ValidBlock.{KeepNoFloat, KeptEnumsFit}
 use Rattle.avrocat.specs.declared.command.BlockWords.{BlockWords}
 use Rattle.avrocat.specs.Blocks.{IsValid, ShowsBlock}
 use Rattle.avrocat.specs.Changes.{Change, Failed}
 use Rattle.avrocat.specs.Input.{TakesAll, PassesLimit, Tells, TellsTooMany}
 
--- there is a field, each schema is carried, and each kept one supported
+-- there is a field, and each schema is carried
+abbrev pub AreCarried : BlockWords → Type 0
+AreCarried block = (0 < length block.avro_fields) × CarriedList block.avro_fields
+
+-- and the kept ones hold no float, and a dictionary can hold the symbols of each of their enums
 abbrev pub CanBeRead : BlockWords → Type 0
-CanBeRead block = (0 < length block.avro_fields) × AreSupported block.avro_fields block.projection
+CanBeRead block = AreCarried block × KeepNoFloat block.avro_fields block.projection × KeptEnumsFit block.avro_fields block.projection
 
 -- what is wrong with a block of these bytes; where nothing is, they are valid
 abbrev pub IsWrong : BlockWords → List ℕ → Error → Type 0
 IsWrong block bytes (NotYetImplemented NoField) = block.avro_fields ≡ []
-IsWrong block bytes (NotYetImplemented NotCarried) = (0 < length block.avro_fields) × (AreSupported block.avro_fields block.projection → ⊥)
+IsWrong block bytes (NotYetImplemented NotCarried) = (0 < length block.avro_fields) × (CarriedList block.avro_fields → ⊥)
+IsWrong block bytes (NotYetImplemented Float) = AreCarried block × (KeepNoFloat block.avro_fields block.projection → ⊥)
+IsWrong block bytes Overflow = AreCarried block × KeepNoFloat block.avro_fields block.projection × (KeptEnumsFit block.avro_fields block.projection → ⊥)
 IsWrong block bytes (ExternalFormat Rows) = CanBeRead block × (length bytes < block.rows)
 IsWrong block bytes (ExternalFormat BlockBytes) =
     CanBeRead block × (block.rows ≤ length bytes) × ((table : List (List Slot)) → AreRows block.rows block.avro_fields block.projection bytes table → ⊥) × (StatesNegativeSize block.rows block.avro_fields block.projection bytes → ⊥)

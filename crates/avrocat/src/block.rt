@@ -14,8 +14,8 @@ use crate::input::read_all;
 use crate::lines::Lines;
 use arrow_base::{Bytes, Items, Result, Sink, Source, Text, write_all};
 use arrow_types::Field;
-use avro_file::{AvroField, Block, Record};
 use avro_read::deserialize;
+use avro_schema::{AvroField, Block, Record};
 use std::alloc::Global;
 
 /// The name of the record that a row is. Nothing asks for it.
@@ -24,9 +24,10 @@ const ROW: &str = "row";
 /// Reads the source to its end as one block, and writes a line for each kept field.
 ///
 /// The errors, in this order: `ReadFault` or `LimitExceeded` while the source is read,
-/// `NotYetImplemented` where there is no field, a schema isn't carried or a kept one isn't
-/// supported, `ExternalFormat` or `OutOfSpec` where the bytes aren't the rows, and `WriteFault`.
-/// Nothing is written before the last. `OutOfMemory` at any time.
+/// `NotYetImplemented` where there is no field, a schema isn't carried or a kept one holds a float,
+/// `Overflow` where a kept enum has more than 2147483647 symbols, or more bytes of them together,
+/// `ExternalFormat` or `OutOfSpec` where the bytes aren't the rows, and `WriteFault`. Nothing is
+/// written before the last. `OutOfMemory` at any time.
 pub fn run_block<S: Source, K: Sink>(
     alloc: Global,
     words: BlockWords,

@@ -9,8 +9,8 @@ ghost use Rattle.avro_grammar.specs.Inferred.{inferred_columns};
 
 use arrow_base::{Error, Items, Reason, Result};
 use arrow_types::Field;
-use avro_file::Record;
 use avro_read::infer_schema;
+use avro_schema::Record;
 use std::alloc::Global;
 
 /// The columns of a record's fields. `NotCarried` where a schema has no column: no such schema is

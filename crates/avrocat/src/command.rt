@@ -1,7 +1,7 @@
 //! The commands, as words ask for them.
 
 use arrow_base::Items;
-use avro_file::AvroField;
+use avro_schema::AvroField;
 
 /// A block's rows and fields, as `block ROWS FIELD..` names them.
 #[derive(Drop)]

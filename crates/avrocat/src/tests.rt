@@ -112,7 +112,13 @@ fn valid_blocks_are_shown(rt: HostRuntime) {
 
 #[test]
 fn logical_and_binary_values_are_shown(rt: HostRuntime) {
-    let table: [(&str, &[u8], &str); 5] = [
+    let table: [(&str, &[u8], &str); 7] = [
+        ("block 1 w=timestamp-nanos", b"\x02", "w:[1]\n"),
+        (
+            "block 1 ~d=decimal(10,2) b=int",
+            b"\x22\x00\x00\x00\x00\x00\x00\x00\x00\x00\x00\x00\x00\x00\x00\x00\x00\x00\x02",
+            "b:[1]\n",
+        ),
         ("block 1 d=decimal(10,2)", b"\x00", "d:[0]\n"),
         (
             "block 1 d=decimal(10,2)",
@@ -138,8 +144,9 @@ fn logical_and_binary_values_are_shown(rt: HostRuntime) {
 }
 
 #[test]
-fn values_with_parts_are_shown(rt: HostRuntime) {
-    let table: [(&str, &[u8], &str); 6] = [
+fn nested_values_and_symbols_are_shown(rt: HostRuntime) {
+    let table: [(&str, &[u8], &str); 7] = [
+        ("block 1 e=<A,B>?", b"\x02\x02", "e:[\"B\"]\n"),
         ("block 1 a=[long]", b"\x04\x02\x04\x00", "a:[[1,2]]\n"),
         ("block 1 a=[long]", b"\x03\x04\x02\x04\x00", "a:[[1,2]]\n"),
         (DEEP, b"", "a:[]\n"),
@@ -163,7 +170,8 @@ fn values_with_parts_are_shown(rt: HostRuntime) {
 
 #[test]
 fn other_bytes_are_refused(rt: HostRuntime) {
-    let table: [(&str, &[u8]); 10] = [
+    let table: [(&str, &[u8]); 11] = [
+        ("block 1 e=<A,B>?", b"\x02\x04"),
         ("block 2 a=int b=string?", b"\x02\x02\x04hi\x03\x00\x00"),
         ("block 2 a=int b=string?", b"\x02\x02\x04hi\x03"),
         ("block 1 a=int", b"\x80\x80\x80\x80\x10"),
@@ -190,11 +198,61 @@ fn other_bytes_are_refused(rt: HostRuntime) {
     assert!(rt; is_answer(answer, 4, "", "avrocat: ExternalFormat: Rows\n"));
 }
 
+/// Counts and sizes that the bytes do not back. The greatest count is 2^63 - 1.
+#[test]
+fn false_counts_and_sizes_are_refused(rt: HostRuntime) {
+    let table: [(&str, &[u8]); 7] = [
+        (
+            "block 1 a=[long]",
+            b"\xfe\xff\xff\xff\xff\xff\xff\xff\xff\x01",
+        ),
+        (
+            "block 1 ~a=[long] b=int",
+            b"\xfe\xff\xff\xff\xff\xff\xff\xff\xff\x01",
+        ),
+        (
+            "block 1 ~a=[long] b=int",
+            b"\x03\xfe\xff\xff\xff\xff\xff\xff\xff\xff\x01\x00\x02",
+        ),
+        (
+            "block 1 a=string",
+            b"\xfe\xff\xff\xff\xff\xff\xff\xff\xff\x01",
+        ),
+        ("block 1 ~a=string b=int", b"\x01\x02"),
+        (
+            "block 1 d=decimal(10,2)",
+            b"\x22\x00\x00\x00\x00\x00\x00\x00\x00\x00\x00\x00\x00\x00\x00\x00\x00\x00",
+        ),
+        (
+            "block 1 a=[{x=int}?]",
+            b"\xfe\xff\xff\xff\xff\xff\xff\xff\xff\x01\x00",
+        ),
+    ];
+    for (line, bytes) in table {
+        let answer = plain_answer(&rt, rt.alloc(), line, bytes);
+        let note = "avrocat: ExternalFormat: BlockBytes\n";
+        assert!(rt; is_answer(answer, 4, "", note), "{line}");
+    }
+    let answer = plain_answer(&rt, rt.alloc(), "block 3 ~a=[long] b=int", b"\x03\x01");
+    assert!(rt; is_answer(answer, 4, "", "avrocat: ExternalFormat: Rows\n"));
+}
+
 #[test]
 fn a_skipped_block_of_a_negative_size_is_told(rt: HostRuntime) {
-    let line = "block 1 ~a=[long] b=int";
-    let answer = plain_answer(&rt, rt.alloc(), line, b"\x03\x01\x02");
-    assert!(rt; is_answer(answer, 5, "", "avrocat: OutOfSpec: NegativeSize\n"));
+    let table: [(&str, &[u8]); 5] = [
+        ("block 1 ~a=[long] b=int", b"\x03\x01\x02"),
+        ("block 2 ~a=[long] b=int", b"\x03\x01"),
+        ("block 1 ~a=[[long]] b=int", b"\x02\x03\x01"),
+        ("block 1 ~a=[[long]] b=int", b"\x04\x00\x03\x01"),
+        ("block 1 ~a=[long]? b=int", b"\x02\x03\x01"),
+    ];
+    for (line, bytes) in table {
+        let answer = plain_answer(&rt, rt.alloc(), line, bytes);
+        assert!(rt;
+            is_answer(answer, 5, "", "avrocat: OutOfSpec: NegativeSize\n"),
+            "{line}"
+        );
+    }
 }
 
 /// Types that nest 64 deep, and one deeper.
@@ -205,12 +263,11 @@ const TOO_DEEP: &str =
     "block 0 a=[[[[[[[[[[[[[[[[[[[[[[[[[[[[[[[[[[[[[[[[[[[[[[[[[[[[[[[[[[[[[[[[int]]]]]]]]]]]]]]]]]]]]]]]]]]]]]]]]]]]]]]]]]]]]]]]]]]]]]]]]]]]]]]]]";
 
 #[test]
-fn unsupported_types_are_refused(rt: HostRuntime) {
-    let table: [(&str, &[u8]); 5] = [
+fn types_that_are_not_carried_are_refused(rt: HostRuntime) {
+    let table: [(&str, &[u8]); 4] = [
         ("block 1 a=null", b""),
         ("block 0 a={}", b""),
         ("block 1 a=null?", b"\x00"),
-        ("block 1 a=float", b"\x00\x00\x80\x3f"),
         ("block 1 a=int b=null!", b"\x02\x02"),
     ];
     for (line, bytes) in table {
@@ -220,6 +277,12 @@ fn unsupported_types_are_refused(rt: HostRuntime) {
     }
     let answer = plain_answer(&rt, rt.alloc(), "block 0", b"");
     assert!(rt; is_answer(answer, 3, "", "avrocat: NotYetImplemented: NoField\n"));
+}
+
+#[test]
+fn a_float_that_is_kept_is_refused(rt: HostRuntime) {
+    let answer = plain_answer(&rt, rt.alloc(), "block 1 a=float", b"\x00\x00\x80\x3f");
+    assert!(rt; is_answer(answer, 3, "", "avrocat: NotYetImplemented: Float\n"));
 }
 
 #[test]

@@ -9,7 +9,7 @@ ghost use Rattle.avrocat.specs.Commands.{Stands, IsUsage};
 
 use crate::command::{BlockWords, Command};
 use arrow_base::{Items, Text};
-use avro_file::AvroField;
+use avro_schema::AvroField;
 use field_words::{WordsFault, read_field, read_rows};
 use std::alloc::Global;
 

@@ -8,9 +8,10 @@ ghost use Rattle.arrow_builders.specs.Shapes.{shape};
 ghost use Rattle.arrow_builders.specs.Tight.{IsTight};
 ghost use Rattle.avro_grammar.specs.Carried.{CarriedList};
 ghost use Rattle.avro_grammar.specs.ValidBlock.{kept};
-ghost use Rattle.avro_decode.specs.Masks.{AllPaid};
+ghost use Rattle.avro_infer.specs.Columns.{AllTyped};
+ghost use Rattle.avro_decode.specs.Columns.{kept_types};
+ghost use Rattle.avro_decode.specs.Masks.{BytesPayForAll};
 ghost use Rattle.avro_decode.specs.Suits.{AllSuit};
-ghost use Rattle.avro_decode.specs.Supported.{AllTyped, kept_types};
 ghost use Rattle.avro_decode.specs.Capacity.{AtNodes, BetweenNodes};
 
 use crate::samples::{avro_field, block, or_null, text};
@@ -19,7 +20,7 @@ use arrow_builders::MutableArray;
 use arrow_core::{Error, Reason};
 use arrow_types::{DataType, Field};
 use avro_decode::{deserialize, deserialize_into, make_builders, reserved_capacity_stays};
-use avro_schema::{AvroField, AvroSchema, SliceCursor};
+use avro_schema::{AvroField, AvroSchema, IntLogical, SliceCursor};
 use std::alloc::Global;
 use std::process::Abort;
 
@@ -41,8 +42,13 @@ fn fields(rt: &impl Abort, alloc: Global, number: DataType) -> Vec<Field> {
     vec![in alloc; a, b].expect(rt, "memory")
 }
 
-/// The columns of the two rows, where `a` is to have this type.
-fn columns(rt: &impl Abort, alloc: Global, number: DataType) -> Result<Chunk, Error> {
+/// The columns of the two rows, where `a` is to have this type, under this projection.
+fn columns(
+    rt: &impl Abort,
+    alloc: Global,
+    number: DataType,
+    projection: &[bool],
+) -> Result<Chunk, Error> {
     let block = block(rt, alloc, 2, ROWS);
     let avro_fields = avro_fields(rt, alloc);
     let fields = fields(rt, alloc, number);
@@ -51,7 +57,7 @@ fn columns(rt: &impl Abort, alloc: Global, number: DataType) -> Result<Chunk, Er
         &block,
         fields.as_slice(),
         avro_fields.as_slice(),
-        &[true, true],
+        projection,
     )
 }
 
@@ -78,13 +84,32 @@ fn are_columns(chunk: &Chunk) -> bool {
 
 #[test]
 fn rows_become_columns(rt: HostRuntime) {
-    let chunk = columns(&rt, rt.alloc(), DataType::Int32).expect(&rt, "two rows");
+    let chunk = columns(&rt, rt.alloc(), DataType::Int32, &[true, true]).expect(&rt, "two rows");
     assert!(rt; are_columns(&chunk));
 }
 
 #[test]
 fn a_wider_column_is_refused(rt: HostRuntime) {
-    let refused = columns(&rt, rt.alloc(), DataType::Int64).err();
+    let refused = columns(&rt, rt.alloc(), DataType::Int64, &[true, true]).err();
+    assert!(rt; refused == Some(Error::InvalidArgumentError(Reason::FieldType)));
+}
+
+#[test]
+fn a_shorter_projection_is_refused(rt: HostRuntime) {
+    let refused = columns(&rt, rt.alloc(), DataType::Int32, &[true]).err();
+    assert!(rt; refused == Some(Error::InvalidArgumentError(Reason::Lengths)));
+}
+
+/// Why there are no builders of integers for a date.
+fn refused_date(rt: &impl Abort, alloc: Global) -> Option<Error> {
+    let date = avro_field(rt, alloc, "a", AvroSchema::Int(Some(IntLogical::Date)));
+    let field = Field::new(alloc, text(rt, alloc, "a"), DataType::Int32, false);
+    make_builders(alloc, &[field], &[date], &[true]).err()
+}
+
+#[test]
+fn an_integer_is_no_date(rt: HostRuntime) {
+    let refused = refused_date(&rt, rt.alloc());
     assert!(rt; refused == Some(Error::InvalidArgumentError(Reason::FieldType)));
 }
 
@@ -114,7 +139,7 @@ fn read_rows(
     ensures shapes { map shape builders.new ≡ map shape builders.old }
     ensures capacity { BetweenNodes KeepsCapacity builders.old builders.new }
     ensures has_capacity { AtNodes (HasSpare 7) builders.old
-        → AllPaid (kept avro_fields.now projection.now)
+        → BytesPayForAll (kept avro_fields.now projection.now)
         → IfErr result (λ e. e ≡ OutOfMemory → ⊥) }
 {
     let mut cursor = SliceCursor::new(ROWS);
@@ -135,6 +160,35 @@ fn read_new(
 ) -> Result<Counts, Error> {
     let mut builders = make_builders(alloc, fields, avro_fields, projection)?;
     read_rows(fields, avro_fields, projection, builders.as_mut_slice())
+}
+
+/// The arrays of builders.
+fn boxed(alloc: Global, builders: &mut [MutableArray]) -> Result<Chunk, Error> {
+    let mut arrays = Vec::new(alloc);
+    for i in 0..builders.len() {
+        let array = builders[i].as_box()?;
+        arrays.push(array)?;
+    }
+    Chunk::try_new(arrays)
+}
+
+/// The columns of the two rows, by way of builders of their own.
+fn built(alloc: Global, fields: &[Field], avro_fields: &[AvroField]) -> Result<Chunk, Error> {
+    let projection = [true, true];
+    let mut builders = make_builders(alloc, fields, avro_fields, &projection)?;
+    let builders = builders.as_mut_slice();
+    read_rows(fields, avro_fields, &projection, builders)?;
+    boxed(alloc, builders)
+}
+
+#[test]
+fn builders_take_rows(rt: HostRuntime) {
+    let avro_fields = avro_fields(&rt, rt.alloc());
+    let fields = fields(&rt, rt.alloc(), DataType::Int32);
+    let chunk = built(rt.alloc(), fields.as_slice(), avro_fields.as_slice()).expect(
+        &rt, "two rows",
+    );
+    assert!(rt; are_columns(&chunk));
 }
 
 #[test]
@@ -194,7 +248,7 @@ fn read_twice(
     requires tight { All IsTight builders.old }
     requires empty { AtNodes IsEmpty builders.old }
     requires capacity { AtNodes (HasSpare 7) builders.old }
-    ensures memory { AllPaid (kept avro_fields.now projection.now)
+    ensures memory { BytesPayForAll (kept avro_fields.now projection.now)
         → IfErr result (λ e. e ≡ OutOfMemory → ⊥) }
 {
     read_rows(fields, avro_fields, projection, builders)?;

@@ -1,11 +1,10 @@
 //! Tests of what no clause says.
-mod joined;
 mod listed;
 
-use crate::{BufStreamingIterator, StreamingIterator};
+use crate::{BufStreamingIterator, StreamingIterator, write_joined};
 use arrow_base::{Items, MemorySink};
 use arrow_core::{Error, Result};
-use joined::{write_joined, write_listed};
+use listed::write_listed;
 use std::alloc::Global;
 use std::process::Abort;
 

@@ -1,13 +1,16 @@
 //! A list whose items are lent.
-ghost use Rattle.std.specs.Prelude.{◌≡◌, ℕ, ◌<◌, ◌≤◌, List, Option, Some, None, Result, Ok, [], ◌∷◌, map, length};
+ghost use Rattle.std.specs.Prelude.{◌≡◌, ℕ, ◌<◌, ◌≤◌, List, Option, Some, None, Ok, OnOk, [], ◌∷◌, map, length};
+ghost use Rattle.std.specs.List.{join_with_byte};
+ghost use Rattle.std.specs.Io.KnownBytes.{Appends};
 ghost use Rattle.std.specs.Option.{option_copied};
 ghost use Rattle.std.specs.Borrow.{sem};
 ghost use Rattle.std.specs.Io.BufRead.{Rests};
 ghost use Rattle.lending.specs.Lending.{Advanced, IsShown, IsNext};
 ghost use Rattle.lending.specs.Joined.{MovesOn};
 
-use crate::FallibleStreamingIterator;
-use arrow_core::Error;
+use crate::{FallibleStreamingIterator, write_joined};
+use arrow_base::Sink;
+use arrow_core::{Error, Result};
 
 /// Lends the items of a list, and tells them.
 #[derive(Drop)]
@@ -43,7 +46,7 @@ impl<'a> FallibleStreamingIterator for Listed<'a> {
 
     ghost hints = { λ s hint. hint ≡ (length s.rest.now, Some (length s.rest.now)) };
 
-    fn advance(&mut self) -> std::result::Result<(), Error> {
+    fn advance(&mut self) -> Result<()> {
         match self.rest.split_first() {
             None => self.shown = None,
             Some((first, rest)) => {
@@ -58,7 +61,7 @@ impl<'a> FallibleStreamingIterator for Listed<'a> {
         self.shown
     }
 
-    fn next(&mut self) -> std::result::Result<Option<&[u8]>, Error> {
+    fn next(&mut self) -> Result<Option<&[u8]>> {
         self.advance()?;
         Ok(self.get())
     }
@@ -66,4 +69,13 @@ impl<'a> FallibleStreamingIterator for Listed<'a> {
     fn size_hint(&self) -> (usize, Option<usize>) {
         (self.rest.len(), Some(self.rest.len()))
     }
+}
+
+/// Writes the items of the list, with the separator between them.
+pub fn write_listed<K: Sink>(sink: &mut K, separator: u8, items: &[Vec<u8>]) -> Result<()>
+    ensures { OnOk result
+        (Appends (K.held sink.old) (K.held sink.new)
+        (join_with_byte separator (map (λ v. v.items) items.now))) }
+{
+    write_joined(sink, separator, Listed::new(items))
 }

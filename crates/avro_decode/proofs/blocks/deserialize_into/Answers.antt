@@ -1,7 +1,7 @@
 use Rattle.std.proofs.Common.{◌≤◌, length, arith, refl}
 use Rattle.avro_grammar.specs.ValidBlock.{small_limit, kept}
-use Rattle.avro_decode.proofs.Capacity.{empty_reach, slots_empty, all_spare}
-use Rattle.avro_decode.proofs.Wholes.{block_columns, block_refused, block_negative, shows_at_most, calls_at_most}
+use Rattle.avro_decode.proofs.Capacity.{empty_reach, slots_empty}
+use Rattle.avro_decode.proofs.Wholes.{a_column_each, block_columns, block_refused, block_negative, shows_at_most, calls_at_most}
 use Rattle.avro_decode.proofs.blocks.deserialize_into.Goals as goal
 
 pub decode_lent-requires : goal.decode_lent-requires
@@ -14,7 +14,7 @@ decode_lent-requires g c κs =
 pub returns-in-Ok-clause-columns : goal.returns-in-Ok-clause-columns
 returns-in-Ok-clause-columns g c =
     let r = c.in-Ok.ensures.reads in
-    block_columns _ _ _ _ _ _ (slots_empty _ c.requires.empty) (r.1, r.2, r.3, r.4)
+    block_columns _ _ _ _ _ _ (a_column_each _ _ _ c.requires.suits c.in-Ok.ensures.shapes) (slots_empty _ c.requires.empty) (r.1, r.2, r.3, r.4)
 
 pub returns-in-Ok-clause-shown : goal.returns-in-Ok-clause-shown
 returns-in-Ok-clause-shown g c =

@@ -2,7 +2,7 @@ use Rattle.std.proofs.Common.{◌<◌, length, subst, sym, arith}
 use Rattle.arrow_array.specs.Arrays.{array_type, array_slots}
 use Rattle.arrow_builders.specs.Fits.{TypesFit}
 use Rattle.arrow_builders.specs.MutableArrays.{builder_type, builder_slots}
-use Rattle.arrow_builders.specs.Shapes.{Shape, shape}
+use Rattle.arrow_builders.specs.Shapes.{shape}
 use Rattle.arrow_builders.specs.Tight.{IsTight}
 use Rattle.avro_decode.proofs.Builders.{all_here, all_set}
 use Rattle.avro_decode.proofs.Wholes.{done_more}

@@ -1,4 +1,4 @@
-use Rattle.std.proofs.Common.{length, true, sym, ap, subst, rules}
+use Rattle.std.proofs.Common.{length, sym, ap, subst, rules}
 use Rattle.arrow_builders.specs.Builders.{ContentBuilder, content_node}
 use Rattle.arrow_builders.specs.MutableArrays.{builder_kind}
 use Rattle.avro_flat.specs.Growing.{OffsetsReach}

@@ -23,5 +23,5 @@ returns-clause-ok c =
     let read = c.in_ok-chunk.ensures in
     let block : BlockWords = record { rows = c.args.block.now.number_of_rows; avro_fields = c.args.avro_fields.now; projection = c.args.projection.now } in
     let valid : IsValid block c.args.block.now.bytes =
-    record { fields = c.args.fields.now; typed = c.requires.typed; supported = read.together.supported; valid = read.valid } in
+    record { fields = c.args.fields.now; typed = c.requires.typed; valid = read.valid } in
     block_shown block c.args.fields.now _ _ _ _ _ _ _ valid read.together.lengths.0 read.data_types read.columns c.arrays.ensures.arrays c.as_slice.ensures.value c.in_ok-names.ensures.ok c.new-lines.ensures c.in_ok-push_columns.ensures.ok

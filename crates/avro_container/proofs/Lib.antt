@@ -1,0 +1,14 @@
+pub mod Numbers
+pub mod Taken
+pub mod Filled
+pub mod BlockParts
+pub mod Manies
+pub mod StatedSizes
+pub mod Heads
+pub mod ShortestLemmas
+pub mod Writes
+pub mod OneFile
+pub mod Settled
+pub mod SettledBlocks
+pub mod Complete
+pub mod Sequences

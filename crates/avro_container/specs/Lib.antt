@@ -1,0 +1,11 @@
+pub mod BlockReader
+pub mod Canonical
+pub mod File
+pub mod FileForms
+pub mod Forms
+pub mod Kept
+pub mod Laws
+pub mod OneRead
+pub mod ReadHeader
+pub mod Shortest
+pub mod Taking

@@ -1,0 +1,88 @@
+//! Many flat values of one column, in loops outside of the cycle of calls; of longs the builder's
+//! kind is told once.
+
+ghost use Rattle.std.specs.Prelude.{◌≡◌, length, true, false, OnOk};
+ghost use Rattle.arrow_builders.specs.MutableArrays.{builder_slots, builder_kind, nodes};
+ghost use Rattle.arrow_builders.specs.Shapes.{shape};
+ghost use Rattle.arrow_builders.specs.Tight.{IsTight};
+ghost use Rattle.avro_reference.specs.Read.{items, read};
+ghost use Rattle.avro_skip.specs.Costs.{passed, Moves, CostsKept};
+ghost use Rattle.avro_flat.specs.Decoding.{Gives, HasMemory};
+ghost use Rattle.avro_decode.specs.Growth.{Grows, AllReach, HaveSpare, flat_kind};
+ghost use Rattle.avro_decode.specs.Masks.{mask};
+ghost use Rattle.avro_decode.specs.Suits.{Suits};
+ghost use Rattle.avro_infer.specs.Inference.{HasNoParts};
+
+use crate::flat::decode_flat;
+use arrow_builders::MutableArray;
+use avro_flat::{DecodeFault, decode_longs};
+use avro_schema::AvroSchema;
+use avro_skip::Ahead;
+
+/// Reads so many values of a flat schema, each into one more slot.
+#[tactic(auto, using(crate::proofs::Sets::kinds))]
+pub fn decode_flat_items<C: Ahead>(
+    cursor: &mut C,
+    item: &AvroSchema,
+    count: u64,
+    child: &mut MutableArray,
+) -> Result<(), DecodeFault>
+    requires flat { HasNoParts item.now }
+    requires kind { builder_kind child.old ≡ flat_kind item.now }
+    requires suits { Suits item.now (shape child.old) }
+    requires tight { IsTight child.old }
+    requires offsets { AllReach (mask true item.now) (length (C.rest cursor.old))
+        (nodes child.old) }
+    ensures shape { shape child.new ≡ shape child.old }
+    ensures tight { OnOk result (IsTight child.new) }
+    ensures grows { Grows (mask false item.now) (passed (C.rest cursor.old) (C.rest cursor.new))
+        (nodes child.old) (nodes child.new) }
+    ensures has_capacity { HaveSpare (mask false item.now) (length (C.rest cursor.old))
+        (nodes child.old) → HasMemory result }
+    ensures same { C.whose cursor.new ≡ C.whose cursor.old }
+    ensures moves { Moves C.rest C.calls cursor.old cursor.new }
+    ensures costs { OnOk result (CostsKept C.rest C.shown C.calls cursor.old cursor.new) }
+    ensures reads { Gives (λ _. (builder_slots child.new, C.rest cursor.new)) result
+        (items (read item.now) count (builder_slots child.old) (C.rest cursor.old)) }
+{
+    match item {
+        AvroSchema::Long(_) => {
+            let MutableArray::Int64(values) = child else {
+                unreachable!()
+            };
+            decode_longs(cursor, count, values)
+        }
+        _ => decode_each(cursor, item, count, child),
+    }
+}
+
+#[tactic(auto, using(crate::proofs::Sets::values))]
+fn decode_each<C: Ahead>(
+    cursor: &mut C,
+    item: &AvroSchema,
+    count: u64,
+    child: &mut MutableArray,
+) -> Result<(), DecodeFault>
+    requires flat { HasNoParts item.now }
+    requires kind { builder_kind child.old ≡ flat_kind item.now }
+    requires suits { Suits item.now (shape child.old) }
+    requires tight { IsTight child.old }
+    requires offsets { AllReach (mask true item.now) (length (C.rest cursor.old))
+        (nodes child.old) }
+    ensures shape { shape child.new ≡ shape child.old }
+    ensures tight { OnOk result (IsTight child.new) }
+    ensures grows { Grows (mask false item.now) (passed (C.rest cursor.old) (C.rest cursor.new))
+        (nodes child.old) (nodes child.new) }
+    ensures has_capacity { HaveSpare (mask false item.now) (length (C.rest cursor.old))
+        (nodes child.old) → HasMemory result }
+    ensures same { C.whose cursor.new ≡ C.whose cursor.old }
+    ensures moves { Moves C.rest C.calls cursor.old cursor.new }
+    ensures costs { OnOk result (CostsKept C.rest C.shown C.calls cursor.old cursor.new) }
+    ensures reads { Gives (λ _. (builder_slots child.new, C.rest cursor.new)) result
+        (items (read item.now) count (builder_slots child.old) (C.rest cursor.old)) }
+{
+    for _ in 0..count {
+        decode_flat(cursor, item, child)?;
+    }
+    Ok(())
+}

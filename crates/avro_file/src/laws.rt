@@ -1,0 +1,16 @@
+//! Laws of files.
+ghost use Rattle.avro_file.specs.Laws.{OneAvroFile, CanonicalIsAvroFile, MetadataIsRead, MetadataIsRight};
+
+/// Bytes are a file of at most one root, marker and list of blocks. For a root whose text is read
+/// back, and any blocks of counts and lengths that a number can state, the canonical file is a file.
+pub fn one_avro_file()
+    ensures one { OneAvroFile }
+    ensures canonical { CanonicalIsAvroFile }
+{}
+
+/// What `read_metadata` answers, where the source tells its bytes: metadata that stands there within
+/// the limit is read, and what is answered is what stands there.
+pub fn metadata_answers()
+    ensures read { MetadataIsRead }
+    ensures right { MetadataIsRight }
+{}

@@ -1,0 +1,44 @@
+//! What the tests read: a small file, and sources of bytes.
+
+use arrow_base::{Bytes, Items, MemorySource, SteadySource};
+use avro_schema::Block;
+use std::alloc::Global;
+use std::process::Abort;
+
+/// The text of a record `t` of one int `a`.
+pub static SCHEMA: &[u8] =
+    b"{\"type\":\"record\",\"name\":\"t\",\"fields\":[{\"name\":\"a\",\"type\":\"int\"}]}";
+
+/// A header of 101 bytes: the magic, a map of one entry, and a marker of sixteen bytes 1.
+pub static HEADER: &[u8] =
+    b"Obj\x01\x02\x16avro.schema\x82\x01{\"type\":\"record\",\"name\":\"t\",\"fields\":[{\"name\":\"a\",\"type\":\"int\"}]}\x00\x01\x01\x01\x01\x01\x01\x01\x01\x01\x01\x01\x01\x01\x01\x01\x01";
+
+/// The only block of that file: two rows, two bytes, `02 03`, and the marker.
+pub static BLOCK: &[u8] =
+    b"\x04\x04\x02\x03\x01\x01\x01\x01\x01\x01\x01\x01\x01\x01\x01\x01\x01\x01\x01\x01";
+
+pub static MARKER: [u8; 16] = [1; 16];
+
+/// A source of bytes that gives one byte a read.
+pub fn source(rt: &impl Abort, alloc: Global, bytes: &[u8]) -> SteadySource {
+    SteadySource::new(Bytes::try_from_slice(alloc, bytes).expect(rt, "memory"), 1)
+}
+
+/// The same, whose read of this number fails.
+pub fn failing(rt: &impl Abort, alloc: Global, bytes: &[u8], number: u64) -> MemorySource {
+    let numbers = vec![in alloc; number].expect(rt, "memory");
+    let bytes = Bytes::try_from_slice(alloc, bytes).expect(rt, "memory");
+    MemorySource::new(bytes, 1, Items::from_vec(numbers))
+}
+
+/// The first `n` of the bytes.
+pub fn cut(bytes: &[u8], n: usize) -> &[u8] {
+    bytes.get(..n).unwrap_or(bytes)
+}
+
+pub fn empty_block(alloc: Global) -> Block {
+    Block {
+        number_of_rows: 0,
+        bytes: Bytes::new(alloc),
+    }
+}

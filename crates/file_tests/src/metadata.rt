@@ -1,0 +1,87 @@
+//! The metadata of files, read and written.
+
+use crate::files::{BLOCK, HEADER, MARKER, cut, source};
+use crate::samples::{DEFLATED, TWO_BLOCKS};
+use arrow_base::{Bytes, Error, Items, MemorySink, Reason};
+use avro_container::write_header;
+use avro_file::{Block, Record, read_metadata, write_block, write_metadata};
+use std::alloc::Global;
+use std::process::Abort;
+
+fn sink(rt: &impl Abort, alloc: Global) -> MemorySink {
+    let none = Items::from_vec(Vec::new(alloc));
+    MemorySink::with_room(alloc, 200, 7, none).expect(rt, "memory")
+}
+
+/// Whether the record has this name and this many fields, the first of them with this name.
+fn is_record(record: &Record, name: &str, count: usize, first: &str) -> bool {
+    match record.fields.as_slice().first() {
+        Some(field) => {
+            record.name.as_str() == name
+                && record.fields.as_slice().len() == count
+                && field.name.as_str() == first
+        }
+        None => false,
+    }
+}
+
+#[test]
+fn metadata_is_read_and_a_file_written(rt: HostRuntime) {
+    let alloc = rt.alloc();
+    let mut source = source(&rt, alloc, HEADER);
+    let (metadata, count) = read_metadata(alloc, &mut source, 101).expect(&rt, "metadata");
+    assert!(rt; count == 101 && metadata.compression == None);
+    assert!(rt; is_record(&metadata.root, "t", 1, "a"));
+    assert!(rt; metadata.marker.as_slice() == MARKER.as_slice());
+    let block = Block {
+        number_of_rows: 2,
+        bytes: Bytes::try_from_slice(alloc, b"\x02\x03").expect(&rt, "memory"),
+    };
+    let mut sink = sink(&rt, alloc);
+    assert!(rt; write_metadata(alloc, &mut sink, &metadata.root, MARKER) == Ok(()));
+    assert!(rt; write_block(&mut sink, &block, MARKER) == Ok(()));
+    assert!(rt; sink.held().len() == 121);
+    assert!(rt; cut(sink.held(), 101) == HEADER);
+    assert!(rt; sink.held().get(101..) == Some(BLOCK));
+}
+
+#[test]
+fn a_root_that_another_program_wrote_is_read(rt: HostRuntime) {
+    let alloc = rt.alloc();
+    let mut source = source(&rt, alloc, TWO_BLOCKS);
+    let (metadata, _) = read_metadata(alloc, &mut source, 1000).expect(&rt, "metadata");
+    assert!(rt; is_record(&metadata.root, "r", 3, "a"));
+}
+
+/// The error that a file's metadata is refused with.
+fn refusal(rt: &impl Abort, alloc: Global, file: &[u8]) -> Option<Error> {
+    let mut source = source(rt, alloc, file);
+    match read_metadata(alloc, &mut source, 1000) {
+        Ok(_) => None,
+        Err(error) => Some(error),
+    }
+}
+
+/// The error that a file with this schema text is refused with.
+fn text_refusal(rt: &impl Abort, alloc: Global, schema: &[u8]) -> Option<Error> {
+    let mut sink = sink(rt, alloc);
+    write_header(&mut sink, schema, MARKER).expect(rt, "capacity");
+    refusal(rt, alloc, sink.held())
+}
+
+#[test]
+fn a_codec_is_refused(rt: HostRuntime) {
+    let codec = Some(Error::NotYetImplemented(Reason::Codec));
+    assert!(rt; refusal(&rt, rt.alloc(), DEFLATED) == codec);
+}
+
+#[test]
+fn a_schema_that_is_no_record_is_refused(rt: HostRuntime) {
+    let alloc = rt.alloc();
+    let form = Some(Error::ExternalFormat(Reason::SchemaText));
+    let reference = Some(Error::NotYetImplemented(Reason::TypeReference));
+    let no_record = Some(Error::NotYetImplemented(Reason::RootNotRecord));
+    assert!(rt; text_refusal(&rt, alloc, b"{") == form);
+    assert!(rt; text_refusal(&rt, alloc, b"\"t\"") == reference);
+    assert!(rt; text_refusal(&rt, alloc, b"\"int\"") == no_record);
+}

@@ -1,0 +1,4 @@
+pub mod Arrays
+pub mod Calendar
+pub mod Days
+pub mod Texts

@@ -1,0 +1,11 @@
+//! Decimal digits.
+ghost use Rattle.std.specs.Prelude.{◌≡◌};
+ghost use Rattle.json_dates.specs.Civil.{digit};
+
+/// The last decimal digit.
+#[inline]
+pub fn digit(n: u32) -> u8
+    ensures { result ≡ digit n }
+{
+    b'0' + (n % 10) as u8
+}

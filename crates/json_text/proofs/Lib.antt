@@ -1,0 +1,4 @@
+pub mod Beneath
+pub mod Forms
+pub mod Joined
+pub mod Records

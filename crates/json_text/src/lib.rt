@@ -1,0 +1,13 @@
+//! The JSON text of the slots of columns, and which columns have one (RFC 8259).
+#![tactic(auto)]
+
+mod bytes;
+mod checks;
+mod integers;
+mod range;
+mod slots;
+mod types;
+
+pub use bytes::{push, push_comma, push_string};
+pub use checks::check;
+pub use slots::push_slot;

@@ -1,0 +1,4 @@
+pub mod ArrayLemmas
+pub mod Keyed
+pub mod PassedLemmas
+pub mod RowLemmas

@@ -1,0 +1,4 @@
+pub mod Arrays
+pub mod Rows
+pub mod Serializing
+pub mod Written

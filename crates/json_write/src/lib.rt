@@ -1,0 +1,13 @@
+//! Columns as JSON texts: arrays as JSON arrays, and the rows of chunks as JSON objects (RFC 8259).
+#![tactic(auto)]
+
+mod arrays;
+mod joined;
+mod keys;
+mod record;
+mod rows;
+
+pub use arrays::Serializer;
+pub use arrow_base::utf8;
+pub use joined::write;
+pub use record::RecordSerializer;
