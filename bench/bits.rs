@@ -1,4 +1,4 @@
-//! Truth values, packed 64 to a word, of the plain Rust programs.
+//! Booleans, packed 64 to a word, of the plain Rust programs.
 
 #[derive(Default)]
 pub struct Bits {

@@ -9,10 +9,10 @@ const TEXTS: [&str; 4] = ["", "u1", "u22", "longer"];
 
 /// Every fourth is null.
 fn valid_of(count: usize) -> Bits {
-    let truths: Vec<bool> = (0..count).map(|i| i % 4 != 1).collect();
+    let booleans: Vec<bool> = (0..count).map(|i| i % 4 != 1).collect();
     let mut valid = Bits::default();
-    for truth in truths {
-        valid.push(truth);
+    for boolean in booleans {
+        valid.push(boolean);
     }
     valid
 }

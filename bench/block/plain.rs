@@ -109,13 +109,13 @@ struct Cursor<'a> {
 impl<'a> Cursor<'a> {
     fn number(&mut self) -> Option<i64> {
         let mut value = 0u64;
-        for place in 0..10 {
+        for index in 0..10 {
             let byte = *self.bytes.get(self.at)?;
             self.at += 1;
-            if place == 9 && byte > 1 {
+            if index == 9 && byte > 1 {
                 return None;
             }
-            value |= u64::from(byte & 127) << (7 * place);
+            value |= u64::from(byte & 127) << (7 * index);
             if byte < 128 {
                 return Some((value >> 1) as i64 ^ -((value & 1) as i64));
             }

@@ -5,7 +5,7 @@ mod bits;
 use bits::Bits;
 use std::hint::black_box;
 
-const TEXTS: [&str; 4] = ["", "u1", "u22", "longer"];
+const STRINGS: [&str; 4] = ["", "u1", "u22", "longer"];
 
 #[derive(Default)]
 struct Longs {
@@ -33,13 +33,13 @@ fn longs(count: usize, times: u64) -> i64 {
     (0..builder.values.len() / 61).map(|k| k * 61).filter(|&i| builder.valid.get(i)).fold(0, |sum: i64, i| sum.wrapping_add(builder.values[i]))
 }
 
-struct Texts {
+struct Strings {
     offsets: Vec<i32>,
     bytes: Vec<u8>,
     valid: Bits,
 }
 
-impl Texts {
+impl Strings {
     fn push(&mut self, text: Option<&str>) {
         self.bytes.extend_from_slice(text.unwrap_or("").as_bytes());
         self.offsets.push(i32::try_from(self.bytes.len()).unwrap());
@@ -47,15 +47,15 @@ impl Texts {
     }
 }
 
-fn texts(count: usize, times: u64) -> i64 {
-    let mut builder = Texts { offsets: vec![0], bytes: Vec::new(), valid: Bits::default() };
+fn strings(count: usize, times: u64) -> i64 {
+    let mut builder = Strings { offsets: vec![0], bytes: Vec::new(), valid: Bits::default() };
     for _ in 0..times {
         let builder = black_box(&mut builder);
         builder.offsets.truncate(1);
         builder.bytes.clear();
         builder.valid.clear();
         for i in 0..count {
-            builder.push(if i % 4 == 1 { None } else { Some(TEXTS[i % 4]) });
+            builder.push(if i % 4 == 1 { None } else { Some(STRINGS[i % 4]) });
         }
     }
     let length = |i: usize| i64::from(builder.offsets[i + 1] - builder.offsets[i]);
@@ -63,20 +63,20 @@ fn texts(count: usize, times: u64) -> i64 {
 }
 
 #[derive(Default)]
-struct Truths {
+struct Booleans {
     values: Bits,
     valid: Bits,
 }
 
-impl Truths {
+impl Booleans {
     fn push(&mut self, value: Option<bool>) {
         self.values.push(value.unwrap_or(false));
         self.valid.push(value.is_some());
     }
 }
 
-fn truths(count: usize, times: u64) -> i64 {
-    let mut builder = Truths::default();
+fn booleans(count: usize, times: u64) -> i64 {
+    let mut builder = Booleans::default();
     for _ in 0..times {
         let builder = black_box(&mut builder);
         builder.values.clear();
@@ -93,8 +93,8 @@ fn main() {
     let (count, times) = (words[1].parse().unwrap(), words[2].parse().unwrap());
     let found = match words[0].as_str() {
         "long" => longs(count, times),
-        "text" => texts(count, times),
-        _ => truths(count, times),
+        "string" => strings(count, times),
+        _ => booleans(count, times),
     };
     println!("{found}");
 }

@@ -47,10 +47,10 @@ fn push_timestamp(out: &mut Vec<u8>, offset: Option<i16>, value: i64) {
     if fraction != 0 {
         text[20] = b'.';
         let digits = if fraction % 1_000 == 0 { 3 } else { 6 };
-        let mut place = 100_000;
+        let mut unit = 100_000;
         for k in 0..digits {
-            text[21 + k] = digit(fraction / place);
-            place /= 10;
+            text[21 + k] = digit(fraction / unit);
+            unit /= 10;
         }
         end = 21 + digits;
     }

@@ -1,4 +1,4 @@
--- The bytes between offsets are strings exactly where all of them are one text, and each offset stands between two characters.
+-- The bytes between offsets are strings exactly where all of them together are UTF-8, and each offset stands between two characters.
 use Rattle.std.proofs.Common.{◌≡◌, ◌∙◌, ap, sym, arith, refl, ℕ, zero, suc, ◌+◌, ◌-◌, ◌<◌, ◌≤◌, ◌++◌, ℤ, pos, negsuc, List, length, take, drop}
 use mathlib.Core.Path.{subst}
 use Rattle.std.specs.Str.{IsUtf8, IsCharBoundary}
@@ -71,7 +71,7 @@ module _ (os : List ℤ) (bytes : List ℕ) (o : IsOffsets os (length bytes)) wh
       let d : there j + (there k - there j) ≡ there k = omega (arith, a) in
       rw e (take-add (there k - there j) (there (k + 1) - there k) (drop (there j) bytes) ∙ rw (drop-drop (there k - there j) (there j) bytes, d) refl)
 
-  -- texts one after another are one text
+  -- strings one after another are UTF-8 together
   texts_run : AreUtf8 os bytes → (k : ℕ) → k < length os → IsUtf8 (run 0 k)
   texts_run t zero l = let e : there 0 - there 0 ≡ 0 = omega arith in rw e IsUtf8-nil
   texts_run t (suc k) l =
@@ -106,12 +106,12 @@ module _ (os : List ℤ) (bytes : List ℕ) (o : IsOffsets os (length bytes)) (a
   length_text : length text ≡ b - a
   length_text = length-take-le (b - a) (drop a bytes) (omega (arith, length-drop a bytes, last_is, at_within os (length bytes) o end (omega (arith, o.filled))))
 
-  -- the text up to an offset
+  -- the bytes up to an offset
   prefix : (k : ℕ) → k < length os → take (there os bytes o k - a) text ≡ run os bytes o 0 k
   prefix k l =
       take-take (there os bytes o k - a) (b - a) (drop a bytes) (omega (arith, below k l)) ∙ rw first_is refl
 
-  -- the bytes between two offsets, as a part of the text
+  -- the bytes between two offsets, as a part of these bytes
   inner : (k : ℕ) → k + 1 < length os → take ((there os bytes o (k + 1) - a) - (there os bytes o k - a)) (drop (there os bytes o k - a) text) ≡ part os bytes k
   inner k l =
       let p = there os bytes o k in

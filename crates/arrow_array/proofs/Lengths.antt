@@ -1,4 +1,4 @@
--- Arrays of one length.
+-- Arrays of the same length.
 use Rattle.std.proofs.Common.{◌≡◌, zero, suc, sym, ap, arith, ℕ, ◌<◌, List, [], ◌∷◌, Some, length, slice_index_or, slice_get, ◌∙◌}
 use Rattle.std.specs.List.{All}
 use Rattle.arrow_array.specs.declared.array.Array.{Array}

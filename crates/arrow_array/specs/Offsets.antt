@@ -35,10 +35,10 @@ pub record IsOffsets (offsets : List ℤ) (n : ℕ) : Type 0 where
 abbrev pub AreUtf8 : List ℤ → List ℕ → Type 0
 AreUtf8 offsets bytes = (k : ℕ) → k + 1 < length offsets → IsUtf8 (part offsets bytes k)
 
--- in a text whose first byte has index start, an offset stands between two characters, at the first, or after the last
+-- in UTF-8 bytes of which the first has index start, an offset stands between two characters, at the first, or after the last
 abbrev pub IsBoundary : List ℕ → ℕ → ℤ → Type 0
-IsBoundary text start (pos a) = IsCharBoundary text (a - start)
-IsBoundary text start (negsuc a) = ⊥
+IsBoundary bytes start (pos a) = IsCharBoundary bytes (a - start)
+IsBoundary bytes start (negsuc a) = ⊥
 
 -- an offset isn't before an index
 abbrev pub IsFrom : ℕ → ℤ → Type 0

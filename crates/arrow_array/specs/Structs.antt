@@ -29,7 +29,7 @@ abbrev pub first_len : List Array → ℕ
 first_len [] = 0
 first_len (child ∷ _) = length (array_slots child)
 
--- parts of an array of structs: at least one child, and all of one length
+-- parts of an array of structs: at least one child, and all of the same length
 pub record StructFits (data_type : DataType) (children : List Array) (validity : Option Packed) : Type 0 where
   pub filled : 0 < length children
   pub kind : IsStructOf data_type children (first_len children)

@@ -1,6 +1,7 @@
 //! An array of any kind.
-ghost use Rattle.std.specs.Prelude.{◌≡◌, ◌+◌, ◌<◌, ◌≤◌, IfOk, IfErr, length, take, drop, All};
+ghost use Rattle.std.specs.Prelude.{◌≡◌, ◌+◌, ◌<◌, ◌≤◌, IfOk, length, take, drop, All};
 ghost use Rattle.std.specs.Option.{option_copied};
+ghost use Rattle.arrow_core.specs.Errors.{OnlyOutOfMemory};
 ghost use Rattle.arrow_core.specs.declared.error.Error.TheVariants.{OutOfMemory};
 ghost use Rattle.arrow_array.specs.Arrays.{TellsValidity, array_type, array_slots};
 ghost use Rattle.arrow_array.specs.Kinds.{array_kind};
@@ -74,7 +75,7 @@ pub enum Array {
 }
 
 impl Array {
-    /// How many slots there are.
+    /// How many slots there are, nulls among them.
     pub fn len(&self) -> usize
         ensures { result ≡ length (array_slots self.now) }
     {
@@ -240,7 +241,7 @@ impl Array {
         ensures data_type { IfOk result (λ a. array_type a ≡ array_type self.now) }
         ensures slots { IfOk result
             (λ a. array_slots a ≡ take count (drop offset (array_slots self.now))) }
-        ensures memory { IfErr result (λ e. e ≡ OutOfMemory) }
+        ensures memory { OnlyOutOfMemory result }
     {
         Ok(match self {
             Array::Null(array) => Array::Null(array.slice(alloc, offset, count)?),

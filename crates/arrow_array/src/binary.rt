@@ -1,6 +1,7 @@
 //! Binary values.
 ghost use Rattle.std.specs.Prelude.{◌≡◌, ℕ, ◌+◌, ◌-◌, ◌<◌, ◌≤◌, ◌↔◌, IsTrue, IfOk, IfErr, length, map, take, drop, vec_len, All};
 ghost use Rattle.std.specs.Option.{option_copied};
+ghost use Rattle.arrow_core.specs.Errors.{OnlyOutOfMemory};
 ghost use Rattle.arrow_core.specs.declared.error.Error.TheVariants.{OutOfMemory};
 ghost use Rattle.arrow_types.specs.declared.slot.Slot.TheVariants.{Binary as BinarySlot};
 ghost use Rattle.arrow_array.specs.Offsets.{IsOffsets};
@@ -136,7 +137,7 @@ impl<O: Offset> BinaryArray<O> {
             (vec_len offsets - 1)) }
         ensures offsets { IfOk result (λ a. a.offsets ≡ map O.number offsets.items) }
         ensures bytes { IfOk result (λ a. a.bytes ≡ values.items) }
-        ensures err { IfErr result (λ e. e ≡ OutOfMemory) }
+        ensures err { OnlyOutOfMemory result }
     {
         let content = both(Buffer::try_from_vec(offsets), Buffer::try_from_vec(values));
         let ((offsets, values), data_type, validity) = beside(content, data_type, validity)?;
@@ -148,7 +149,7 @@ impl<O: Offset> BinaryArray<O> {
         })
     }
 
-    /// How many slots there are.
+    /// How many slots there are, nulls among them.
     pub fn len(&self) -> usize
         ensures { result ≡ length self.now.slots }
     {
@@ -217,7 +218,7 @@ impl<O: Offset> BinaryArray<O> {
         ensures offsets { IfOk result
             (λ a. a.offsets ≡ take (count + 1) (drop offset self.now.offsets)) }
         ensures bytes { IfOk result (λ a. a.bytes ≡ self.now.bytes) }
-        ensures memory { IfErr result (λ e. e ≡ OutOfMemory) }
+        ensures memory { OnlyOutOfMemory result }
     {
         let len = self.len();
         let parts = slice_with_type(alloc, &self.data_type, &self.validity, len, offset, count);

@@ -1,5 +1,6 @@
 //! Buffers of values, which arrays share (Arrow columnar format, "Buffers").
-ghost use Rattle.std.specs.Prelude.{◌≡◌, ◌+◌, ◌<◌, ◌≤◌, length, take, drop, IfOk, IfErr};
+ghost use Rattle.std.specs.Prelude.{◌≡◌, ◌+◌, ◌<◌, ◌≤◌, length, take, drop, IfOk};
+ghost use Rattle.arrow_core.specs.Errors.{OnlyOutOfMemory};
 ghost use Rattle.arrow_core.specs.declared.error.Error.TheVariants.{OutOfMemory};
 
 use arrow_core::Result;
@@ -42,7 +43,7 @@ impl<T: Drop> Buffer<T> {
     /// `OutOfMemory` where no count of owners can be allocated.
     pub(crate) fn try_from_vec(values: Vec<T>) -> Result<Buffer<T>>
         ensures values { IfOk result (λ b. b ≡ values.items) }
-        ensures memory { IfErr result (λ e. e ≡ OutOfMemory) }
+        ensures memory { OnlyOutOfMemory result }
     {
         let count = values.len();
         let values = RcSlice::from_vec(values)?;
@@ -72,7 +73,7 @@ impl<T: Drop> Buffer<T> {
     /// `OutOfMemory` where the memory has too many owners.
     pub(crate) fn try_clone(&self) -> Result<Buffer<T>>
         ensures values { IfOk result (λ b. b ≡ self.now) }
-        ensures memory { IfErr result (λ e. e ≡ OutOfMemory) }
+        ensures memory { OnlyOutOfMemory result }
     {
         let values = self.values.clone()?;
         Ok(Buffer {
@@ -88,7 +89,7 @@ impl<T: Drop> Buffer<T> {
     pub(crate) fn slice(&self, offset: usize, count: usize) -> Result<Buffer<T>>
         requires { offset + count ≤ length self.now }
         ensures values { IfOk result (λ b. b ≡ take count (drop offset self.now)) }
-        ensures memory { IfErr result (λ e. e ≡ OutOfMemory) }
+        ensures memory { OnlyOutOfMemory result }
     {
         let values = self.values.clone()?;
         Ok(Buffer {
@@ -104,7 +105,7 @@ impl<T: Drop> Buffer<T> {
     pub(crate) fn slice_and_next(&self, offset: usize, count: usize) -> Result<Buffer<T>>
         requires { offset + count < length self.now }
         ensures values { IfOk result (λ b. b ≡ take (count + 1) (drop offset self.now)) }
-        ensures memory { IfErr result (λ e. e ≡ OutOfMemory) }
+        ensures memory { OnlyOutOfMemory result }
     {
         let values = self.values.clone()?;
         Ok(Buffer {

@@ -1,4 +1,4 @@
-//! Arrays of one length.
+//! Arrays of the same length.
 ghost use Rattle.std.specs.Prelude.{◌≡◌, ◌+◌, ◌<◌, ◌↔◌, [], List, IsTrue, IfOk, IfErr, length, All, vec_len};
 ghost use Rattle.arrow_core.specs.declared.error.Error.TheVariants.{InvalidArgumentError};
 ghost use Rattle.arrow_core.specs.declared.error.Reason.TheVariants.{Lengths};
@@ -9,7 +9,7 @@ use crate::array::Array;
 use arrow_core::{Error, Reason, Result};
 use std::marker::Model;
 
-/// Arrays of one length, the columns of a table.
+/// Arrays of the same length, the columns of a table.
 #[derive(Drop)]
 pub struct Chunk {
     arrays: Vec<Array>,
@@ -32,7 +32,7 @@ impl Model for Chunk {
     ghost invariant = { λ c. AreSameLength c.arrays.items };
 }
 
-/// Whether the arrays have one length.
+/// Whether the arrays have the same length.
 fn are_same_length(arrays: &[Array]) -> bool
     ensures { IsTrue result ↔ AreSameLength arrays.now }
 {
@@ -71,7 +71,7 @@ impl Chunk {
         }
     }
 
-    /// The arrays, in order.
+    /// The arrays, in the order in which they were given.
     pub fn arrays(&self) -> &[Array]
         ensures arrays { result.now ≡ self.now }
         ensures lengths { AreSameLength self.now }
@@ -79,7 +79,7 @@ impl Chunk {
         &self.arrays
     }
 
-    /// The arrays, in order.
+    /// The arrays, in the order in which they were given, without a copy.
     pub fn into_arrays(self) -> Vec<Array>
         ensures arrays { result.items ≡ self }
         ensures lengths { AreSameLength self }

@@ -1,6 +1,7 @@
 //! Values by their indices in an array of values.
 ghost use Rattle.std.specs.Prelude.{◌≡◌, ◌+◌, ◌<◌, ◌≤◌, ◌↔◌, ℕ, IsTrue, IfOk, IfErr, length, map, take, drop, All};
 ghost use Rattle.std.specs.Option.{option_copied};
+ghost use Rattle.arrow_core.specs.Errors.{OnlyOutOfMemory};
 ghost use Rattle.arrow_core.specs.declared.error.Error.TheVariants.{OutOfMemory};
 ghost use Rattle.arrow_array.specs.Arrays.{array_type, array_slots};
 ghost use Rattle.arrow_array.specs.Dictionaries.{DictionaryFits, IsDictionaryOf, IsKeyInto, keys_slots, keys_type, looked_up};
@@ -145,7 +146,7 @@ impl DictionaryArray {
         })
     }
 
-    /// How many slots there are.
+    /// How many slots there are, nulls among them.
     pub fn len(&self) -> usize
         ensures { result ≡ length self.now.slots }
     {
@@ -219,7 +220,7 @@ impl DictionaryArray {
         ensures slots { IfOk result (λ a. a.slots ≡ take count (drop offset self.now.slots)) }
         ensures keys { IfOk result (λ a. a.keys ≡ take count (drop offset self.now.keys)) }
         ensures items { IfOk result (λ a. a.items ≡ self.now.items) }
-        ensures memory { IfErr result (λ e. e ≡ OutOfMemory) }
+        ensures memory { OnlyOutOfMemory result }
     {
         let child = self.values.get();
         let values = boxed(alloc, child.slice(alloc, 0, child.len()));

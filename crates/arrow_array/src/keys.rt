@@ -1,6 +1,7 @@
 //! The keys of a dictionary.
-ghost use Rattle.std.specs.Prelude.{◌≡◌, ◌+◌, ◌<◌, ◌≤◌, IfOk, IfErr, MatchOption, length, pos, take, drop};
+ghost use Rattle.std.specs.Prelude.{◌≡◌, ◌+◌, ◌<◌, ◌≤◌, IfOk, MatchOption, length, pos, take, drop};
 ghost use Rattle.std.specs.Option.{option_copied};
+ghost use Rattle.arrow_core.specs.Errors.{OnlyOutOfMemory};
 ghost use Rattle.arrow_core.specs.declared.error.Error.TheVariants.{OutOfMemory};
 ghost use Rattle.arrow_types.specs.declared.slot.Slot.TheVariants.{Integer as IntegerSlot};
 ghost use Rattle.arrow_types.specs.Numbers.{IsNegative};
@@ -136,7 +137,7 @@ impl Keys {
         ensures integer_type { IfOk result (λ cut. keys_type cut ≡ keys_type self.now) }
         ensures slots { IfOk result
             (λ cut. keys_slots cut ≡ take count (drop offset (keys_slots self.now))) }
-        ensures memory { IfErr result (λ e. e ≡ OutOfMemory) }
+        ensures memory { OnlyOutOfMemory result }
     {
         Ok(match self {
             Keys::Int8(keys) => Keys::Int8(keys.slice(alloc, offset, count)?),

@@ -1,6 +1,7 @@
 //! Lists with offsets of 32 bits, or of 64.
 ghost use Rattle.std.specs.Prelude.{◌≡◌, ℕ, ◌+◌, ◌-◌, ◌<◌, ◌≤◌, ◌↔◌, false, true, IsTrue, IfOk, IfErr, length, map, take, drop, vec_len, All};
 ghost use Rattle.std.specs.Option.{option_copied};
+ghost use Rattle.arrow_core.specs.Errors.{OnlyOutOfMemory};
 ghost use Rattle.arrow_core.specs.declared.error.Error.TheVariants.{OutOfMemory};
 ghost use Rattle.arrow_types.specs.declared.slot.Slot.TheVariants.{List as ListSlot};
 ghost use Rattle.arrow_array.specs.Arrays.{array_type, array_slots};
@@ -195,7 +196,7 @@ impl ListArray {
         })
     }
 
-    /// How many slots there are.
+    /// How many slots there are, nulls among them.
     pub fn len(&self) -> usize
         ensures { result ≡ length self.now.slots }
     {
@@ -278,7 +279,7 @@ impl ListArray {
         ensures offsets { IfOk result
             (λ a. a.offsets ≡ take (count + 1) (drop offset self.now.offsets)) }
         ensures items { IfOk result (λ a. a.items ≡ self.now.items) }
-        ensures memory { IfErr result (λ e. e ≡ OutOfMemory) }
+        ensures memory { OnlyOutOfMemory result }
     {
         let child = self.values.get();
         let values = boxed(alloc, child.slice(alloc, 0, child.len()));
@@ -339,7 +340,7 @@ impl LargeListArray {
         })
     }
 
-    /// How many slots there are.
+    /// How many slots there are, nulls among them.
     pub fn len(&self) -> usize
         ensures { result ≡ length self.now.slots }
     {
@@ -422,7 +423,7 @@ impl LargeListArray {
         ensures offsets { IfOk result
             (λ a. a.offsets ≡ take (count + 1) (drop offset self.now.offsets)) }
         ensures items { IfOk result (λ a. a.items ≡ self.now.items) }
-        ensures memory { IfErr result (λ e. e ≡ OutOfMemory) }
+        ensures memory { OnlyOutOfMemory result }
     {
         let child = self.values.get();
         let values = boxed(alloc, child.slice(alloc, 0, child.len()));

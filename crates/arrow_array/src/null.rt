@@ -1,6 +1,7 @@
 //! Nulls.
 ghost use Rattle.std.specs.Prelude.{◌≡◌, false, ◌+◌, ◌<◌, ◌≤◌, ◌↔◌, IsTrue, IfOk, IfErr, length, take, drop, None, All};
 ghost use Rattle.std.specs.Option.{option_copied};
+ghost use Rattle.arrow_core.specs.Errors.{OnlyOutOfMemory};
 ghost use Rattle.arrow_core.specs.declared.error.Error.TheVariants.{OutOfMemory};
 ghost use Rattle.arrow_types.specs.declared.types.DataType.TheVariants.{Null};
 ghost use Rattle.arrow_array.specs.SlotTypes.{SlotOf};
@@ -60,7 +61,7 @@ impl NullArray {
         Ok(NullArray { data_type, count })
     }
 
-    /// How many slots there are.
+    /// How many slots there are. Each is null.
     pub fn len(&self) -> usize
         ensures { result ≡ length self.now.slots }
     {
@@ -108,7 +109,7 @@ impl NullArray {
         requires { _offset + count ≤ length self.now.slots }
         ensures data_type { IfOk result (λ a. a.data_type ≡ self.now.data_type) }
         ensures slots { IfOk result (λ a. a.slots ≡ take count (drop _offset self.now.slots)) }
-        ensures memory { IfErr result (λ e. e ≡ OutOfMemory) }
+        ensures memory { OnlyOutOfMemory result }
     {
         let data_type = self.data_type.try_clone(alloc)?;
         Ok(NullArray { data_type, count })

@@ -1,6 +1,7 @@
 //! Structs.
 ghost use Rattle.std.specs.Prelude.{◌≡◌, ℕ, ◌+◌, ◌<◌, ◌≤◌, ◌↔◌, IsTrue, IfOk, IfErr, length, map, take, drop, All};
 ghost use Rattle.std.specs.Option.{option_copied};
+ghost use Rattle.arrow_core.specs.Errors.{OnlyOutOfMemory};
 ghost use Rattle.arrow_core.specs.declared.error.Error.TheVariants.{OutOfMemory};
 ghost use Rattle.arrow_array.specs.Arrays.{array_type, array_slots};
 ghost use Rattle.arrow_array.specs.Kinds.{IsStructType};
@@ -134,7 +135,7 @@ impl StructArray {
         })
     }
 
-    /// How many slots there are.
+    /// How many slots there are, nulls among them.
     pub fn len(&self) -> usize
         ensures { result ≡ length self.now.slots }
     {
@@ -193,7 +194,7 @@ impl StructArray {
         requires { offset + count ≤ length self.now.slots }
         ensures data_type { IfOk result (λ a. a.data_type ≡ self.now.data_type) }
         ensures slots { IfOk result (λ a. a.slots ≡ take count (drop offset self.now.slots)) }
-        ensures memory { IfErr result (λ e. e ≡ OutOfMemory) }
+        ensures memory { OnlyOutOfMemory result }
     {
         let values = slice_all(self.values.as_slice(), alloc, offset, count);
         let len = self.count;
@@ -213,7 +214,7 @@ impl StructArray {
 fn slice_all(arrays: &[Array], alloc: Global, offset: usize, count: usize) -> Result<Vec<Array>>
     requires { HaveSlots (offset + count) arrays.now }
     ensures cuts { IfOk result (λ slices. AreCuts offset count arrays.now slices.items) }
-    ensures memory { IfErr result (λ e. e ≡ OutOfMemory) }
+    ensures memory { OnlyOutOfMemory result }
 {
     let mut slices = Vec::new(alloc);
     for array in arrays {

@@ -1,6 +1,7 @@
 //! Strings.
 ghost use Rattle.std.specs.Prelude.{◌≡◌, ℕ, ◌+◌, ◌-◌, ◌<◌, ◌≤◌, ◌↔◌, IsTrue, IfOk, IfErr, length, map, take, drop, vec_len, All};
 ghost use Rattle.std.specs.Option.{option_copied};
+ghost use Rattle.arrow_core.specs.Errors.{OnlyOutOfMemory};
 ghost use Rattle.arrow_core.specs.declared.error.Error.TheVariants.{OutOfMemory};
 ghost use Rattle.arrow_types.specs.declared.slot.Slot.TheVariants.{String as StringSlot};
 ghost use Rattle.arrow_array.specs.Offsets.{IsOffsets, IsBoundary, IsFrom, AreUtf8, offset_at};
@@ -63,17 +64,17 @@ fn is_utf8_type<O: Offset>(data_type: &DataType) -> bool
     }
 }
 
-/// Whether each offset stands between two characters of the text, whose first byte has index
+/// Whether each offset stands between two characters of the string, whose first byte has index
 /// `start`.
-fn are_boundaries<O: Offset>(offsets: &[O], text: &str, start: usize) -> bool
+fn are_boundaries<O: Offset>(offsets: &[O], string: &str, start: usize) -> bool
     requires from { (k : ℕ) → k < length offsets.now
         → IsFrom start (offset_at (map O.number offsets.now) k) }
     ensures { IsTrue result
         ↔ ((k : ℕ) → k < length offsets.now
-        → IsBoundary text.now start (offset_at (map O.number offsets.now) k)) }
+        → IsBoundary string.now start (offset_at (map O.number offsets.now) k)) }
 {
     for i in 0..offsets.len() {
-        if !text.is_char_boundary(offset(offsets, i) - start) {
+        if !string.is_char_boundary(offset(offsets, i) - start) {
             return false;
         }
     }
@@ -88,7 +89,7 @@ fn are_utf8<O: Offset>(offsets: &[O], values: &[u8]) -> bool
 {
     let (start, end) = whole_bounds(offsets, values.len());
     match from_utf8(&values[start..end]) {
-        Ok(text) => are_boundaries(offsets, text, start),
+        Ok(string) => are_boundaries(offsets, string, start),
         Err(_) => false,
     }
 }
@@ -171,7 +172,7 @@ impl<O: Offset> Utf8Array<O> {
             (vec_len offsets - 1)) }
         ensures offsets { IfOk result (λ a. a.offsets ≡ map O.number offsets.items) }
         ensures bytes { IfOk result (λ a. a.bytes ≡ values.items) }
-        ensures err { IfErr result (λ e. e ≡ OutOfMemory) }
+        ensures err { OnlyOutOfMemory result }
     {
         let content = both(Buffer::try_from_vec(offsets), Buffer::try_from_vec(values));
         let ((offsets, values), data_type, validity) = beside(content, data_type, validity)?;
@@ -183,7 +184,7 @@ impl<O: Offset> Utf8Array<O> {
         })
     }
 
-    /// How many slots there are.
+    /// How many slots there are, nulls among them.
     pub fn len(&self) -> usize
         ensures { result ≡ length self.now.slots }
     {
@@ -239,9 +240,9 @@ impl<O: Offset> Utf8Array<O> {
         ensures { IsTrue (is_held (slot_at self.now.slots i))
             → slot_at self.now.slots i ≡ StringSlot result.now }
     {
-        let text = part_of(self.offsets.as_slice(), self.values.as_slice(), i);
+        let string = part_of(self.offsets.as_slice(), self.values.as_slice(), i);
         // The constructors have seen that these bytes are UTF-8.
-        unsafe { str::from_utf8_unchecked(text) }
+        unsafe { str::from_utf8_unchecked(string) }
     }
 
     /// The `count` slots from index `offset` on. It shares the buffers.
@@ -254,7 +255,7 @@ impl<O: Offset> Utf8Array<O> {
         ensures offsets { IfOk result
             (λ a. a.offsets ≡ take (count + 1) (drop offset self.now.offsets)) }
         ensures bytes { IfOk result (λ a. a.bytes ≡ self.now.bytes) }
-        ensures memory { IfErr result (λ e. e ≡ OutOfMemory) }
+        ensures memory { OnlyOutOfMemory result }
     {
         let len = self.len();
         let parts = slice_with_type(alloc, &self.data_type, &self.validity, len, offset, count);

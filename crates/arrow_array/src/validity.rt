@@ -1,5 +1,6 @@
 //! A validity bitmap, which may be missing (Arrow columnar format, "Validity bitmaps").
-ghost use Rattle.std.specs.Prelude.{◌≡◌, ◌+◌, ◌<◌, ◌≤◌, ◌↔◌, IsTrue, IfOk, IfErr};
+ghost use Rattle.std.specs.Prelude.{◌≡◌, ◌+◌, ◌<◌, ◌≤◌, ◌↔◌, IsTrue, IfOk};
+ghost use Rattle.arrow_core.specs.Errors.{OnlyOutOfMemory};
 ghost use Rattle.arrow_core.specs.declared.error.Error.TheVariants.{OutOfMemory};
 ghost use Rattle.arrow_array.specs.Parts.{IsCutOf, IsValidityOf};
 ghost use Rattle.arrow_array.specs.Slots.{valid_at};
@@ -44,7 +45,7 @@ pub(crate) fn slice(
     requires fits { IsValidityOf validity.now len }
     requires within { offset + count ≤ len }
     ensures cut { IfOk result (IsCutOf validity.now offset count) }
-    ensures memory { IfErr result (λ e. e ≡ OutOfMemory) }
+    ensures memory { OnlyOutOfMemory result }
 {
     match validity {
         None => Ok(None),
@@ -67,7 +68,7 @@ pub(crate) fn slice_with_type(
     requires within { offset + count ≤ len }
     ensures data_type { IfOk result (λ p. p.0 ≡ data_type.now) }
     ensures cut { IfOk result (λ p. IsCutOf validity.now offset count p.1) }
-    ensures memory { IfErr result (λ e. e ≡ OutOfMemory) }
+    ensures memory { OnlyOutOfMemory result }
 {
     both(
         data_type.try_clone(alloc),

@@ -8,6 +8,6 @@ use Rattle.std.proofs.Math.Seq.{take-append_seam}
 pub take-prefix : (prefix rest : List ℕ) (n : ℕ) → length prefix ≡ n → take n (prefix ++ rest) ≡ prefix
 take-prefix prefix rest n e = grind (arith, common_steps, take-append_seam prefix rest)
 
--- the bytes from a place on are the next n, and those from n further on
+-- the bytes from an index on are the next n, and those from n further on
 pub drop-split : (xs : List ℕ) (at n : ℕ) → drop at xs ≡ take n (drop at xs) ++ drop (at + n) xs
 drop-split xs at n = grind (arith, common_steps, take-append-drop n (drop at xs))

@@ -7,8 +7,8 @@ abbrev pub held_of : MemorySink → List ℕ
 held_of sink = sink.bytes.items
 
 -- how many bytes it takes in all
-abbrev pub room_of : MemorySink → ℕ
-room_of sink = sink.room
+abbrev pub capacity_of : MemorySink → ℕ
+capacity_of sink = sink.capacity
 
 -- how many bytes a write takes at most
 abbrev pub piece_of : MemorySink → ℕ

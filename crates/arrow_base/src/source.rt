@@ -16,8 +16,8 @@ pub trait Source {
     // Which reference it is, where it is one.
     ghost whose: { Self → ℕ } = { λ _. 0 };
 
-    /// Puts the next bytes at the start of the buffer, which isn't empty, and answers how many; 0 at
-    /// the end alone. `Failed` is answered only where the count of faults rose, or stands at its
+    /// Puts the next bytes at the start of the buffer, which isn't empty, and answers how many; 0
+    /// at the end alone. `Failed` is answered only where the count of faults rose, or stands at its
     /// last value; no byte is lost then.
     fn read(&mut self, buffer: &mut [u8]) -> std::result::Result<usize, Failed>
         requires { 0 < length buffer.old }

@@ -162,7 +162,8 @@ fn write_escaped<K: Sink>(sink: &mut K, text: &[u8]) -> Result<()>
 pub fn write_str<K: Sink>(sink: &mut K, value: &str) -> Result<()>
     ensures ok { OnOk result (Appends (K.held sink.old) (K.held sink.new) (json_string value.now)) }
     ensures reads_back { JsonString (json_string value.now) value.now }
-    ensures one_meaning { (other : List ℕ) → JsonString (json_string value.now) other → other ≡ value.now }
+    ensures one_meaning { (other : List ℕ) → JsonString (json_string value.now) other
+        → other ≡ value.now }
     ensures only { IfErr result (λ e. e ≡ Error.WriteFault) }
     ensures prefix { OnErr result
         (AppendsPrefix (K.held sink.old) (K.held sink.new) (json_string value.now)) }

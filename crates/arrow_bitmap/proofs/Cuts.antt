@@ -1,4 +1,4 @@
--- A cut of a list that is made by place.
+-- A cut of a list that is made by index.
 use Rattle.std.proofs.Common.{◌≡◌, sym, ℕ, zero, suc, ◌+◌, ◌-◌, ◌<◌, ◌≤◌, map, take, drop, refl, arith}
 use Rattle.std.specs.List.{range_with_len}
 use native.Mathlib.Numerals.{unary_clauses}
@@ -9,13 +9,13 @@ drop_made f s a zero m k e h = let p : s ≡ a = omega (arith, e) in let q : m �
 drop_made f s a (suc o) zero k e h = absurd (omega (arith, h))
 drop_made f s a (suc o) (suc m) k e h = drop_made f (s + 1) a o m k (omega (arith, e)) (omega (arith, h))
 
--- k places from place o on
+-- k indices from index o on
 pub cut_made : {X : Type 0} (f : ℕ → X) (s a o m k : ℕ) → s + o ≡ a → o + k ≤ m → map f (range_with_len a k) ≡ take k (drop o (map f (range_with_len s m)))
 cut_made f s a o m k e h =
     let d : drop o (map f (range_with_len s m)) ≡ map f (range_with_len a (m - o)) = drop_made f s a o m (m - o) e (omega (arith, h)) in
     rw d (sym (take-map-range_with_len f a (m - o) k (omega (arith, h))))
 
--- the same items, counted from another place
+-- the same items, counted from another index
 pub made_alike : {X : Type 0} (f g : ℕ → X) (s a n : ℕ) → ((i : ℕ) → i < n → f (s + i) ≡ g (a + i)) → map f (range_with_len s n) ≡ map g (range_with_len a n)
 made_alike f g s a zero h = refl
 made_alike f g s a (suc n) h =

@@ -149,8 +149,8 @@ impl Bitmap {
         (words[bit / 64] >> (bit % 64)) & 1 == 1
     }
 
-    /// The words from that of the first value on, as many as the values reach at least: value `i` is
-    /// bit `offset + i` of them.
+    /// The words from that of the first value on, as many as the values reach at least: value `i`
+    /// is bit `offset + i` of them.
     pub fn words(&self) -> &[u64]
         ensures words { result.now ≡ self.now.words }
         ensures booleans { self.now.booleans

@@ -22,13 +22,13 @@ found_at-append (x ∷ xs) ys n = split (found_at-append xs ys (n - 1)) (nat_eq 
     split again true = refl
     split again false = again
 
--- the nodes beneath the children from place i on are those of child i, and then those of the rest
+-- the nodes beneath the children from index i on are those of child i, and then those of the rest
 pub find-step : (bs : List MutableArray) (b : MutableArray) (i n : ℕ) → i < length bs → b ≡ get_or bs i b → found_at (all_nodes (drop i bs)) n ≡ or_at (all_nodes (drop (i + 1) bs)) (found_at (nodes b) n)
 find-step bs b i n lt e =
     let d : drop i bs ≡ b ∷ drop (i + 1) bs = rw add-one (drop-cons bs i b lt ∙ ap (λ (x : MutableArray). x ∷ drop (suc i) bs) (sym e)) in
     ap (λ (cs : List MutableArray). found_at (all_nodes cs) n) d ∙ found_at-append (nodes b) (all_nodes (drop (i + 1) bs)) n
 
--- past the first node the place is counted from the node after it
+-- past the first node the index is counted from the node after it
 pub find-behind : (x : Node) (xs : List Node) (here : NodeLengths) (n left : ℕ) (r : Result NodeLengths ℕ) → cond (nat_eq n 0) (Ok here) (Err (n - 1)) ≡ Err left → r ≡ found_at xs left → r ≡ found_at (x ∷ xs) n
 find-behind x xs here n left r e h = h ∙ split (nat_eq n 0) e
   where

@@ -115,7 +115,7 @@ AllTake-more (a ∷ ps) (b ∷ bs) (x ∷ xs) (y ∷ ys) l h = (Takes-more a.slo
 pub AllTake-append : (ps bs : List Added) (xs ys us vs : List Node) → AllTake ps xs ys → AllTake bs us vs → AllTake (ps ++ bs) (xs ++ us) (ys ++ vs)
 AllTake-append ps bs xs ys us vs h k = AllAdded-append (λ a x y. Takes a.slots a.bytes x y) ps bs xs ys us vs h k
 
--- where there is room for all, there is room for the next after the first were taken
+-- where there is spare capacity for all, there is for the next after the first were taken
 FitsIn-after : (a b c d e f : ℕ) (x y : Node) → FitsIn (record { slots = a + c + e; bytes = b + d + f }) x → Takes a b x y → FitsIn (record { slots = c; bytes = d }) y
 FitsIn-after a b c d e f x y r h = record { slots = omega (arith, r.slots, h.slots_added, h.slot_capacity); bytes = omega (arith, r.bytes, h.bytes_added, h.byte_capacity) }
 

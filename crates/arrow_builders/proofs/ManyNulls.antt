@@ -27,7 +27,7 @@ module _ (b c : MutableArray) (i : ℕ) (s : shape c ≡ shape b) (h : AllTake (
       let t = AllTake-more (nulls_in (i + 1) (shape b)) (nulls_in r (shape b)) (nodes b) (nodes d) (length-nulls (i + 1) r (shape b)) (one_more d k) in
       subst (λ (zs : List Added). AllTake zs (nodes b) (nodes d)) (sym (nulls-sum (i + 1) r (shape b)) ∙ ap (λ n. nulls_in n (shape b)) e) t
 
-  -- the next has room, where all have
+  -- the next has spare capacity, where all have
   pub next_fits : (count : ℕ) → i < count → AllZip FitsIn (nulls_in count (shape b)) (nodes b) → AllZip FitsIn (nulls_in 1 (shape c)) (nodes c)
   next_fits count l r =
       let m : ℕ = count - (i + 1) in
@@ -37,13 +37,13 @@ module _ (b c : MutableArray) (i : ℕ) (s : shape c ≡ shape b) (h : AllTake (
       let q = subst (λ (zs : List Added). AllZip FitsIn zs (nodes b)) parts r in
       subst (λ z. AllZip FitsIn (nulls_in 1 z) (nodes c)) (sym s) (AllFitsIn-after (nulls_in i (shape b)) (nulls_in 1 (shape b)) (nulls_in m (shape b)) (nodes b) (nodes c) (length-nulls i 1 (shape b)) h q)
 
--- each child has room, where all have
+-- each child has spare capacity, where all have
 pub child_fits : (n i : ℕ) (bs : List MutableArray) (x : MutableArray) → i < length bs → AllZip FitsIn (nulls_in n (fields_of (map shape bs))) (all_nodes bs) → AllZip FitsIn (nulls_in n (shape (get_or bs i x))) (nodes (get_or bs i x))
 child_fits n i [] x l r = absurd (omega (arith, l))
 child_fits n zero (b ∷ bs) x l r = AllFitsIn-prefix (nulls_in n (shape b)) (nulls_in n (fields_of (map shape bs))) (nodes b) (all_nodes bs) (nulls-fit n b) r
 child_fits n (suc i) (b ∷ bs) x l r = child_fits n i bs x (omega (arith, l)) (AllFitsIn-back (nulls_in n (shape b)) (nulls_in n (fields_of (map shape bs))) (nodes b) (all_nodes bs) (nulls-fit n b) r)
 
--- ---- a null of a builder of records
+-- ---- a null of a builder of structs
 
 pub record_takes : (b d : DynMutableStructArray) → Takes 1 0 (marks_node b.marks) (marks_node d.marks) → AllTake (nulls_in 1 (fields_of (map shape b.values.items))) (all_nodes b.values.items) (all_nodes d.values.items)
     → AllTake (nulls_at 1 (Struct b)) (nodes (Struct b)) (nodes (Struct d))

@@ -70,11 +70,11 @@ record-null bs k = ap slot.Struct (fields-null bs k)
 pub fixed_null : (size now n : ℕ) (xs ys : List Slot) (ts ss : List Bool) → now ≡ size → ys ≡ xs ++ null_slots n → ss ≡ ts ++ false ∷ [] → slots_where ss (fixed_list_slot now ys) ≡ slots_where ts (fixed_list_slot size xs) ++ slot.Null ∷ []
 fixed_null size now n xs ys ts ss e d s = rw (e, d) (slots_where-push (fixed_list_slot size xs) (fixed_list_slot size (xs ++ null_slots n)) ts ss false s (λ k l. fixed_list-nulls size n xs k))
 
--- a null record, beneath which each child takes a null
+-- a null struct, beneath which each child takes a null
 pub record_null : (bs cs : List MutableArray) (ts ss : List Bool) → map builder_slots cs ≡ map (λ b. builder_slots b ++ slot.Null ∷ []) bs → ss ≡ ts ++ false ∷ [] → slots_where ss (record_at (map builder_slots cs)) ≡ slots_where ts (record_at (map builder_slots bs)) ++ slot.Null ∷ []
 record_null bs cs ts ss e s = rw e (slots_where-push (record_at (map builder_slots bs)) (record_at (map (λ b. builder_slots b ++ slot.Null ∷ []) bs)) ts ss false s (λ k l. record-null bs k))
 
--- ---- one list more, of one length
+-- ---- one list more, of the length that each has
 
 pub fixed_list-rest : (size n : ℕ) (xs : List Slot) → length xs ≡ (n + 1) * size → fixed_list_slot size xs n ≡ slot.List (drop (n * size) xs)
 fixed_list-rest size n xs l =
@@ -86,7 +86,7 @@ fixed_more size now xs ts ss e l s =
     let p : slots_where ss (fixed_list_slot size xs) ≡ slots_where ts (fixed_list_slot size xs) ++ fixed_list_slot size xs (length ts) ∷ [] = slots_where-push (fixed_list_slot size xs) (fixed_list_slot size xs) ts ss true s (λ k h. refl) in
     rw e (p ∙ ap (λ x. slots_where ts (fixed_list_slot size xs) ++ x ∷ []) (fixed_list-rest size (length ts) xs l))
 
--- a valid record is that of the children's slots at its place
+-- a valid struct is that of the children's slots at its index
 pub record_more : (children : List (List Slot)) (ts ss : List Bool) → ss ≡ ts ++ true ∷ [] → slots_where ss (record_at children) ≡ slots_where ts (record_at children) ++ record_at children (length ts) ∷ []
 record_more children ts ss s = slots_where-push (record_at children) (record_at children) ts ss true s (λ k h. refl)
 

@@ -64,7 +64,7 @@ one_more_null b c d i s h k =
     let both = AllAdded-then (λ a x y. y ≡ x ++ null_slots a.slots) (λ p q x y z f g. g ∙ ap (λ (xs : List Slot). xs ++ null_slots q.slots) f ∙ nulls-append x p.slots q.slots) (nulls_in i (shape b)) (nulls_in 1 (shape b)) (slots_at b) (slots_at c) (slots_at d) h t in
     subst (λ (ps : List Added). AllGetNulls ps (slots_at b) (slots_at d)) (sym (nulls-sum i 1 (shape b))) both
 
--- ---- a null of a builder of records
+-- ---- a null of a builder of structs
 
 pub record_nulls : (b d : DynMutableStructArray) → builder_slots (Struct d) ≡ builder_slots (Struct b) ++ slot.Null ∷ [] → AllGetNulls (nulls_in 1 (fields_of (map shape b.values.items))) (all_slots b.values.items) (all_slots d.values.items)
     → AllGetNulls (nulls_at 1 (Struct b)) (slots_at (Struct b)) (slots_at (Struct d))

@@ -1,4 +1,4 @@
--- When fixed-size lists, and records, make arrays.
+-- When fixed-size lists, and structs, make arrays.
 use Rattle.std.proofs.Common.{◌≡◌, ap, ◌∙◌, sym, ℕ, ◌+◌, ◌*◌, ◌/◌, ◌%◌, ◌<◌, List, [], ◌∷◌, map, length, Some, refl, arith, subst, All}
 use Rattle.std.proofs.Math.Nat.{mul-mod_left, mul-div_cancel, div-add-mod, mul_comm}
 use Rattle.std.proofs.lemmas.List.{length-map}
@@ -32,7 +32,7 @@ fixed_fit t item count n v P p h l =
     let g : size * count ≡ count * size = mul_comm size count in
     record { filled = h.filled; kind = h.kind; whole = omega (arith, f, g); below = p }
 
--- ---- records
+-- ---- structs
 
 children_are : (n : ℕ) (fields : List Field) (children : List Array) → map (λ f. f.data_type) fields ≡ map array_type children → All (λ slots. length slots ≡ n) (map array_slots children) → AreChildren n fields children
 children_are n [] [] e l = tt

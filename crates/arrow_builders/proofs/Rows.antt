@@ -1,4 +1,4 @@
--- What is said of a builder of records, over the list of its children.
+-- What is said of a builder of structs, over the list of its children.
 use Rattle.std.proofs.Common.{◌≡◌, ap, ◌∙◌, sym, subst, arith, ℕ, List, ◌∷◌, ◌++◌, map, length, Vec, Global, refl}
 use Rattle.std.specs.Vec.{with_items}
 use Rattle.std.proofs.lemmas.List.{length-map, with_items_is}
@@ -83,7 +83,7 @@ tight-record b =
     let row = row_of (Struct b) in
     tight-row row.0 (length b.marks.booleans) row.1 ∙ ap (AllTight (length b.marks.booleans)) (items_hidden-the_row-MutableArray-0 b.values)
 
--- ---- from one builder of records to another
+-- ---- from one builder of structs to another
 
 pub shape_same : (b d : DynMutableStructArray) → d.marks.data_type ≡ b.marks.data_type → map shape d.values.items ≡ map shape b.values.items → shape (Struct d) ≡ shape (Struct b)
 shape_same b d t s = shape-record d ∙ rw (t, s) refl ∙ sym (shape-record b)

@@ -42,7 +42,7 @@ pub drop_front : (xs ys : List Slot) → drop (length xs) (xs ++ ys) ≡ ys
 drop_front [] ys = refl
 drop_front (x ∷ xs) ys = drop_front xs ys
 
--- ---- records
+-- ---- structs
 
 -- each child's slots with its slot of a row after them
 abbrev pub grown : List (List Slot) → List Slot → List (List Slot)

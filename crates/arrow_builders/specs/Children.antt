@@ -1,4 +1,4 @@
--- Several builders side by side, as the children of a builder of records.
+-- Several builders side by side, as the children of a builder of structs.
 use Rattle.std.specs.Prelude.{ℕ, List, [], ◌∷◌, ◌++◌, map}
 use Rattle.arrow_types.specs.declared.slot.Slot.{Slot}
 use Rattle.arrow_builders.specs.Fits.{ChildrenFit}
@@ -17,7 +17,7 @@ abbrev pub all_slots : List MutableArray → List (List Slot)
 all_slots [] = []
 all_slots (b ∷ bs) = slots_at b ++ all_slots bs
 
--- the shapes of a record's children
+-- the shapes of a struct's children
 abbrev pub fields_of : List Shape → Shape
 fields_of [] = no_field
 fields_of (s ∷ more) = field s (fields_of more)

@@ -65,7 +65,7 @@ builder_kind (FixedSizeList' marks p child) = physical.FixedSizeList
 builder_kind (Struct' marks size row) = physical.Struct
 builder_kind (Dictionary b) = physical.Dictionary integer.Int32
 
--- The slots. Where a child has fewer than its parent's lists or records reach, the missing ones count as null.
+-- The slots. Where a child has fewer than its parent's lists or structs reach, the missing ones count as null.
 abbrev mutual
   pub builder_slots : MutableArray → List Slot
   builder_slots (Null b) = b.slots
@@ -126,7 +126,7 @@ abbrev mutual
   nodes_below end_of-MutableArray = []
   nodes_below (more_of-MutableArray b rest) = nodes b ++ nodes_below rest
 
--- the slots at each node in preorder, those of a child too that its parent's lists or records don't reach
+-- the slots at each node in preorder, those of a child too that its parent's lists or structs don't reach
 abbrev mutual
   pub slots_at : MutableArray → List (List Slot)
   slots_at (List' lists p child) = builder_slots (List' lists p child) ∷ slots_at child
@@ -139,11 +139,11 @@ abbrev mutual
   slots_at_below end_of-MutableArray = []
   slots_at_below (more_of-MutableArray b rest) = slots_at b ++ slots_at_below rest
 
--- the types of a record's children
+-- the types of a struct's children
 abbrev pub types_below : {m : _} → Row_of-MutableArray m → List DataType
 types_below end_of-MutableArray = []
 types_below (more_of-MutableArray b rest) = builder_type b ∷ types_below rest
 
--- what a node holds, without its room
+-- what a node holds, without its spare capacity
 abbrev pub lengths_of : Node → NodeLengths
 lengths_of x = record { slots = x.slots; bytes = x.bytes }

@@ -72,7 +72,7 @@ abbrev pub null_bytes : PhysicalType → DataType → ℕ
 null_bytes physical.FixedSizeBinary data_type = byte_width data_type
 null_bytes _ data_type = 0
 
--- what n nulls add at each node, in preorder: nothing beneath lists, n nulls beneath records, and beneath fixed-size lists as many as n lists have items
+-- what n nulls add at each node, in preorder: nothing beneath lists, n nulls beneath structs, and beneath fixed-size lists as many as n lists have items
 abbrev pub nulls_in : ℕ → Shape → List Added
 nulls_in n (flat kind data_type) = record { slots = n; bytes = n * null_bytes kind data_type } ∷ []
 nulls_in n (dictionary data_type items) = record { slots = n; bytes = 0 } ∷ []

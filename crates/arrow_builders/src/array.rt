@@ -2,6 +2,7 @@
 
 ghost use Rattle.std.specs.Prelude.{◌≡◌, false, ◌≤◌, ◌++◌, ◌∷◌, [], length, option_map, slice_get, IsOk, IfOk, IfErr, OnOk, OnErr};
 ghost use Rattle.std.specs.List.{All, AllZip};
+ghost use Rattle.arrow_core.specs.Errors.{OnlyOutOfMemory};
 ghost use Rattle.arrow_core.specs.declared.error.Error.TheVariants.{OutOfMemory};
 ghost use Rattle.arrow_types.specs.Layouts.{physical_type};
 ghost use Rattle.arrow_types.specs.declared.slot.Slot.TheVariants.{Null as NullSlot};
@@ -106,7 +107,7 @@ macro_rules! for_each_kind {
 }
 
 impl MutableArray {
-    /// How many slots there are. It takes no memory.
+    /// How many slots there are, nulls among them. It takes no memory.
     pub fn len(&self) -> usize
         ensures { result ≡ length (builder_slots self.now) }
     {
@@ -117,7 +118,8 @@ impl MutableArray {
     /// takes no memory.
     pub fn data_type(&self) -> &DataType
         ensures same { result.now ≡ builder_type self.now }
-        ensures kind { IsFlat self.now → physical_type (builder_type self.now) ≡ builder_kind self.now }
+        ensures kind { IsFlat self.now
+            → physical_type (builder_type self.now) ≡ builder_kind self.now }
         ensures plain { IsFlat self.now → is_extension (builder_type self.now) ≡ false }
     {
         for_each_kind!(self, builder => builder.data_type())
@@ -146,19 +148,24 @@ impl MutableArray {
         ensures shape { shape self.new ≡ shape self.old }
         ensures kind { builder_kind self.new ≡ builder_kind self.old }
         ensures data_type { builder_type self.new ≡ builder_type self.old }
-        ensures ok { OnOk result (builder_slots self.new ≡ builder_slots self.old ++ NullSlot ∷ []) }
-        ensures below { OnOk result (AllGetNulls (nulls_at 1 self.old) (slots_at self.old) (slots_at self.new)) }
-        ensures bytes { OnOk result (AllGetBytes (nulls_at 1 self.old) (nodes self.old) (nodes self.new)) }
+        ensures ok { OnOk result
+            (builder_slots self.new ≡ builder_slots self.old ++ NullSlot ∷ []) }
+        ensures below { OnOk result
+            (AllGetNulls (nulls_at 1 self.old) (slots_at self.old) (slots_at self.new)) }
+        ensures bytes { OnOk result
+            (AllGetBytes (nulls_at 1 self.old) (nodes self.old) (nodes self.new)) }
         ensures tight { OnOk result (IsTight self.old → IsTight self.new) }
-        ensures refused { OnErr result (IsFlat self.old → builder_slots self.new ≡ builder_slots self.old) }
-        ensures refused_capacity { OnErr result (IsFlat self.old → AllZip NoLessSpare (nodes self.old) (nodes self.new)) }
+        ensures refused { OnErr result
+            (IsFlat self.old → builder_slots self.new ≡ builder_slots self.old) }
+        ensures refused_capacity { OnErr result
+            (IsFlat self.old → AllZip NoLessSpare (nodes self.old) (nodes self.new)) }
 
         // Where only slots lack capacity, not even the capacity changes.
         ensures err { OnErr result (IsFlat self.old
             → AllZip BytesFitIn (nulls_at 1 self.old) (nodes self.old)
             → self.new ≡ self.old) }
 
-        ensures memory { IfErr result (λ e. e ≡ OutOfMemory) }
+        ensures memory { OnlyOutOfMemory result }
         ensures takes { AllTake (nulls_at 1 self.old) (nodes self.old) (nodes self.new) }
         ensures has_capacity { AllZip FitsIn (nulls_at 1 self.old) (nodes self.old) → IsOk result }
     {
@@ -177,7 +184,7 @@ impl MutableArray {
         ensures tight { IsTight self.old → IsTight self.new }
         ensures capacity { AllZip NoLessSpare (nodes self.old) (nodes self.new) }
         ensures ok { OnOk result (All (HasSpare bytes) (nodes self.new)) }
-        ensures memory { IfErr result (λ e. e ≡ OutOfMemory) }
+        ensures memory { OnlyOutOfMemory result }
     {
         self.reserve_nodes(bytes)
     }
@@ -210,7 +217,9 @@ impl MutableArray {
         ensures emptied { OnOk result (All IsEmpty (nodes self.new)) }
         ensures fits { OnOk result (ChildrenFit self.old) }
         ensures err { IfErr result (IsRefusalOf (ChildrenFit self.old)) }
-        ensures memory { TypesFit (shape self.old) → IsTight self.old → IfErr result (λ e. e ≡ OutOfMemory) }
+        ensures memory { TypesFit (shape self.old)
+            → IsTight self.old
+            → OnlyOutOfMemory result }
     {
         self.box_nodes()
     }

@@ -1,7 +1,8 @@
 //! A builder of fixed-size lists.
 
-ghost use Rattle.std.specs.Prelude.{◌≡◌, ◌+◌, ◌*◌, ◌≤◌, ◌++◌, ◌∷◌, [], true, length, drop, IsOk, IfOk, IfErr, OnOk, OnErr};
+ghost use Rattle.std.specs.Prelude.{◌≡◌, ◌+◌, ◌*◌, ◌≤◌, ◌++◌, ◌∷◌, [], true, length, drop, IsOk, IfOk, OnOk, OnErr};
 ghost use Rattle.std.specs.Borrow.{sem};
+ghost use Rattle.arrow_core.specs.Errors.{OnlyOutOfMemory};
 ghost use Rattle.arrow_core.specs.declared.error.Error.TheVariants.{OutOfMemory};
 ghost use Rattle.arrow_types.specs.declared.slot.Slot.TheVariants.{List as ListSlot};
 ghost use Rattle.arrow_array.specs.FixedLists.{list_size};
@@ -63,7 +64,7 @@ impl MutableFixedSizeListArray {
         ensures tight { IsTight values
             → builder_slots values ≡ []
             → IfOk result (λ b. IsTight (FixedSizeList b)) }
-        ensures memory { IfErr result (λ e. e ≡ OutOfMemory) }
+        ensures memory { OnlyOutOfMemory result }
     {
         let values = Box::new(alloc, values)?;
         Ok(MutableFixedSizeListArray {
@@ -87,11 +88,14 @@ impl MutableFixedSizeListArray {
             ≡ (length self.old.marks.booleans + 1) * list_size self.old.marks.data_type }
         ensures data_type { self.new.marks.data_type ≡ self.old.marks.data_type }
         ensures values { self.new.values ≡ self.old.values }
-        ensures booleans { OnOk result (self.new.marks.booleans ≡ self.old.marks.booleans ++ true ∷ []) }
-        ensures ok { OnOk result (builder_slots (FixedSizeList self.new) ≡ builder_slots (FixedSizeList self.old)
-            ++ ListSlot (drop (length self.old.marks.booleans * list_size self.old.marks.data_type) (builder_slots self.old.values.value)) ∷ []) }
+        ensures booleans { OnOk result
+            (self.new.marks.booleans ≡ self.old.marks.booleans ++ true ∷ []) }
+        ensures ok { OnOk result
+            (builder_slots (FixedSizeList self.new) ≡ builder_slots (FixedSizeList self.old)
+            ++ ListSlot (drop (length self.old.marks.booleans * list_size self.old.marks.data_type)
+            (builder_slots self.old.values.value)) ∷ []) }
         ensures err { OnErr result (self.new ≡ self.old) }
-        ensures memory { IfErr result (λ e. e ≡ OutOfMemory) }
+        ensures memory { OnlyOutOfMemory result }
         ensures takes { Takes 1 0 (marks_node self.old.marks) (marks_node self.new.marks) }
         ensures has_capacity { 1 ≤ self.old.marks.spare → IsOk result }
     {
@@ -99,14 +103,14 @@ impl MutableFixedSizeListArray {
         Ok(())
     }
 
-    /// How many slots there are.
+    /// How many slots there are, nulls among them.
     pub(crate) fn len(&self) -> usize
         ensures { result ≡ length (builder_slots (FixedSizeList self.now)) }
     {
         self.marks.len()
     }
 
-    /// The data type.
+    /// The data type that it was made with; no call changes it.
     pub(crate) fn data_type(&self) -> &DataType
         ensures { result.now ≡ builder_type (FixedSizeList self.now) }
     {
@@ -158,7 +162,8 @@ impl MutableFixedSizeListArray {
     /// The array of the slots. The builder and its child are then empty.
     #[cycle(boxes)]
     pub(crate) fn as_box(&mut self) -> Result<FixedSizeListArray>
-        ensures { Boxes (λ a. a.data_type) (λ a. a.slots) (FixedSizeList self.old) (FixedSizeList self.new) result }
+        ensures { Boxes (λ a. a.data_type) (λ a. a.slots)
+            (FixedSizeList self.old) (FixedSizeList self.new) result }
     {
         let alloc = self.marks.alloc();
         let values = self.values.box_nodes()?;

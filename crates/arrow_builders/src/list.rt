@@ -2,6 +2,7 @@
 
 ghost use Rattle.std.specs.Prelude.{◌≡◌, ◌<◌, ◌≤◌, ◌++◌, ◌∷◌, [], ◌⊎◌, ◌↔◌, false, length, drop, Err, IsOk, IfOk, IfErr, OnOk, OnErr};
 ghost use Rattle.std.specs.Borrow.{sem};
+ghost use Rattle.arrow_core.specs.Errors.{OnlyOutOfMemory};
 ghost use Rattle.arrow_core.specs.declared.error.Error.TheVariants.{OutOfMemory, Overflow};
 ghost use Rattle.arrow_types.specs.Numbers.{greatest_offset};
 ghost use Rattle.arrow_types.specs.declared.slot.Slot.TheVariants.{List as ListSlot};
@@ -50,7 +51,7 @@ impl DynMutableListArray {
         ensures tight { IsTight values
             → builder_slots values ≡ []
             → IfOk result (λ b. IsTight (List b)) }
-        ensures memory { IfErr result (λ e. e ≡ OutOfMemory) }
+        ensures memory { OnlyOutOfMemory result }
     {
         let values = Box::new(alloc, values)?;
         let lists = MutableLists::new(alloc, data_type, capacity)?;
@@ -73,8 +74,10 @@ impl DynMutableListArray {
         ensures data_type { self.new.lists.data_type ≡ self.old.lists.data_type }
         ensures values { self.new.values ≡ self.old.values }
         ensures ok { OnOk result (builder_slots (List self.new) ≡ builder_slots (List self.old)
-            ++ ListSlot (drop (items_of self.old.lists.lens) (builder_slots self.old.values.value)) ∷ []) }
-        ensures end { OnOk result (items_of self.new.lists.lens ≡ length (builder_slots self.old.values.value)) }
+            ++ ListSlot (drop (items_of self.old.lists.lens)
+            (builder_slots self.old.values.value)) ∷ []) }
+        ensures end { OnOk result
+            (items_of self.new.lists.lens ≡ length (builder_slots self.old.values.value)) }
         ensures err { OnErr result (self.new ≡ self.old) }
         ensures errors { IfErr result (λ e. (e ≡ Overflow) ⊎ (e ≡ OutOfMemory)) }
         ensures overflow { (result ≡ Err Overflow)
@@ -91,14 +94,14 @@ impl DynMutableListArray {
         Ok(())
     }
 
-    /// How many slots there are.
+    /// How many slots there are, nulls among them.
     pub(crate) fn len(&self) -> usize
         ensures { result ≡ length (builder_slots (List self.now)) }
     {
         self.lists.len()
     }
 
-    /// The data type.
+    /// The data type that it was made with; no call changes it.
     pub(crate) fn data_type(&self) -> &DataType
         ensures { result.now ≡ builder_type (List self.now) }
     {

@@ -1,7 +1,8 @@
 //! A builder of structs.
 
-ghost use Rattle.std.specs.Prelude.{◌≡◌, ◌<◌, ◌≤◌, ◌++◌, ◌∷◌, [], true, length, map, get_or, vec_len, IsOk, IfOk, IfErr, OnOk, OnErr};
+ghost use Rattle.std.specs.Prelude.{◌≡◌, ◌<◌, ◌≤◌, ◌++◌, ◌∷◌, [], true, length, map, get_or, vec_len, IsOk, IfOk, OnOk, OnErr};
 ghost use Rattle.std.specs.Borrow.{sem};
+ghost use Rattle.arrow_core.specs.Errors.{OnlyOutOfMemory};
 ghost use Rattle.arrow_core.specs.declared.error.Error.TheVariants.{OutOfMemory};
 ghost use Rattle.arrow_array.specs.Structs.{record_at};
 ghost use Rattle.arrow_builders.specs.Calls.{AllBox, AllClear, AllPushNull, AllReserve, Boxes, Clears, PushesNulls, Reserves};
@@ -48,7 +49,7 @@ impl DynMutableStructArray {
         ensures slots { IfOk result (λ b. builder_slots (Struct b) ≡ []) }
         ensures values { IfOk result (λ b. b.values ≡ values) }
         ensures tight { AllTight 0 values.items → IfOk result (λ b. IsTight (Struct b)) }
-        ensures memory { IfErr result (λ e. e ≡ OutOfMemory) }
+        ensures memory { OnlyOutOfMemory result }
     {
         Ok(DynMutableStructArray {
             marks: MutableMarks::new(alloc, data_type),
@@ -69,11 +70,13 @@ impl DynMutableStructArray {
     pub fn try_push_valid(&mut self) -> Result<()>
         ensures data_type { self.new.marks.data_type ≡ self.old.marks.data_type }
         ensures values { self.new.values ≡ self.old.values }
-        ensures booleans { OnOk result (self.new.marks.booleans ≡ self.old.marks.booleans ++ true ∷ []) }
+        ensures booleans { OnOk result
+            (self.new.marks.booleans ≡ self.old.marks.booleans ++ true ∷ []) }
         ensures ok { OnOk result (builder_slots (Struct self.new) ≡ builder_slots (Struct self.old)
-            ++ record_at (map builder_slots self.old.values.items) (length self.old.marks.booleans) ∷ []) }
+            ++ record_at (map builder_slots self.old.values.items)
+            (length self.old.marks.booleans) ∷ []) }
         ensures err { OnErr result (self.new ≡ self.old) }
-        ensures memory { IfErr result (λ e. e ≡ OutOfMemory) }
+        ensures memory { OnlyOutOfMemory result }
         ensures takes { Takes 1 0 (marks_node self.old.marks) (marks_node self.new.marks) }
         ensures has_capacity { 1 ≤ self.old.marks.spare → IsOk result }
     {
@@ -81,14 +84,14 @@ impl DynMutableStructArray {
         Ok(())
     }
 
-    /// How many slots there are.
+    /// How many slots there are, nulls among them.
     pub(crate) fn len(&self) -> usize
         ensures { result ≡ length (builder_slots (Struct self.now)) }
     {
         self.marks.len()
     }
 
-    /// The data type.
+    /// The data type that it was made with; no call changes it.
     pub(crate) fn data_type(&self) -> &DataType
         ensures { result.now ≡ builder_type (Struct self.now) }
     {
@@ -139,7 +142,8 @@ impl DynMutableStructArray {
     /// The array of the slots. The builder and its children are then empty.
     #[cycle(boxes)]
     pub(crate) fn as_box(&mut self) -> Result<StructArray>
-        ensures { Boxes (λ a. a.data_type) (λ a. a.slots) (Struct self.old) (Struct self.new) result }
+        ensures { Boxes (λ a. a.data_type) (λ a. a.slots)
+            (Struct self.old) (Struct self.new) result }
     {
         let alloc = self.marks.alloc();
         let values = box_all(alloc, &mut self.values)?;

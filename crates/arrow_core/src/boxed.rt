@@ -27,7 +27,7 @@ impl<T> Model for Box<T> {
 }
 
 impl<T: Drop> Box<T> {
-    /// Puts `value` on the heap.
+    /// Puts `value` on the heap. `OutOfMemory` alone.
     pub fn new(alloc: Global, value: T) -> Result<Box<T>>
         ensures holds { IfOk result (λ boxed. boxed ≡ value) }
         ensures memory { OnlyOutOfMemory result }

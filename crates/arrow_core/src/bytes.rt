@@ -36,7 +36,7 @@ impl Bytes {
         Bytes::from_vec(Vec::new(alloc))
     }
 
-    /// A copy of `bytes`.
+    /// A copy of `bytes`, with memory of its own. `OutOfMemory` alone.
     pub fn try_from_slice(alloc: Global, bytes: &[u8]) -> Result<Bytes>
         ensures copy { IfOk result (λ copied. copied ≡ bytes.now) }
         ensures memory { OnlyOutOfMemory result }
@@ -52,7 +52,7 @@ impl Bytes {
         Bytes { bytes }
     }
 
-    /// The vector that holds the bytes.
+    /// The vector that holds the bytes, without a copy.
     pub fn into_vec(self) -> Vec<u8>
         ensures { result.items ≡ self }
     {
@@ -60,7 +60,7 @@ impl Bytes {
         bytes
     }
 
-    /// The bytes themselves.
+    /// The bytes, in order.
     pub fn as_slice(&self) -> &[u8]
         ensures { result.now ≡ self.now }
     {

@@ -36,7 +36,7 @@ impl<T> Items<T> {
         Items { items }
     }
 
-    /// The vector that holds the items.
+    /// The vector that holds the items, without a copy.
     pub fn into_vec(self) -> Vec<T>
         ensures { result.items ≡ self }
     {
@@ -44,7 +44,7 @@ impl<T> Items<T> {
         items
     }
 
-    /// The items themselves.
+    /// The items, in order.
     pub fn as_slice(&self) -> &[T]
         ensures { result.now ≡ self.now }
     {
@@ -53,7 +53,7 @@ impl<T> Items<T> {
 }
 
 impl<T: Copy> Items<T> {
-    /// A copy of `items`.
+    /// A copy of `items`, with memory of its own. `OutOfMemory` alone.
     pub fn try_from_slice(alloc: Global, items: &[T]) -> Result<Items<T>>
         ensures copy { IfOk result (λ copied. copied ≡ items.now) }
         ensures memory { OnlyOutOfMemory result }

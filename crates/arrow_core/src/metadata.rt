@@ -11,8 +11,8 @@ use std::collections::BTreeMap;
 use std::hash::{Hash, Hasher};
 use std::marker::Model;
 
-/// A finite map from strings to strings. Contracts see it as the list of its entries, each a key and a
-/// value, in the order of the keys.
+/// A finite map from strings to strings. Contracts see it as the list of its entries, each a key
+/// and a value, in the order of the keys.
 ///
 /// Maps are compared and hashed as these lists. Two are equal exactly where each key has the same
 /// value in both.
@@ -63,7 +63,7 @@ impl Metadata {
         Ok(())
     }
 
-    /// A copy of this map.
+    /// A copy of this map, with memory of its own. `OutOfMemory` alone.
     pub fn try_clone(&self, _alloc: Global) -> Result<Metadata>
         ensures copy { IfOk result (λ copied. copied ≡ self.now) }
         ensures memory { OnlyOutOfMemory result }

@@ -26,7 +26,7 @@ impl Model for Text {
 }
 
 impl Text {
-    /// A copy of `text`.
+    /// A copy of `text`, with memory of its own. `OutOfMemory` alone.
     pub fn try_from_str(alloc: Global, text: &str) -> Result<Text>
         ensures copy { IfOk result (λ copied. copied ≡ text.now) }
         ensures memory { OnlyOutOfMemory result }
@@ -49,7 +49,7 @@ impl Text {
         Text { text }
     }
 
-    /// The string that holds the text.
+    /// The string that holds the text, without a copy.
     pub fn into_string(self) -> String
         ensures { string_bytes result ≡ self }
     {
@@ -57,7 +57,7 @@ impl Text {
         text
     }
 
-    /// A copy of this text.
+    /// A copy of this text, with memory of its own. `OutOfMemory` alone.
     pub fn try_clone(&self, alloc: Global) -> Result<Text>
         ensures copy { IfOk result (λ copied. copied ≡ self.now) }
         ensures memory { OnlyOutOfMemory result }

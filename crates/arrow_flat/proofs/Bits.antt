@@ -49,7 +49,7 @@ word_push (w ∷ ws) (suc j) = word_push ws j
 pub bit_of_push : (ws : List ℕ) (k : ℕ) → bit_of (ws ++ 0 ∷ []) k ≡ bit_of ws k
 bit_of_push ws k = ap (λ w. bit_at w (k % 64)) (word_push ws (k / 64))
 
--- the same items, made by place
+-- the same items, made by index
 pub made_alike : {X : Type 0} (f g : ℕ → X) (s a n : ℕ) → ((i : ℕ) → i < n → f (s + i) ≡ g (a + i)) → map f (range_with_len s n) ≡ map g (range_with_len a n)
 made_alike f g s a zero h = refl
 made_alike f g s a (suc n) h =

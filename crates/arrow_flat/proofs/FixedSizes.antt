@@ -12,7 +12,7 @@ use Rattle.arrow_array.specs.Parts.{FixedSizeBinaryFits, IsRefusalOf}
 use Rattle.arrow_flat.specs.Bits.{mask_of}
 use Rattle.arrow_flat.proofs.Slots.{slots_of-push}
 
--- what lies below place n stays where bytes are appended
+-- what lies below index n stays where bytes are appended
 fixed_at-push_below : (size : ℕ) (vs more : List ℕ) (n k : ℕ) → length vs ≡ n * size → k < n → fixed_at size (vs ++ more) k ≡ fixed_at size vs k
 fixed_at-push_below size vs more n k l h =
     let m : (k + 1) * size ≤ n * size = mul-le-mul_right size (omega (arith, h)) in
@@ -21,7 +21,7 @@ fixed_at-push_below size vs more n k l h =
     let r : size ≤ length (drop (k * size) vs) = omega (arith, m, e, l, length-drop (k * size) vs) in
     ap slot.Binary (rw (drop-append-le (k * size) vs more f, take-append-le size (drop (k * size) vs) more r) refl)
 
--- at place n lie the bytes that were appended
+-- at index n lie the bytes that were appended
 fixed_at-push : (size : ℕ) (vs more : List ℕ) (n : ℕ) → length vs ≡ n * size → length more ≡ size → fixed_at size (vs ++ more) n ≡ slot.Binary more
 fixed_at-push size vs more n l m =
     ap slot.Binary (rw (drop_at vs more (n * size) l) (take_all size more (omega (arith, m))))

@@ -84,7 +84,7 @@ pub length-lists : (s : ℕ) (ls : List (Option ℕ)) (xs : List Slot) → lengt
 length-lists s [] xs = refl
 length-lists s (l ∷ ls) xs = ap suc (length-lists (s + list_len l) ls xs)
 
--- where there are enough slots, these are the slots from a place on
+-- where there are enough slots, these are the slots from an index on
 pub slots_from-cut : (xs : List Slot) (s n : ℕ) → s + n ≤ length xs → slots_from xs s n ≡ take n (drop s xs)
 slots_from-cut xs s zero h = refl
 slots_from-cut xs s (suc n) h =
@@ -93,7 +93,7 @@ slots_from-cut xs s (suc n) h =
     let t : slots_from xs (s + 1) n ≡ take n (drop (s + 1) xs) = slots_from-cut xs (s + 1) n (omega (arith, h)) in
     rw d (ap (λ (zs : List Slot). slot_at xs s ∷ zs) t)
 
--- the slots from a place on, up to the last
+-- the slots from an index on, up to the last
 pub slots_from-rest : (xs : List Slot) (s : ℕ) → s ≤ length xs → slots_from xs s (length xs - s) ≡ drop s xs
 slots_from-rest xs s h =
     slots_from-cut xs s (length xs - s) (omega (arith, h)) ∙ take_all (length xs - s) (drop s xs) (omega (arith, length-drop s xs))

@@ -1,4 +1,4 @@
--- Slots that are made by place, and one more.
+-- Slots that are made by index, and one more.
 use Rattle.std.proofs.Common.{◌≡◌, ap, ◌∙◌, Bool, true, false, cond, ℕ, ◌+◌, ◌<◌, List, [], ◌∷◌, ◌++◌, map, length, get_or, Option, Some, None, refl, arith, zero-add, Result, Ok, Err, IfOk}
 use Rattle.std.specs.List.{range_with_len}
 use Rattle.std.proofs.lemmas.List.{get_or-replicate, get_or_append_left, get_or_push, length_push, length-map, map-append}
@@ -33,7 +33,7 @@ boolean_at-push_below vs v k h = ap slot.Boolean (get_or_append_left vs (v ∷ [
 pub boolean_at-push : (vs : List Bool) (v : Bool) (n : ℕ) → length vs ≡ n → boolean_at (vs ++ v ∷ []) n ≡ slot.Boolean v
 boolean_at-push vs v n h = ap slot.Boolean (get_or_push vs v false n h)
 
--- how many items there are in lists that are made by place, and in lists that gain an item
+-- how many items there are in lists that are made by index, and in lists that gain an item
 pub ruleset counts = (length-map-range_with_len, length_push)
 
 -- one boolean more

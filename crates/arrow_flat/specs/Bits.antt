@@ -1,4 +1,5 @@
--- A bitmap that grows: its words, and how many bits they hold.
+-- A bitmap that grows: its words, and how many bits they hold. Of what is here only mask_of has
+-- to be read to believe a public contract; private contracts and models alone cite the rest.
 use Rattle.std.specs.Prelude.{ℕ, ◌*◌, ◌+◌, ◌^◌, ◌<◌, ◌≤◌, ◌≡◌, Bool, true, List, [], length, min, replicate, Option, None, Some}
 use Rattle.arrow_bitmap.specs.Bits.{Packed, bit_of}
 
@@ -9,7 +10,7 @@ pub record HoldBits (words : List ℕ) (n : ℕ) : Type 0 where
   pub clear : (k : ℕ) → n ≤ k → bit_of words k ≡ 0
   pub fits : n + 64 ≤ 2 ^ 63
 
--- Either no bit is written, and slots are counted down within room for their bits, or there is nothing to count.
+-- Either no bit is written, and slots are counted down within spare capacity for their bits, or there is nothing to count.
 pub record CountsDown (bits : List Bool) (spare capacity free : ℕ) : Type 0 where
   pub below : free ≤ capacity
   pub within : capacity ≤ spare

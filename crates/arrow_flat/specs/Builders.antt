@@ -39,7 +39,7 @@ content_builder_code =
     (λ b. (b.data_type, (b.slots, (b.spare, (b.bytes, b.byte_spare)))))
     (λ p. record { data_type = p.0; slots = p.1.0; spare = p.1.1.0; bytes = p.1.1.1.0; byte_spare = p.1.1.1.1 }) (λ _. refl)
 
--- the room for content bytes of a node that keeps none
+-- the spare capacity for content bytes of a node that keeps none
 abbrev pub no_limit : ℕ
 no_limit = 18446744073709551615
 
@@ -49,7 +49,7 @@ plain_node b = record { slots = length b.slots; spare = b.spare; bytes = 0; byte
 abbrev pub content_node : ContentBuilder → Node
 content_node b = record { slots = length b.slots; spare = b.spare; bytes = b.bytes; byte_spare = b.byte_spare }
 
--- as many slots as there are booleans: slot k is what f makes, and null where truth k is false
+-- as many slots as there are booleans: slot k is what f makes, and null where boolean k is false
 abbrev pub slots_where : List Bool → (ℕ → Slot) → List Slot
 slots_where booleans f = slots_of f (Some (mask_of booleans)) 0 (length booleans)
 

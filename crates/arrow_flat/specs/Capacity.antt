@@ -1,4 +1,5 @@
--- Items that grow, and how many more fit before memory is asked for.
+-- Items that grow, and how many more fit before memory is asked for. Cited by the contracts and models of private types alone;
+-- nothing here has to be read to believe a public contract.
 use Rattle.std.specs.Prelude.{ℕ, List, refl}
 use Rattle.std.specs.Coded.{Coded, code_by, coded×, coded_list, coded_ℕ}
 

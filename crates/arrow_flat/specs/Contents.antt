@@ -1,4 +1,5 @@
--- The buffers of a builder of slots of variable length (Arrow columnar format, "Variable-size Binary Layout").
+-- The buffers of a builder of slots of variable length (Arrow columnar format, "Variable-size Binary Layout"). The model
+-- of such a builder cites them; of what is here only content_len has to be read to believe a public contract.
 use Rattle.std.specs.Prelude.{◌≡◌, ℕ, ◌+◌, ◌<◌, ℤ, pos, Option, None, Some, List, length}
 use Rattle.arrow_types.specs.declared.slot.Slot.{Slot}
 use Rattle.arrow_array.specs.Offsets.{offset_at, part, IsOffsets}

@@ -26,10 +26,10 @@ dictionary_builder_code =
 abbrev pub dictionary_node : DictionaryBuilder → Node
 dictionary_node b = record { slots = length b.slots; spare = b.spare; bytes = 0; byte_spare = no_limit }
 
--- a dictionary of keys of 32 bits over texts with offsets of 32 bits
-abbrev pub text_dictionary_type : DataType
-text_dictionary_type = types.Dictionary integer.Int32 types.Utf8 false
+-- a dictionary of keys of 32 bits over strings with offsets of 32 bits
+abbrev pub utf8_dictionary_type : DataType
+utf8_dictionary_type = types.Dictionary integer.Int32 types.Utf8 false
 
 -- an empty builder over these values
 abbrev pub IsNewDictionary : List Slot → DictionaryBuilder → Type 0
-IsNewDictionary items b = (b.data_type ≡ text_dictionary_type) × (b.slots ≡ []) × (b.items ≡ items)
+IsNewDictionary items b = (b.data_type ≡ utf8_dictionary_type) × (b.slots ≡ []) × (b.items ≡ items)

@@ -11,7 +11,7 @@ use Rattle.arrow_array.specs.Slots.{slot_at}
 use Rattle.arrow_flat.specs.Builders.{no_limit}
 use Rattle.arrow_flat.specs.Nodes.{Node}
 
--- of records and of fixed-size lists: the data type, which slots are valid, and how many more slots fit before memory is asked for
+-- of structs and of fixed-size lists: the data type, which slots are valid, and how many more slots fit before memory is asked for
 pub record Marks : Type 0 where
   pub data_type : DataType
   pub booleans : List Bool
@@ -49,7 +49,7 @@ abbrev pub items_of : List (Option ℕ) → ℕ
 items_of [] = 0
 items_of (l ∷ more) = list_len l + items_of more
 
--- the n slots from place start on; past the last slot each is null
+-- the n slots from index start on; past the last slot each is null
 abbrev pub slots_from : List Slot → ℕ → ℕ → List Slot
 slots_from items start n = map (slot_at items) (range_with_len start n)
 
@@ -58,7 +58,7 @@ abbrev pub null_slots : ℕ → List Slot
 null_slots zero = []
 null_slots (suc n) = slot.Null ∷ null_slots n
 
--- the list that begins at this place in the child's slots, or a null
+-- the list that begins at this index in the child's slots, or a null
 abbrev pub list_slot : List Slot → ℕ → Option ℕ → Slot
 list_slot items start None = slot.Null
 list_slot items start (Some n) = slot.List (slots_from items start n)
@@ -68,17 +68,19 @@ abbrev pub lists_from : ℕ → List (Option ℕ) → List Slot → List Slot
 lists_from start [] items = []
 lists_from start (l ∷ more) items = list_slot items start l ∷ lists_from (start + list_len l) more items
 
--- the list at place k, where each list has so many of the child's slots (Arrow columnar format, "Fixed-Size List Layout")
+-- the list at index k, where each list has so many of the child's slots (Arrow columnar format, "Fixed-Size List Layout")
 abbrev pub fixed_list_slot : ℕ → List Slot → ℕ → Slot
 fixed_list_slot size items k = slot.List (slots_from items (k * size) size)
 
--- the offsets past the first of lists that begin at a place
+-- the offsets past the first of lists that begin at an index
 abbrev pub ends_from : ℕ → List (Option ℕ) → List ℤ
 ends_from start [] = []
 ends_from start (l ∷ more) = pos (start + list_len l) ∷ ends_from (start + list_len l) more
 
 abbrev pub offsets_of : List (Option ℕ) → List ℤ
 offsets_of lens = pos 0 ∷ ends_from 0 lens
+
+-- ---- What follows is cited by the model of `MutableLists` alone; none of it has to be read to believe a public contract.
 
 -- from one offset to another
 abbrev pub gap : ℤ → ℤ → ℕ

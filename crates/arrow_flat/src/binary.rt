@@ -3,6 +3,7 @@
 ghost use Rattle.std.specs.Prelude.{◌≡◌, ◌+◌, ◌<◌, ◌≤◌, ◌++◌, ◌∷◌, [], ◌⊎◌, ◌↔◌};
 ghost use Rattle.std.specs.Prelude.{Err, IsOk, IfOk, IfErr, OnOk, OnErr};
 ghost use Rattle.std.specs.Option.{option_copied};
+ghost use Rattle.arrow_core.specs.Errors.{OnlyOutOfMemory};
 ghost use Rattle.arrow_core.specs.declared.error.Error.TheVariants.{OutOfMemory, Overflow};
 ghost use Rattle.arrow_types.specs.Numbers.{greatest_offset};
 ghost use Rattle.arrow_types.specs.declared.slot.Slot.TheVariants.{Binary as BinarySlot};
@@ -62,7 +63,8 @@ impl<O: Offset> MutableContentArray<BinaryValues, O> {
 
         ensures errors { IfErr result (λ e. (e ≡ Overflow) ⊎ (e ≡ OutOfMemory)) }
         ensures overflow { (result ≡ Err Overflow)
-            ↔ (greatest_offset O.IS_LARGE < self.old.bytes + content_len (option_copied value.entry)) }
+            ↔ (greatest_offset O.IS_LARGE
+            < self.old.bytes + content_len (option_copied value.entry)) }
         ensures overflow_kept { result ≡ Err Overflow → self.new ≡ self.old }
         ensures slots_kept { OnErr result (self.new.slots ≡ self.old.slots) }
         ensures bytes_kept { OnErr result (self.new.bytes ≡ self.old.bytes) }
@@ -92,7 +94,7 @@ impl<O: Offset> MutableContentArray<BinaryValues, O> {
         ensures array_slots { IfOk result (λ a. a.slots ≡ self.old.slots) }
         ensures emptied { OnOk result (self.new.slots ≡ []) }
         ensures no_bytes { OnOk result (self.new.bytes ≡ 0) }
-        ensures memory { IfErr result (λ e. e ≡ OutOfMemory) }
+        ensures memory { OnlyOutOfMemory result }
     {
         let first = first_offset(self.alloc, 1)?;
         let offsets = mem::replace(&mut self.offsets, first);

@@ -1,8 +1,8 @@
 //! A bitmap that grows.
 
-ghost use Rattle.std.specs.Prelude.{◌≡◌, ◌≢◌, ℕ, ◌+◌, ◌*◌, ◌<◌, ◌≤◌, ◌++◌, ◌∷◌, [], length, vec_len, vec_capacity, MatchBool, IsOk, IfOk, IfErr, OnOk, OnErr};
+ghost use Rattle.std.specs.Prelude.{◌≡◌, ◌≢◌, ℕ, ◌+◌, ◌*◌, ◌<◌, ◌≤◌, ◌++◌, ◌∷◌, [], length, vec_len, vec_capacity, MatchBool, IsOk, IfOk, OnOk, OnErr};
 ghost use Rattle.arrow_bitmap.specs.Bits.{bit_of, boolean_of};
-ghost use Rattle.arrow_core.specs.declared.error.Error.TheVariants.{OutOfMemory};
+ghost use Rattle.arrow_core.specs.Errors.{OnlyOutOfMemory};
 
 use arrow_bitmap::Bitmap;
 use arrow_core::Result;
@@ -100,7 +100,8 @@ impl MutableBitmap {
 
     /// Makes spare capacity for one more bit. An error changes nothing.
     ///
-    /// A last word that isn't full has spare capacity, so only a bit that begins a word asks for any.
+    /// A last word that isn't full has spare capacity, so only a bit that begins a word asks for
+    /// any.
     #[inline(always)]
     pub fn reserve_one(&mut self) -> std::result::Result<(), AllocError>
         ensures items { self.new.items ≡ self.old.items }
@@ -172,7 +173,7 @@ impl MutableBitmap {
     /// The bitmap of these bits, over the same words.
     pub fn freeze(self) -> Result<Bitmap>
         ensures ok { IfOk result (λ b. b.booleans ≡ self.items) }
-        ensures err { IfErr result (λ e. e ≡ OutOfMemory) }
+        ensures err { OnlyOutOfMemory result }
     {
         let MutableBitmap { words, count } = self;
         Bitmap::try_from_words(words, count)

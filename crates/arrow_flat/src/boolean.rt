@@ -1,6 +1,7 @@
 //! A builder of booleans.
 
-ghost use Rattle.std.specs.Prelude.{◌≡◌, ◌≤◌, ◌++◌, ◌∷◌, [], length, if◌then◌else◌, IsOk, IfOk, IfErr, OnOk, OnErr};
+ghost use Rattle.std.specs.Prelude.{◌≡◌, ◌≤◌, ◌++◌, ◌∷◌, [], length, if◌then◌else◌, IsOk, IfOk, OnOk, OnErr};
+ghost use Rattle.arrow_core.specs.Errors.{OnlyOutOfMemory};
 ghost use Rattle.arrow_core.specs.declared.error.Error.TheVariants.{OutOfMemory};
 ghost use Rattle.arrow_types.specs.declared.slot.Slot.TheVariants.{Null as NullSlot, Boolean as BooleanSlot};
 ghost use Rattle.arrow_types.specs.declared.types.DataType.TheVariants.{Boolean};
@@ -71,7 +72,7 @@ impl Container for MutableBooleanArray {
 
 #[tactic(auto, using(crate::proofs::Slots::counts))]
 impl MutableBooleanArray {
-    /// How many slots there are.
+    /// How many slots there are, nulls among them.
     pub fn len(&self) -> usize
         ensures { result ≡ length self.now.slots }
     {
@@ -86,7 +87,7 @@ impl MutableBooleanArray {
         &self.data_type
     }
 
-    /// How much the builder holds.
+    /// How many slots the builder holds, as its one node; content bytes it holds none.
     pub fn lengths(&self) -> NodeLengths
         ensures slots { result.slots ≡ length self.now.slots }
         ensures bytes { result.bytes ≡ 0 }
@@ -101,9 +102,10 @@ impl MutableBooleanArray {
     #[inline]
     pub fn push(&mut self, value: Option<bool>) -> Result<()>
         ensures data_type { self.new.data_type ≡ self.old.data_type }
-        ensures ok { OnOk result (self.new.slots ≡ self.old.slots ++ optional_slot BooleanSlot value ∷ []) }
+        ensures ok { OnOk result
+            (self.new.slots ≡ self.old.slots ++ optional_slot BooleanSlot value ∷ []) }
         ensures err { OnErr result (self.new ≡ self.old) }
-        ensures memory { IfErr result (λ e. e ≡ OutOfMemory) }
+        ensures memory { OnlyOutOfMemory result }
         ensures capacity { KeepsCapacity (plain_node self.old) (plain_node self.new) }
         ensures has_capacity { 1 ≤ self.old.spare → IsOk result }
     {
@@ -118,7 +120,7 @@ impl MutableBooleanArray {
         ensures data_type { self.new.data_type ≡ self.old.data_type }
         ensures ok { OnOk result (self.new.slots ≡ self.old.slots ++ NullSlot ∷ []) }
         ensures err { OnErr result (self.new ≡ self.old) }
-        ensures memory { IfErr result (λ e. e ≡ OutOfMemory) }
+        ensures memory { OnlyOutOfMemory result }
         ensures capacity { KeepsCapacity (plain_node self.old) (plain_node self.new) }
         ensures has_capacity { 1 ≤ self.old.spare → IsOk result }
     {
@@ -131,7 +133,7 @@ impl MutableBooleanArray {
         ensures ok { OnOk result (self.new.slots
             ≡ self.old.slots ++ (if is_valid then BooleanSlot boolean else NullSlot) ∷ []) }
         ensures err { OnErr result (self.new ≡ self.old) }
-        ensures memory { IfErr result (λ e. e ≡ OutOfMemory) }
+        ensures memory { OnlyOutOfMemory result }
         ensures capacity { KeepsCapacity (plain_node self.old) (plain_node self.new) }
         ensures has_capacity { 1 ≤ self.old.spare → IsOk result }
     {
@@ -145,7 +147,7 @@ impl MutableBooleanArray {
     pub fn reserve_for(&mut self, bytes: usize) -> Result<()>
         ensures data_type { self.new.data_type ≡ self.old.data_type }
         ensures slots { self.new.slots ≡ self.old.slots }
-        ensures memory { IfErr result (λ e. e ≡ OutOfMemory) }
+        ensures memory { OnlyOutOfMemory result }
         ensures capacity { NoLessSpare (plain_node self.old) (plain_node self.new) }
         ensures ok { OnOk result (HasSpare bytes (plain_node self.new)) }
     {
@@ -172,7 +174,7 @@ impl MutableBooleanArray {
         ensures array_type { IfOk result (λ a. a.data_type ≡ self.old.data_type) }
         ensures array_slots { IfOk result (λ a. a.slots ≡ self.old.slots) }
         ensures emptied { OnOk result (self.new.slots ≡ []) }
-        ensures memory { IfErr result (λ e. e ≡ OutOfMemory) }
+        ensures memory { OnlyOutOfMemory result }
     {
         let values = mem::replace(&mut self.values, MutableBitmap::new(self.alloc));
         let validity = mem::replace(&mut self.validity, MutableValidity::new(self.alloc));
@@ -185,7 +187,7 @@ impl MutableBooleanArray {
 /// The bitmaps of both, over the same words.
 fn freeze_both(values: MutableBitmap, validity: MutableValidity) -> Result<(Bitmap, Option<Bitmap>)>
     ensures ok { IfOk result (λ b. (b.0.booleans ≡ values.items) × Tells b.1 validity.items) }
-    ensures err { IfErr result (λ e. e ≡ OutOfMemory) }
+    ensures err { OnlyOutOfMemory result }
 {
     let values = values.freeze()?;
     let validity = validity.freeze()?;

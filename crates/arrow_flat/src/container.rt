@@ -1,7 +1,7 @@
 //! Builders that can be made without being told a data type.
 
-ghost use Rattle.std.specs.Prelude.{◌≡◌, IfOk, IfErr};
-ghost use Rattle.arrow_core.specs.declared.error.Error.TheVariants.{OutOfMemory};
+ghost use Rattle.std.specs.Prelude.{◌≡◌, IfOk};
+ghost use Rattle.arrow_core.specs.Errors.{OnlyOutOfMemory};
 
 use arrow_core::Result;
 use std::alloc::Global;
@@ -14,5 +14,5 @@ pub trait Container: Sized {
     /// An empty builder of the kind's plain type. Of the capacity nothing is promised.
     fn with_capacity(alloc: Global, capacity: usize) -> Result<Self>
         ensures ok { IfOk result is_new }
-        ensures err { IfErr result (λ e. e ≡ OutOfMemory) };
+        ensures err { OnlyOutOfMemory result };
 }

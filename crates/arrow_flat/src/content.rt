@@ -2,6 +2,7 @@
 
 ghost use Rattle.std.specs.Prelude.{◌≡◌, ◌+◌, ◌<◌, ◌≤◌, ◌++◌, ◌∷◌, [], ◌⊎◌, ◌↔◌, ℕ, Bool, List};
 ghost use Rattle.std.specs.Prelude.{length, map, pos, vec_len, vec_capacity, if◌then◌else◌, Err, IsOk, IfOk, IfErr, OnOk, OnErr};
+ghost use Rattle.arrow_core.specs.Errors.{OnlyOutOfMemory};
 ghost use Rattle.arrow_core.specs.declared.error.Error.TheVariants.{OutOfMemory, Overflow};
 ghost use Rattle.arrow_types.specs.Numbers.{greatest_offset};
 ghost use Rattle.arrow_types.specs.declared.slot.Slot.{Slot};
@@ -38,8 +39,9 @@ pub trait Content: Sized {
     ghost holds_nothing: { holds [] };
 }
 
-/// A builder of strings or of binary values, which lie one after another in a buffer of bytes, between
-/// offsets, beside a validity bitmap (Arrow columnar format, "Variable-size Binary Layout").
+/// A builder of strings or of binary values, which lie one after another in a buffer of bytes,
+/// between offsets, beside a validity bitmap (Arrow columnar format, "Variable-size Binary
+/// Layout").
 #[derive(Drop)]
 pub struct MutableContentArray<C: Content, O: Offset> {
     pub(crate) alloc: Global,
@@ -77,7 +79,7 @@ impl<C: Content, O: Offset> Model for MutableContentArray<C, O> {
 /// The offsets of no slot: 0 alone.
 pub(crate) fn first_offset<O: Offset>(alloc: Global, capacity: usize) -> Result<Vec<O>>
     ensures ok { IfOk result (λ offsets. map O.number offsets.items ≡ pos 0 ∷ []) }
-    ensures err { IfErr result (λ e. e ≡ OutOfMemory) }
+    ensures err { OnlyOutOfMemory result }
 {
     let mut offsets = Vec::with_capacity(alloc, capacity)?;
     let Some(zero) = O::from_usize(0) else {
@@ -113,7 +115,8 @@ fn append(values: &mut Vec<u8>, bytes: &[u8]) -> std::result::Result<(), AllocEr
     ensures items { OnOk result (values.new.items ≡ values.old.items ++ bytes.now) }
     ensures kept { OnErr result (values.new.items ≡ values.old.items) }
     ensures capacity { vec_capacity values.old ≤ vec_capacity values.new }
-    ensures succeeds { vec_len values.old + length bytes.now ≤ vec_capacity values.old → IsOk result }
+    ensures succeeds { vec_len values.old + length bytes.now ≤ vec_capacity values.old
+        → IsOk result }
 {
     if bytes.len() == 0 {
         return Ok(());
@@ -123,7 +126,7 @@ fn append(values: &mut Vec<u8>, bytes: &[u8]) -> std::result::Result<(), AllocEr
 
 #[tactic(auto, using(crate::proofs::Slots::content_counts))]
 impl<C: Content, O: Offset> MutableContentArray<C, O> {
-    /// How many slots there are.
+    /// How many slots there are, nulls among them.
     pub fn len(&self) -> usize
         ensures { result ≡ length self.now.slots }
     {
@@ -145,7 +148,7 @@ impl<C: Content, O: Offset> MutableContentArray<C, O> {
         &self.data_type
     }
 
-    /// How much the builder holds.
+    /// How many slots and content bytes the builder holds, as its one node.
     pub fn lengths(&self) -> NodeLengths
         ensures slots { result.slots ≡ length self.now.slots }
         ensures bytes { result.bytes ≡ self.now.bytes }
@@ -162,7 +165,7 @@ impl<C: Content, O: Offset> MutableContentArray<C, O> {
         ensures ok { OnOk result (self.new.slots ≡ self.old.slots ++ NullSlot ∷ []) }
         ensures bytes { self.new.bytes ≡ self.old.bytes }
         ensures err { OnErr result (self.new ≡ self.old) }
-        ensures memory { IfErr result (λ e. e ≡ OutOfMemory) }
+        ensures memory { OnlyOutOfMemory result }
         ensures capacity { KeepsCapacity (content_node self.old) (content_node self.new) }
         ensures has_capacity { 1 ≤ self.old.spare → IsOk result }
     {
@@ -205,12 +208,13 @@ impl<C: Content, O: Offset> MutableContentArray<C, O> {
         Ok(())
     }
 
-    /// Makes spare capacity for so many more slots and bytes. `OutOfMemory` leaves the slots as they are.
+    /// Makes spare capacity for so many more slots and bytes. `OutOfMemory` leaves the slots as
+    /// they are.
     pub fn reserve_for(&mut self, bytes: usize) -> Result<()>
         ensures data_type { self.new.data_type ≡ self.old.data_type }
         ensures slots { self.new.slots ≡ self.old.slots }
         ensures bytes { self.new.bytes ≡ self.old.bytes }
-        ensures memory { IfErr result (λ e. e ≡ OutOfMemory) }
+        ensures memory { OnlyOutOfMemory result }
         ensures capacity { NoLessSpare (content_node self.old) (content_node self.new) }
         ensures ok { OnOk result (HasSpare bytes (content_node self.new)) }
     {

@@ -1,10 +1,11 @@
 //! A builder of strings by their keys among given ones.
 
-ghost use Rattle.std.specs.Prelude.{◌≡◌, ◌≤◌, ◌++◌, ◌∷◌, [], length, IsOk, IfOk, IfErr, OnOk, OnErr};
+ghost use Rattle.std.specs.Prelude.{◌≡◌, ◌≤◌, ◌++◌, ◌∷◌, [], length, IsOk, IfOk, OnOk, OnErr};
+ghost use Rattle.arrow_core.specs.Errors.{OnlyOutOfMemory};
 ghost use Rattle.arrow_core.specs.declared.error.Error.TheVariants.{OutOfMemory};
 ghost use Rattle.arrow_types.specs.declared.slot.Slot.TheVariants.{Null as NullSlot, Integer as IntegerSlot};
 ghost use Rattle.arrow_array.specs.Dictionaries.{IsKeyInto, looked_up};
-ghost use Rattle.arrow_flat.specs.Dictionaries.{IsNewDictionary, dictionary_node, text_dictionary_type};
+ghost use Rattle.arrow_flat.specs.Dictionaries.{IsNewDictionary, dictionary_node, utf8_dictionary_type};
 ghost use Rattle.arrow_flat.specs.Nodes.{KeepsCapacity, NoLessSpare, Emptied, HasSpare};
 
 use crate::container::Container;
@@ -31,7 +32,7 @@ impl Model for FixedItemsUtf8Dictionary {
     ghost use Rattle.arrow_types.specs.declared.types.DataType.TheVariants.{Int32 as Int32Type};
     ghost use Rattle.arrow_array.specs.Dictionaries.{IsKeyInto, looked_up};
     ghost use Rattle.arrow_array.specs.Slots.{slot_at};
-    ghost use Rattle.arrow_flat.specs.Dictionaries.{DictionaryBuilder, dictionary_builder_code, text_dictionary_type};
+    ghost use Rattle.arrow_flat.specs.Dictionaries.{DictionaryBuilder, dictionary_builder_code, utf8_dictionary_type};
 
     ghost Value = { DictionaryBuilder };
 
@@ -44,7 +45,7 @@ impl Model for FixedItemsUtf8Dictionary {
       items = b.values.slots;
     } };
 
-    ghost invariant = { λ b. (b.data_type ≡ text_dictionary_type)
+    ghost invariant = { λ b. (b.data_type ≡ utf8_dictionary_type)
         × (b.keys.data_type ≡ Int32Type)
         × ((i : ℕ) → i < length b.keys.slots → IsKeyInto (length b.values.slots) (slot_at b.keys.slots i)) };
 }
@@ -57,7 +58,7 @@ impl FixedItemsUtf8Dictionary {
         capacity: usize,
     ) -> Result<FixedItemsUtf8Dictionary>
         ensures ok { IfOk result (IsNewDictionary values.slots) }
-        ensures err { IfErr result (λ e. e ≡ OutOfMemory) }
+        ensures err { OnlyOutOfMemory result }
     {
         let keys = MutablePrimitiveArray::with_capacity(alloc, capacity)?;
         let value_type = Box::new(alloc, DataType::Utf8)?;
@@ -69,7 +70,7 @@ impl FixedItemsUtf8Dictionary {
         })
     }
 
-    /// How many slots there are.
+    /// How many slots there are, nulls among them.
     pub fn len(&self) -> usize
         ensures { result ≡ length self.now.slots }
     {
@@ -79,7 +80,7 @@ impl FixedItemsUtf8Dictionary {
     /// The data type: a dictionary of keys of 32 bits over Utf8.
     pub fn data_type(&self) -> &DataType
         ensures same { result.now ≡ self.now.data_type }
-        ensures kind { self.now.data_type ≡ text_dictionary_type }
+        ensures kind { self.now.data_type ≡ utf8_dictionary_type }
     {
         &self.data_type
     }
@@ -91,7 +92,7 @@ impl FixedItemsUtf8Dictionary {
         self.values.len()
     }
 
-    /// How much the builder holds.
+    /// How many slots the builder holds, as its one node; content bytes it holds none.
     pub fn lengths(&self) -> NodeLengths
         ensures slots { result.slots ≡ length self.now.slots }
         ensures bytes { result.bytes ≡ 0 }
@@ -108,7 +109,7 @@ impl FixedItemsUtf8Dictionary {
         ensures ok { OnOk result (self.new.slots
             ≡ self.old.slots ++ looked_up self.old.items (IntegerSlot key) ∷ []) }
         ensures err { OnErr result (self.new ≡ self.old) }
-        ensures memory { IfErr result (λ e. e ≡ OutOfMemory) }
+        ensures memory { OnlyOutOfMemory result }
         ensures capacity { KeepsCapacity (dictionary_node self.old) (dictionary_node self.new) }
         ensures has_capacity { 1 ≤ self.old.spare → IsOk result }
     {
@@ -121,7 +122,7 @@ impl FixedItemsUtf8Dictionary {
         ensures items { self.new.items ≡ self.old.items }
         ensures ok { OnOk result (self.new.slots ≡ self.old.slots ++ NullSlot ∷ []) }
         ensures err { OnErr result (self.new ≡ self.old) }
-        ensures memory { IfErr result (λ e. e ≡ OutOfMemory) }
+        ensures memory { OnlyOutOfMemory result }
         ensures capacity { KeepsCapacity (dictionary_node self.old) (dictionary_node self.new) }
         ensures has_capacity { 1 ≤ self.old.spare → IsOk result }
     {
@@ -133,7 +134,7 @@ impl FixedItemsUtf8Dictionary {
         ensures data_type { self.new.data_type ≡ self.old.data_type }
         ensures items { self.new.items ≡ self.old.items }
         ensures slots { self.new.slots ≡ self.old.slots }
-        ensures memory { IfErr result (λ e. e ≡ OutOfMemory) }
+        ensures memory { OnlyOutOfMemory result }
         ensures capacity { NoLessSpare (dictionary_node self.old) (dictionary_node self.new) }
         ensures ok { OnOk result (HasSpare bytes (dictionary_node self.new)) }
     {
@@ -161,7 +162,7 @@ impl FixedItemsUtf8Dictionary {
         ensures array_slots { IfOk result (λ a. a.slots ≡ self.old.slots) }
         ensures array_items { IfOk result (λ a. a.items ≡ self.old.items) }
         ensures emptied { OnOk result (self.new.slots ≡ []) }
-        ensures memory { IfErr result (λ e. e ≡ OutOfMemory) }
+        ensures memory { OnlyOutOfMemory result }
     {
         let data_type = self.data_type.try_clone(self.alloc)?;
         let values = self.values.slice(self.alloc, 0, self.values.len())?;

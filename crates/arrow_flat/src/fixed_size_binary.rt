@@ -1,7 +1,8 @@
 //! A builder of fixed-size binary values.
 
-ghost use Rattle.std.specs.Prelude.{◌≡◌, ◌+◌, ◌*◌, ◌≤◌, ◌++◌, ◌∷◌, [], length, if◌then◌else◌, IsOk, IfOk, IfErr, IfSome, OnOk, OnErr};
+ghost use Rattle.std.specs.Prelude.{◌≡◌, ◌+◌, ◌*◌, ◌≤◌, ◌++◌, ◌∷◌, [], length, if◌then◌else◌, IsOk, IfOk, IfSome, OnOk, OnErr};
 ghost use Rattle.std.specs.Option.{option_copied};
+ghost use Rattle.arrow_core.specs.Errors.{OnlyOutOfMemory};
 ghost use Rattle.arrow_core.specs.declared.error.Error.TheVariants.{OutOfMemory};
 ghost use Rattle.arrow_types.specs.declared.slot.Slot.TheVariants.{Null as NullSlot, Binary as BinarySlot};
 ghost use Rattle.arrow_types.specs.declared.types.DataType.TheVariants.{FixedSizeBinary};
@@ -64,7 +65,7 @@ impl MutableFixedSizeBinaryArray {
     ) -> Result<MutableFixedSizeBinaryArray>
         requires { 1 ≤ size }
         ensures ok { IfOk result (IsNewContent (FixedSizeBinary size)) }
-        ensures err { IfErr result (λ e. e ≡ OutOfMemory) }
+        ensures err { OnlyOutOfMemory result }
     {
         let values = Vec::with_capacity(alloc, capacity.saturating_mul(size))?;
         let mut validity = MutableBitmap::new(alloc);
@@ -101,7 +102,7 @@ impl MutableFixedSizeBinaryArray {
         self.size
     }
 
-    /// How much the builder holds.
+    /// How many slots and content bytes the builder holds, as its one node.
     pub fn lengths(&self) -> NodeLengths
         ensures slots { result.slots ≡ length self.now.slots }
         ensures bytes { result.bytes ≡ self.now.bytes }
@@ -117,11 +118,13 @@ impl MutableFixedSizeBinaryArray {
     /// `OutOfMemory` leaves slots and bytes as they are.
     #[inline]
     pub fn push(&mut self, value: Option<&[u8]>) -> Result<()>
-        requires { IfSome (option_copied value) (λ bytes. length bytes ≡ byte_width self.old.data_type) }
+        requires { IfSome (option_copied value)
+            (λ bytes. length bytes ≡ byte_width self.old.data_type) }
         ensures data_type { self.new.data_type ≡ self.old.data_type }
         ensures ok { OnOk result (self.new.slots
             ≡ self.old.slots ++ optional_slot BinarySlot (option_copied value.entry) ∷ []) }
-        ensures bytes { OnOk result (self.new.bytes ≡ self.old.bytes + byte_width self.old.data_type) }
+        ensures bytes { OnOk result
+            (self.new.bytes ≡ self.old.bytes + byte_width self.old.data_type) }
         ensures slots_kept { OnErr result (self.new.slots ≡ self.old.slots) }
         ensures bytes_kept { OnErr result (self.new.bytes ≡ self.old.bytes) }
 
@@ -129,7 +132,7 @@ impl MutableFixedSizeBinaryArray {
         ensures kept { OnErr result (byte_width self.old.data_type ≤ self.old.byte_spare
             → self.new ≡ self.old) }
 
-        ensures memory { IfErr result (λ e. e ≡ OutOfMemory) }
+        ensures memory { OnlyOutOfMemory result }
         ensures capacity { KeepsCapacity (content_node self.old) (content_node self.new) }
         ensures has_capacity { 1 ≤ self.old.spare
             → byte_width self.old.data_type ≤ self.old.byte_spare
@@ -147,12 +150,13 @@ impl MutableFixedSizeBinaryArray {
     pub fn push_null(&mut self) -> Result<()>
         ensures data_type { self.new.data_type ≡ self.old.data_type }
         ensures ok { OnOk result (self.new.slots ≡ self.old.slots ++ NullSlot ∷ []) }
-        ensures bytes { OnOk result (self.new.bytes ≡ self.old.bytes + byte_width self.old.data_type) }
+        ensures bytes { OnOk result
+            (self.new.bytes ≡ self.old.bytes + byte_width self.old.data_type) }
         ensures slots_kept { OnErr result (self.new.slots ≡ self.old.slots) }
         ensures bytes_kept { OnErr result (self.new.bytes ≡ self.old.bytes) }
         ensures kept { OnErr result (byte_width self.old.data_type ≤ self.old.byte_spare
             → self.new ≡ self.old) }
-        ensures memory { IfErr result (λ e. e ≡ OutOfMemory) }
+        ensures memory { OnlyOutOfMemory result }
         ensures capacity { KeepsCapacity (content_node self.old) (content_node self.new) }
         ensures has_capacity { 1 ≤ self.old.spare
             → byte_width self.old.data_type ≤ self.old.byte_spare
@@ -172,12 +176,13 @@ impl MutableFixedSizeBinaryArray {
         requires { length bytes.now ≡ byte_width self.old.data_type }
         ensures data_type { self.new.data_type ≡ self.old.data_type }
         ensures ok { OnOk result (self.new.slots ≡ self.old.slots ++ BinarySlot bytes.now ∷ []) }
-        ensures bytes { OnOk result (self.new.bytes ≡ self.old.bytes + byte_width self.old.data_type) }
+        ensures bytes { OnOk result
+            (self.new.bytes ≡ self.old.bytes + byte_width self.old.data_type) }
         ensures slots_kept { OnErr result (self.new.slots ≡ self.old.slots) }
         ensures bytes_kept { OnErr result (self.new.bytes ≡ self.old.bytes) }
         ensures kept { OnErr result (byte_width self.old.data_type ≤ self.old.byte_spare
             → self.new ≡ self.old) }
-        ensures memory { IfErr result (λ e. e ≡ OutOfMemory) }
+        ensures memory { OnlyOutOfMemory result }
         ensures capacity { KeepsCapacity (content_node self.old) (content_node self.new) }
         ensures has_capacity { 1 ≤ self.old.spare
             → byte_width self.old.data_type ≤ self.old.byte_spare
@@ -189,12 +194,13 @@ impl MutableFixedSizeBinaryArray {
         Ok(())
     }
 
-    /// Makes spare capacity for so many more slots and bytes. `OutOfMemory` leaves the slots as they are.
+    /// Makes spare capacity for so many more slots and bytes. `OutOfMemory` leaves the slots as
+    /// they are.
     pub fn reserve_for(&mut self, bytes: usize) -> Result<()>
         ensures data_type { self.new.data_type ≡ self.old.data_type }
         ensures slots { self.new.slots ≡ self.old.slots }
         ensures bytes { self.new.bytes ≡ self.old.bytes }
-        ensures memory { IfErr result (λ e. e ≡ OutOfMemory) }
+        ensures memory { OnlyOutOfMemory result }
         ensures capacity { NoLessSpare (content_node self.old) (content_node self.new) }
         ensures ok { OnOk result (HasSpare bytes (content_node self.new)) }
     {
@@ -223,7 +229,7 @@ impl MutableFixedSizeBinaryArray {
         ensures array_slots { IfOk result (λ a. a.slots ≡ self.old.slots) }
         ensures emptied { OnOk result (self.new.slots ≡ []) }
         ensures no_bytes { OnOk result (self.new.bytes ≡ 0) }
-        ensures memory { IfErr result (λ e. e ≡ OutOfMemory) }
+        ensures memory { OnlyOutOfMemory result }
     {
         let values = mem::replace(&mut self.values, Vec::new(self.alloc));
         let validity = mem::replace(&mut self.validity, MutableBitmap::new(self.alloc));

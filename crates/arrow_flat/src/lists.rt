@@ -1,6 +1,7 @@
 //! What a builder of lists keeps besides its child.
 
 ghost use Rattle.std.specs.Prelude.{◌≡◌, ◌+◌, ◌-◌, ◌<◌, ◌≤◌, ◌⊎◌, ◌↔◌, ◌++◌, ◌∷◌, [], None, Some, is_some, length, map, Err, IsOk, IfOk, IfErr, OnOk, OnErr};
+ghost use Rattle.arrow_core.specs.Errors.{OnlyOutOfMemory};
 ghost use Rattle.arrow_core.specs.declared.error.Error.TheVariants.{OutOfMemory, Overflow};
 ghost use Rattle.arrow_types.specs.Numbers.{greatest_offset};
 ghost use Rattle.arrow_flat.specs.Nested.{items_of, lists_node, offsets_of};
@@ -47,7 +48,7 @@ impl<O: Offset> MutableLists<O> {
     pub fn new(alloc: Global, data_type: DataType, capacity: usize) -> Result<MutableLists<O>>
         ensures data_type { IfOk result (λ b. b.data_type ≡ data_type) }
         ensures lens { IfOk result (λ b. b.lens ≡ []) }
-        ensures memory { IfErr result (λ e. e ≡ OutOfMemory) }
+        ensures memory { OnlyOutOfMemory result }
     {
         let offsets = first_offset(alloc, capacity.saturating_add(1))?;
         Ok(MutableLists {
@@ -56,12 +57,12 @@ impl<O: Offset> MutableLists<O> {
         })
     }
 
-    /// How memory is asked for.
+    /// The allocator that it was made with.
     pub fn alloc(&self) -> Global {
         self.marks.alloc()
     }
 
-    /// How many lists there are.
+    /// How many lists there are, nulls among them.
     pub fn len(&self) -> usize
         ensures { result ≡ length self.now.lens }
     {
@@ -79,14 +80,14 @@ impl<O: Offset> MutableLists<O> {
         }
     }
 
-    /// The data type.
+    /// The data type that it was made with; no call changes it.
     pub fn data_type(&self) -> &DataType
         ensures { result.now ≡ self.now.data_type }
     {
         self.marks.data_type()
     }
 
-    /// Where the last list ends in the child.
+    /// The index in the child at which the last list ends, and the next begins.
     pub fn end(&self) -> usize
         ensures end { result ≡ items_of self.now.lens }
         ensures limit { items_of self.now.lens ≤ greatest_offset O.IS_LARGE }
@@ -99,7 +100,7 @@ impl<O: Offset> MutableLists<O> {
         ensures data_type { self.new.data_type ≡ self.old.data_type }
         ensures ok { OnOk result (self.new.lens ≡ self.old.lens ++ None ∷ []) }
         ensures err { OnErr result (self.new ≡ self.old) }
-        ensures memory { IfErr result (λ e. e ≡ OutOfMemory) }
+        ensures memory { OnlyOutOfMemory result }
         ensures capacity { KeepsCapacity (lists_node self.old) (lists_node self.new) }
         ensures has_capacity { 1 ≤ self.old.spare → IsOk result }
     {
@@ -148,7 +149,7 @@ impl<O: Offset> MutableLists<O> {
     pub fn reserve_for(&mut self, additional: usize) -> Result<()>
         ensures data_type { self.new.data_type ≡ self.old.data_type }
         ensures lens { self.new.lens ≡ self.old.lens }
-        ensures memory { IfErr result (λ e. e ≡ OutOfMemory) }
+        ensures memory { OnlyOutOfMemory result }
         ensures capacity { NoLessSpare (lists_node self.old) (lists_node self.new) }
         ensures ok { OnOk result (HasSpare additional (lists_node self.new)) }
     {
@@ -176,7 +177,7 @@ impl<O: Offset> MutableLists<O> {
         ensures same_type { IfOk result (λ p. p.0 ≡ self.old.data_type) }
         ensures offsets { IfOk result (λ p. map O.number p.1.items ≡ offsets_of self.old.lens) }
         ensures validity { IfOk result (λ p. p.2.booleans ≡ map is_some self.old.lens) }
-        ensures memory { IfErr result (λ e. e ≡ OutOfMemory) }
+        ensures memory { OnlyOutOfMemory result }
     {
         let first = first_offset(self.marks.alloc(), 1)?;
         let offsets = mem::replace(&mut self.offsets, first);

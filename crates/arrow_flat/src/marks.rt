@@ -1,6 +1,7 @@
 //! What a builder of structs, or of fixed-size lists, keeps besides its children.
 
-ghost use Rattle.std.specs.Prelude.{◌≡◌, ◌≤◌, ◌++◌, ◌∷◌, [], length, IsOk, IfOk, IfErr, OnOk, OnErr};
+ghost use Rattle.std.specs.Prelude.{◌≡◌, ◌≤◌, ◌++◌, ◌∷◌, [], length, IsOk, IfOk, OnOk, OnErr};
+ghost use Rattle.arrow_core.specs.Errors.{OnlyOutOfMemory};
 ghost use Rattle.arrow_core.specs.declared.error.Error.TheVariants.{OutOfMemory};
 ghost use Rattle.arrow_flat.specs.Nested.{marks_node};
 ghost use Rattle.arrow_flat.specs.Nodes.{KeepsCapacity, NoLessSpare, Emptied, HasSpare};
@@ -49,12 +50,12 @@ impl MutableMarks {
         }
     }
 
-    /// How memory is asked for.
+    /// The allocator that it was made with.
     pub fn alloc(&self) -> Global {
         self.alloc
     }
 
-    /// How many slots there are.
+    /// How many slots there are, nulls among them.
     pub fn len(&self) -> usize
         ensures { result ≡ length self.now.booleans }
     {
@@ -72,7 +73,7 @@ impl MutableMarks {
         }
     }
 
-    /// The data type.
+    /// The data type that it was made with; no call changes it.
     pub fn data_type(&self) -> &DataType
         ensures { result.now ≡ self.now.data_type }
     {
@@ -84,7 +85,7 @@ impl MutableMarks {
         ensures data_type { self.new.data_type ≡ self.old.data_type }
         ensures ok { OnOk result (self.new.booleans ≡ self.old.booleans ++ is_valid ∷ []) }
         ensures err { OnErr result (self.new ≡ self.old) }
-        ensures memory { IfErr result (λ e. e ≡ OutOfMemory) }
+        ensures memory { OnlyOutOfMemory result }
         ensures capacity { KeepsCapacity (marks_node self.old) (marks_node self.new) }
         ensures has_capacity { 1 ≤ self.old.spare → IsOk result }
     {
@@ -97,7 +98,7 @@ impl MutableMarks {
     pub fn reserve_for(&mut self, additional: usize) -> Result<()>
         ensures data_type { self.new.data_type ≡ self.old.data_type }
         ensures booleans { self.new.booleans ≡ self.old.booleans }
-        ensures memory { IfErr result (λ e. e ≡ OutOfMemory) }
+        ensures memory { OnlyOutOfMemory result }
         ensures capacity { NoLessSpare (marks_node self.old) (marks_node self.new) }
         ensures ok { OnOk result (HasSpare additional (marks_node self.new)) }
     {
@@ -120,7 +121,7 @@ impl MutableMarks {
         ensures booleans { self.new.booleans ≡ [] }
         ensures same_type { IfOk result (λ p. p.0 ≡ self.old.data_type) }
         ensures validity { IfOk result (λ p. p.1.booleans ≡ self.old.booleans) }
-        ensures memory { IfErr result (λ e. e ≡ OutOfMemory) }
+        ensures memory { OnlyOutOfMemory result }
     {
         let validity = mem::replace(&mut self.validity, MutableBitmap::new(self.alloc));
         let validity = validity.freeze()?;

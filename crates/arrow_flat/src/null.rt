@@ -1,6 +1,7 @@
 //! A builder of nulls.
 
-ghost use Rattle.std.specs.Prelude.{◌≡◌, ◌≤◌, ◌++◌, ◌∷◌, [], length, IsOk, IfOk, IfErr, OnOk, OnErr};
+ghost use Rattle.std.specs.Prelude.{◌≡◌, ◌≤◌, ◌++◌, ◌∷◌, [], length, IsOk, IfOk, OnOk, OnErr};
+ghost use Rattle.arrow_core.specs.Errors.{OnlyOutOfMemory};
 ghost use Rattle.arrow_core.specs.declared.error.Error.TheVariants.{OutOfMemory};
 ghost use Rattle.arrow_types.specs.declared.slot.Slot.TheVariants.{Null as NullSlot};
 ghost use Rattle.arrow_types.specs.declared.types.DataType.TheVariants.{Null};
@@ -56,7 +57,7 @@ impl MutableNullArray {
         }
     }
 
-    /// How many slots there are.
+    /// How many slots there are. Each is null.
     pub fn len(&self) -> usize
         ensures { result ≡ length self.now.slots }
     {
@@ -71,7 +72,7 @@ impl MutableNullArray {
         &self.data_type
     }
 
-    /// How much the builder holds.
+    /// How many slots the builder holds, as its one node; content bytes it holds none.
     pub fn lengths(&self) -> NodeLengths
         ensures slots { result.slots ≡ length self.now.slots }
         ensures bytes { result.bytes ≡ 0 }
@@ -88,7 +89,7 @@ impl MutableNullArray {
         ensures data_type { self.new.data_type ≡ self.old.data_type }
         ensures ok { OnOk result (self.new.slots ≡ self.old.slots ++ NullSlot ∷ []) }
         ensures err { OnErr result (self.new ≡ self.old) }
-        ensures memory { IfErr result (λ e. e ≡ OutOfMemory) }
+        ensures memory { OnlyOutOfMemory result }
         ensures capacity { KeepsCapacity (plain_node self.old) (plain_node self.new) }
         ensures has_capacity { 1 ≤ self.old.spare → IsOk result }
     {
@@ -103,7 +104,7 @@ impl MutableNullArray {
     pub fn reserve_for(&mut self, bytes: usize) -> Result<()>
         ensures data_type { self.new.data_type ≡ self.old.data_type }
         ensures slots { self.new.slots ≡ self.old.slots }
-        ensures memory { IfErr result (λ e. e ≡ OutOfMemory) }
+        ensures memory { OnlyOutOfMemory result }
         ensures capacity { NoLessSpare (plain_node self.old) (plain_node self.new) }
         ensures ok { OnOk result (HasSpare bytes (plain_node self.new)) }
     {
@@ -128,7 +129,7 @@ impl MutableNullArray {
         ensures array_type { IfOk result (λ a. a.data_type ≡ self.old.data_type) }
         ensures array_slots { IfOk result (λ a. a.slots ≡ self.old.slots) }
         ensures emptied { OnOk result (self.new.slots ≡ []) }
-        ensures memory { IfErr result (λ e. e ≡ OutOfMemory) }
+        ensures memory { OnlyOutOfMemory result }
     {
         let data_type = self.data_type.try_clone(self.alloc)?;
         let array = NullArray::try_new(self.alloc, data_type, self.count)?;

@@ -1,6 +1,7 @@
 //! A builder of values of one size.
 
-ghost use Rattle.std.specs.Prelude.{◌≡◌, ◌≤◌, ◌++◌, ◌∷◌, [], length, if◌then◌else◌, IsOk, IfOk, IfErr, OnOk, OnErr};
+ghost use Rattle.std.specs.Prelude.{◌≡◌, ◌≤◌, ◌++◌, ◌∷◌, [], length, if◌then◌else◌, IsOk, IfOk, OnOk, OnErr};
+ghost use Rattle.arrow_core.specs.Errors.{OnlyOutOfMemory};
 ghost use Rattle.arrow_core.specs.declared.error.Error.TheVariants.{OutOfMemory};
 ghost use Rattle.arrow_types.specs.declared.slot.Slot.TheVariants.{Null as NullSlot};
 ghost use Rattle.arrow_array.specs.Parts.{IsPlain};
@@ -112,14 +113,14 @@ impl<T: NativeType> MutablePrimitiveArray<T> {
         }
     }
 
-    /// How many slots there are.
+    /// How many slots there are, nulls among them.
     pub fn len(&self) -> usize
         ensures { result ≡ length self.now.slots }
     {
         self.values.len()
     }
 
-    /// The data type.
+    /// The data type: the plain one of `T`, or the one that `to` gave.
     pub fn data_type(&self) -> &DataType
         ensures same { result.now ≡ self.now.data_type }
         ensures kind { IsPlain T.PRIMITIVE self.now.data_type }
@@ -127,7 +128,7 @@ impl<T: NativeType> MutablePrimitiveArray<T> {
         &self.data_type
     }
 
-    /// How much the builder holds.
+    /// How many slots the builder holds, as its one node; content bytes it holds none.
     pub fn lengths(&self) -> NodeLengths
         ensures slots { result.slots ≡ length self.now.slots }
         ensures bytes { result.bytes ≡ 0 }
@@ -145,7 +146,7 @@ impl<T: NativeType> MutablePrimitiveArray<T> {
         ensures ok { OnOk result (self.new.slots
             ≡ self.old.slots ++ optional_slot T.native_slot value ∷ []) }
         ensures err { OnErr result (self.new ≡ self.old) }
-        ensures memory { IfErr result (λ e. e ≡ OutOfMemory) }
+        ensures memory { OnlyOutOfMemory result }
         ensures capacity { KeepsCapacity (plain_node self.old) (plain_node self.new) }
         ensures has_capacity { 1 ≤ self.old.spare → IsOk result }
     {
@@ -160,7 +161,7 @@ impl<T: NativeType> MutablePrimitiveArray<T> {
         ensures data_type { self.new.data_type ≡ self.old.data_type }
         ensures ok { OnOk result (self.new.slots ≡ self.old.slots ++ NullSlot ∷ []) }
         ensures err { OnErr result (self.new ≡ self.old) }
-        ensures memory { IfErr result (λ e. e ≡ OutOfMemory) }
+        ensures memory { OnlyOutOfMemory result }
         ensures capacity { KeepsCapacity (plain_node self.old) (plain_node self.new) }
         ensures has_capacity { 1 ≤ self.old.spare → IsOk result }
     {
@@ -173,7 +174,7 @@ impl<T: NativeType> MutablePrimitiveArray<T> {
         ensures ok { OnOk result (self.new.slots
             ≡ self.old.slots ++ (if is_valid then T.native_slot value else NullSlot) ∷ []) }
         ensures err { OnErr result (self.new ≡ self.old) }
-        ensures memory { IfErr result (λ e. e ≡ OutOfMemory) }
+        ensures memory { OnlyOutOfMemory result }
         ensures capacity { KeepsCapacity (plain_node self.old) (plain_node self.new) }
         ensures has_capacity { 1 ≤ self.old.spare → IsOk result }
     {
@@ -187,7 +188,7 @@ impl<T: NativeType> MutablePrimitiveArray<T> {
     pub fn reserve_for(&mut self, bytes: usize) -> Result<()>
         ensures data_type { self.new.data_type ≡ self.old.data_type }
         ensures slots { self.new.slots ≡ self.old.slots }
-        ensures memory { IfErr result (λ e. e ≡ OutOfMemory) }
+        ensures memory { OnlyOutOfMemory result }
         ensures capacity { NoLessSpare (plain_node self.old) (plain_node self.new) }
         ensures ok { OnOk result (HasSpare bytes (plain_node self.new)) }
     {
@@ -214,7 +215,7 @@ impl<T: NativeType> MutablePrimitiveArray<T> {
         ensures array_type { IfOk result (λ a. a.data_type ≡ self.old.data_type) }
         ensures array_slots { IfOk result (λ a. a.slots ≡ self.old.slots) }
         ensures emptied { self.new.slots ≡ [] }
-        ensures memory { IfErr result (λ e. e ≡ OutOfMemory) }
+        ensures memory { OnlyOutOfMemory result }
     {
         let values = mem::replace(&mut self.values, Vec::new(self.alloc));
         let validity = mem::replace(&mut self.validity, MutableValidity::new(self.alloc));

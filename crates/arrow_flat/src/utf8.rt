@@ -3,6 +3,7 @@
 ghost use Rattle.std.specs.Prelude.{◌≡◌, ◌+◌, ◌<◌, ◌≤◌, ◌++◌, ◌∷◌, [], ◌⊎◌, ◌↔◌};
 ghost use Rattle.std.specs.Prelude.{Err, IsOk, IfOk, IfErr, OnOk, OnErr};
 ghost use Rattle.std.specs.Option.{option_copied};
+ghost use Rattle.arrow_core.specs.Errors.{OnlyOutOfMemory};
 ghost use Rattle.arrow_core.specs.declared.error.Error.TheVariants.{OutOfMemory, Overflow};
 ghost use Rattle.arrow_types.specs.Numbers.{greatest_offset};
 ghost use Rattle.arrow_types.specs.declared.slot.Slot.TheVariants.{String as StringSlot};
@@ -52,8 +53,9 @@ pub type MutableUtf8Array<O> = MutableContentArray<Utf8Values, O>;
 impl<O: Offset> MutableContentArray<Utf8Values, O> {
     /// Appends a slot, null for `None`.
     ///
-    /// `Overflow` exactly where the strings would have more bytes together than the greatest offset,
-    /// 2^31 - 1 or 2^63 - 1; it changes nothing. `OutOfMemory` leaves slots and bytes as they are.
+    /// `Overflow` exactly where the strings would have more bytes together than the greatest
+    /// offset, 2^31 - 1 or 2^63 - 1; it changes nothing. `OutOfMemory` leaves slots and bytes as
+    /// they are.
     #[inline]
     pub fn push(&mut self, value: Option<&str>) -> Result<()>
         ensures data_type { self.new.data_type ≡ self.old.data_type }
@@ -64,7 +66,8 @@ impl<O: Offset> MutableContentArray<Utf8Values, O> {
 
         ensures errors { IfErr result (λ e. (e ≡ Overflow) ⊎ (e ≡ OutOfMemory)) }
         ensures overflow { (result ≡ Err Overflow)
-            ↔ (greatest_offset O.IS_LARGE < self.old.bytes + content_len (option_copied value.entry)) }
+            ↔ (greatest_offset O.IS_LARGE
+            < self.old.bytes + content_len (option_copied value.entry)) }
         ensures overflow_kept { result ≡ Err Overflow → self.new ≡ self.old }
         ensures slots_kept { OnErr result (self.new.slots ≡ self.old.slots) }
         ensures bytes_kept { OnErr result (self.new.bytes ≡ self.old.bytes) }
@@ -81,7 +84,7 @@ impl<O: Offset> MutableContentArray<Utf8Values, O> {
     {
         match value {
             None => self.push_slot(&[], false),
-            Some(text) => self.push_slot(text.as_bytes(), true),
+            Some(string) => self.push_slot(string.as_bytes(), true),
         }
     }
 
@@ -94,7 +97,7 @@ impl<O: Offset> MutableContentArray<Utf8Values, O> {
         ensures array_slots { IfOk result (λ a. a.slots ≡ self.old.slots) }
         ensures emptied { OnOk result (self.new.slots ≡ []) }
         ensures no_bytes { OnOk result (self.new.bytes ≡ 0) }
-        ensures memory { IfErr result (λ e. e ≡ OutOfMemory) }
+        ensures memory { OnlyOutOfMemory result }
     {
         let first = first_offset(self.alloc, 1)?;
         let offsets = mem::replace(&mut self.offsets, first);

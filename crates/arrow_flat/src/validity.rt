@@ -1,8 +1,8 @@
 //! Which slots of a builder are valid.
 
-ghost use Rattle.std.specs.Prelude.{◌≡◌, ◌+◌, ◌≤◌, ◌++◌, ◌∷◌, [], length, true, replicate, IsOk, IfOk, IfErr, OnOk, OnErr};
-ghost use Rattle.arrow_core.specs.declared.error.Error.TheVariants.{OutOfMemory};
+ghost use Rattle.std.specs.Prelude.{◌≡◌, ◌+◌, ◌≤◌, ◌++◌, ◌∷◌, [], length, true, replicate, IsOk, IfOk, OnOk, OnErr};
 ghost use Rattle.arrow_flat.specs.Bits.{Tells};
+ghost use Rattle.arrow_core.specs.Errors.{OnlyOutOfMemory};
 
 use crate::bitmap::MutableBitmap;
 use arrow_bitmap::Bitmap;
@@ -90,7 +90,8 @@ impl MutableValidity {
     pub fn push(&mut self, is_valid: bool) -> std::result::Result<(), AllocError>
         ensures ok { OnOk result (self.new.items ≡ self.old.items ++ is_valid ∷ []) }
         ensures err { OnErr result (self.new ≡ self.old) }
-        ensures capacity { length self.old.items + self.old.spare ≤ length self.new.items + self.new.spare }
+        ensures capacity { length self.old.items + self.old.spare
+            ≤ length self.new.items + self.new.spare }
         ensures succeeds { 1 ≤ self.old.spare → IsOk result }
     {
         if is_valid && self.free > 0 {
@@ -108,7 +109,8 @@ impl MutableValidity {
     fn push_bit(&mut self, is_valid: bool) -> std::result::Result<(), AllocError>
         ensures ok { OnOk result (self.new.items ≡ self.old.items ++ is_valid ∷ []) }
         ensures err { OnErr result (self.new ≡ self.old) }
-        ensures capacity { length self.old.items + self.old.spare ≤ length self.new.items + self.new.spare }
+        ensures capacity { length self.old.items + self.old.spare
+            ≤ length self.new.items + self.new.spare }
         ensures succeeds { 1 ≤ self.old.spare → IsOk result }
     {
         if self.bits.len() == 0 {
@@ -119,14 +121,15 @@ impl MutableValidity {
         Ok(())
     }
 
-    /// `push`, where no bit is written yet: makes more capacity to count in, or writes the bits of the
-    /// slots so far.
+    /// `push`, where no bit is written yet: makes more capacity to count in, or writes the bits of
+    /// the slots so far.
     #[cold]
     #[inline(never)]
     fn begin(&mut self, is_valid: bool) -> std::result::Result<(), AllocError>
         ensures ok { OnOk result (self.new.items ≡ self.old.items ++ is_valid ∷ []) }
         ensures err { OnErr result (self.new ≡ self.old) }
-        ensures capacity { length self.old.items + self.old.spare ≤ length self.new.items + self.new.spare }
+        ensures capacity { length self.old.items + self.old.spare
+            ≤ length self.new.items + self.new.spare }
         ensures succeeds { 1 ≤ self.old.spare → IsOk result }
     {
         let counted = self.capacity - self.free;
@@ -147,7 +150,7 @@ impl MutableValidity {
     /// since all are valid.
     pub fn freeze(self) -> Result<Option<Bitmap>>
         ensures ok { IfOk result (λ validity. Tells validity self.items) }
-        ensures err { IfErr result (λ e. e ≡ OutOfMemory) }
+        ensures err { OnlyOutOfMemory result }
     {
         let MutableValidity {
             bits,

@@ -8,7 +8,7 @@ use Rattle.arrow_types.specs.declared.slot.Slot.TheVariants as slot
 abbrev pub AreZeros : List ℤ → Type 0
 AreZeros = All (λ n. n ≡ pos 0)
 
--- the slot of a value that stands for these numbers: the number, or a record of several
+-- the slot of a value that stands for these numbers: the number, or a struct of several
 abbrev pub slot_of_numbers : List ℤ → Slot
 slot_of_numbers (n ∷ []) = slot.Integer n
 slot_of_numbers ns = slot.Struct (map slot.Integer ns)

@@ -7,7 +7,7 @@ use arrow_core::{Box, Items, Result, Text};
 use std::alloc::Global;
 
 impl DataType {
-    /// A copy of this type.
+    /// A copy of this type, with memory of its own. `OutOfMemory` alone.
     pub fn try_clone(&self, alloc: Global) -> Result<DataType>
         ensures copy { IfOk result (λ copied. copied ≡ self.now) }
         ensures memory { OnlyOutOfMemory result }
@@ -17,7 +17,7 @@ impl DataType {
 }
 
 impl Field {
-    /// A copy of this field.
+    /// A copy of this field, with memory of its own. `OutOfMemory` alone.
     pub fn try_clone(&self, alloc: Global) -> Result<Field>
         ensures copy { IfOk result (λ copied. copied ≡ self.now) }
         ensures memory { OnlyOutOfMemory result }
@@ -27,7 +27,7 @@ impl Field {
 }
 
 impl Schema {
-    /// A copy of this schema.
+    /// A copy of this schema, with memory of its own. `OutOfMemory` alone.
     pub fn try_clone(&self, alloc: Global) -> Result<Schema>
         ensures copy { IfOk result (λ copied. copied ≡ self.now) }
         ensures memory { OnlyOutOfMemory result }

@@ -25,7 +25,7 @@ pub trait NativeType: Copy + Eq + Drop {
     fn zero() -> Self
         ensures { AreZeros (numbers result) };
 
-    // the slot is the one number, or the record of the several numbers
+    // the slot is the one number, or the struct of the several numbers
     ghost tells_slot: { (x : Self) → native_slot x ≡ slot_of_numbers (numbers x) };
 
     // the numbers leave nothing of the value out

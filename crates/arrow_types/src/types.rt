@@ -120,15 +120,15 @@ pub enum DataType {
     FixedSizeList(Box<Field>, usize),
     /// Lists of the field, with offsets of 64 bits.
     LargeList(Box<Field>),
-    /// Records of the fields.
+    /// Structs of the fields.
     Struct(Items<Field>),
-    /// Lists of the field, which is a record of a key and a value, and whether the keys are sorted.
+    /// Lists of the field, which is a struct of a key and a value, and whether the keys are sorted.
     Map(Box<Field>, bool),
     /// Values of any one of the fields, the number that stands for each field where it isn't its
     /// index, and how the children lie.
     Union(Items<Field>, Option<Items<i32>>, UnionMode),
-    /// Indexes into a column of distinct values: the type of the indexes, the type of the values, and
-    /// whether the values are sorted.
+    /// Indexes into a column of distinct values: the type of the indexes, the type of the values,
+    /// and whether the values are sorted.
     Dictionary(IntegerType, Box<DataType>, bool),
     /// Numbers of 128 bits with so many decimal digits, so many of them after the point.
     Decimal(usize, usize),
@@ -138,7 +138,7 @@ pub enum DataType {
     Extension(Text, Box<DataType>, Option<Text>),
 }
 
-/// A named column of a record or a schema.
+/// A named column of a struct or a schema.
 #[cycle(types)]
 #[derive(Drop, PartialEq, Eq, PartialOrd, Ord, Hash)]
 pub struct Field {
@@ -164,10 +164,15 @@ pub struct Schema {
 impl Field {
     ghost use Rattle.std.specs.Prelude.{◌≡◌, []};
 
-    /// A field without metadata.
+    /// A field of this name and type, without metadata.
     pub fn new(alloc: Global, name: Text, data_type: DataType, is_nullable: bool) -> Field
         ensures { result
-            ≡ record { name = name; data_type = data_type; is_nullable = is_nullable; metadata = [] } }
+            ≡ record {
+              name = name;
+              data_type = data_type;
+              is_nullable = is_nullable;
+              metadata = [];
+            } }
     {
         Field {
             name,

@@ -5,7 +5,7 @@ use Rattle.arrow_builders.specs.MutableArrays.{nodes}
 use Rattle.arrow_builders.specs.Shapes.{shape}
 use Rattle.arrow_builders.specs.declared.array.MutableArray.{MutableArray}
 use Rattle.avro_schema.specs.declared.schema.AvroField.{AvroField}
-use Rattle.avro_decode.specs.Growth.{Grows, AllReach, HaveSpare, ChildrenGrow, ChildrenReach, ChildrenHaveSpare}
+use Rattle.avro_decode.specs.Growth.{Grows, AllOffsetsReach, HaveSpare, ChildrenGrow, ChildrenReach, ChildrenHaveSpare}
 use Rattle.avro_decode.specs.Masks.{mask}
 use Rattle.avro_decode.specs.Suits.{Suits, AllSuit}
 use Rattle.avro_decode.proofs.Fields.{suit_at, reach_at, spare_at, children_set}
@@ -23,8 +23,8 @@ module _ (fs : List AvroField) (bs : List MutableArray) (k : ℕ) (f : AvroField
   suits_here lt is h = subst (λ (g : AvroField). Suits g.schema (shape (get_or bs k b))) is (suit_at fs bs k f b lt h)
 
 module _ (n : ℕ) (fs : List AvroField) (bs : List MutableArray) (k : ℕ) (f : AvroField) (b : MutableArray) where
-  pub reach_here : length fs ≡ length bs → k < length fs → get_or fs k f ≡ f → ChildrenReach n fs bs → AllReach (mask true f.schema) n (nodes (get_or bs k b))
-  reach_here l lt is h = subst (λ (g : AvroField). AllReach (mask true g.schema) n (nodes (get_or bs k b))) is (reach_at n fs bs k f b l lt h)
+  pub reach_here : length fs ≡ length bs → k < length fs → get_or fs k f ≡ f → ChildrenReach n fs bs → AllOffsetsReach (mask true f.schema) n (get_or bs k b)
+  reach_here l lt is h = subst (λ (g : AvroField). AllOffsetsReach (mask true g.schema) n (get_or bs k b)) is (reach_at n fs bs k f b l lt h)
 
   pub spare_here : length fs ≡ length bs → k < length fs → get_or fs k f ≡ f → ChildrenHaveSpare n fs bs → HaveSpare (mask false f.schema) n (nodes (get_or bs k b))
   spare_here l lt is h = subst (λ (g : AvroField). HaveSpare (mask false g.schema) n (nodes (get_or bs k b))) is (spare_at n fs bs k f b l lt h)

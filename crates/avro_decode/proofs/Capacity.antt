@@ -10,10 +10,10 @@ use Rattle.arrow_builders.specs.Fits.{TypesFit}
 use Rattle.arrow_builders.specs.Shapes.{shape}
 use Rattle.arrow_builders.proofs.Heads.{no_slots, same_type}
 use Rattle.avro_schema.specs.declared.schema.AvroField.{AvroField}
-use Rattle.avro_grammar.specs.ValidBlock.{small_limit}
+use Rattle.arrow_types.specs.Numbers.{greatest_offset}
 use Rattle.avro_skip.specs.Costs.{passed}
 use Rattle.avro_decode.specs.Capacity.{AtNodes, BetweenNodes, ReservedCapacityStays}
-use Rattle.avro_decode.specs.Growth.{Fills, AllFill, Reaches, AllReach, HaveSpare, BothFill, ChildrenGrow, ChildrenReach, ChildrenHaveSpare}
+use Rattle.avro_decode.specs.Growth.{Fills, AllFill, all_large, Reaches, AllReach, HaveSpare, BothFill, ChildrenGrow, ChildrenReach, ChildrenHaveSpare}
 use Rattle.avro_decode.specs.Masks.{mask, paid, later, content, total, BytesPayForAll}
 use Rattle.avro_decode.proofs.Columns.{AreEmpty}
 
@@ -22,22 +22,27 @@ use Rattle.avro_decode.proofs.Columns.{AreEmpty}
 rest_of : {A : Type 0} (P : A → Type 0) (x : A) (xs : List A) → All P (x ∷ xs) → P x × All P xs
 rest_of P x xs h = (h 0 x (omega arith), λ k d lt. h (suc k) d (omega (arith, lt)))
 
-one_reach : (p : Bool) (n : ℕ) (x : Node) → n ≤ small_limit → IsEmpty x → Reaches p n x
-one_reach true n x le e = (omega (arith, le, e.slots), omega (arith, le, e.bytes))
-one_reach false n x le e = (omega (arith, le, e.slots), tt)
+one_reach : (large p : Bool) (n : ℕ) (x : Node) → n ≤ greatest_offset large → IsEmpty x → Reaches large p n x
+one_reach large true n x le e = (omega (arith, le, e.slots), omega (arith, le, e.bytes))
+one_reach large false n x le e = (omega (arith, le, e.slots), tt)
 
-nodes_reach : (ms : List Bool) (n : ℕ) (xs : List Node) → n ≤ small_limit → All IsEmpty xs → AllReach ms n xs
-nodes_reach ms n [] le h = tt
-nodes_reach ms n (x ∷ xs) le h =
+nodes_reach : (large : Bool) (ms : List Bool) (n : ℕ) (xs : List Node) → n ≤ greatest_offset large → All IsEmpty xs → AllReach large ms n xs
+nodes_reach large ms n [] le h = tt
+nodes_reach large ms n (x ∷ xs) le h =
     let r = rest_of IsEmpty x xs h in
-    (one_reach (paid ms) n x le r.0, nodes_reach (later ms) n xs le r.1)
+    (one_reach large (paid ms) n x le r.0, nodes_reach large (later ms) n xs le r.1)
 
-pub empty_reach : (n : ℕ) (fs : List AvroField) (bs : List MutableArray) → n ≤ small_limit → AtNodes IsEmpty bs → ChildrenReach n fs bs
+-- offsets of each builder can count n
+abbrev pub CanCount : ℕ → List MutableArray → Type 0
+CanCount n [] = Unit {0}
+CanCount n (b ∷ bs) = (n ≤ greatest_offset (all_large (shape b))) × CanCount n bs
+
+pub empty_reach : (n : ℕ) (fs : List AvroField) (bs : List MutableArray) → CanCount n bs → AtNodes IsEmpty bs → ChildrenReach n fs bs
 empty_reach n [] bs le h = tt
 empty_reach n (f ∷ fs) [] le h = tt
 empty_reach n (f ∷ fs) (b ∷ bs) le h =
     let r = rest_of (λ (c : MutableArray). All IsEmpty (nodes c)) b bs h in
-    (nodes_reach (mask true f.schema) n (nodes b) le r.0, empty_reach n fs bs le r.1)
+    (nodes_reach (all_large (shape b)) (mask true f.schema) n (nodes b) le.0 r.0, empty_reach n fs bs le.1 r.1)
 
 pub slots_empty : (bs : List MutableArray) → AtNodes IsEmpty bs → AreEmpty (map builder_slots bs)
 slots_empty [] h = tt

@@ -1,20 +1,21 @@
 -- The loop over a record's fields, each into its child.
-use Rattle.std.proofs.Common.{◌≡◌, ◌∙◌, ℕ, zero, suc, ◌+◌, ◌<◌, ◌≤◌, true, false, List, [], ◌∷◌, ◌++◌, length, get_or, set, map, drop, Option, Some, None, refl, sym, ap, subst, add-one, arith}
+use Rattle.std.proofs.Common.{◌≡◌, ◌∙◌, ℕ, zero, suc, ◌+◌, ◌<◌, ◌≤◌, Bool, true, false, ◌&&◌, List, [], ◌∷◌, ◌++◌, length, get_or, set, map, drop, Option, Some, None, refl, sym, ap, subst, add-one, arith}
 use Rattle.std.specs.Prelude.{option_and_then}
 use Rattle.std.proofs.lemmas.List.{length-append, length-map, map-set, get_or-map}
 use Rattle.std.proofs.Math.Seq.{drop-cons}
+use Rattle.arrow_types.specs.Numbers.{greatest_offset}
 use Rattle.arrow_types.specs.declared.slot.Slot.{Slot}
 use Rattle.arrow_types.specs.declared.slot.Slot.TheVariants as slot
 use Rattle.arrow_array.specs.Structs.{record_at}
 use Rattle.arrow_builders.specs.Builders.{slots_where}
-use Rattle.arrow_builders.specs.Children.{all_nodes}
+use Rattle.arrow_builders.specs.Children.{all_nodes, fields_of}
 use Rattle.arrow_builders.specs.MutableArrays.{builder_slots, nodes}
 use Rattle.arrow_builders.specs.Nested.{marks_node}
 use Rattle.arrow_builders.specs.Nodes.{Node, Takes, HasSpare}
-use Rattle.arrow_builders.specs.Shapes.{shape}
+use Rattle.arrow_builders.specs.Shapes.{Shape, shape}
 use Rattle.arrow_builders.specs.declared.array.MutableArray.{MutableArray, Struct}
 use Rattle.arrow_builders.specs.declared.structs.DynMutableStructArray.{DynMutableStructArray}
-use Rattle.arrow_builders.proofs.Rows.{slots-record, nodes-record}
+use Rattle.arrow_builders.proofs.Rows.{slots-record, nodes-record, shape-record}
 use Rattle.avro_schema.specs.Number.{MovesForward}
 use Rattle.avro_schema.specs.declared.schema.AvroField.{AvroField}
 use Rattle.avro_reference.specs.Read.{push_one, read}
@@ -25,12 +26,12 @@ use Rattle.avro_flat.specs.Decoding.{Fails}
 use Rattle.avro_flat.specs.declared.fault.DecodeFault.{DecodeFault}
 use Rattle.avro_flat.specs.declared.fault.DecodeFault.TheVariants.{Bytes, Memory}
 use Rattle.avro_decode.specs.Masks.{mask, content, total}
-use Rattle.avro_decode.specs.Growth.{masks, AllFill, Grows, AllReach, HaveSpare, BothFill, ChildrenGrow, ChildrenReach, ChildrenHaveSpare}
+use Rattle.avro_decode.specs.Growth.{masks, AllFill, Grows, all_large, AllReach, AllOffsetsReach, HaveSpare, BothFill, ChildrenGrow, ChildrenReach, ChildrenHaveSpare}
 use Rattle.avro_decode.specs.Suits.{Suits, AllSuit}
 use Rattle.arrow_builders.specs.Tight.{IsTight, AllTight}
 use Rattle.avro_decode.specs.Growth.{PartTight}
 use Rattle.avro_skip.proofs.Counting.{not_longer}
-use Rattle.avro_decode.proofs.Nodes.{grows_none, all_fill_more, all_reach_after, spare_after, fill_append, content_append, reach_append, spare_append}
+use Rattle.avro_decode.proofs.Nodes.{grows_none, all_fill_more, all_reach_after, reach_wider, both_below, spare_after, fill_append, content_append, reach_append, spare_append}
 use Rattle.avro_flat.proofs.Pushes.{fills}
 use Rattle.avro_decode.proofs.Reading.{push_parts, push_none_parts}
 use Rattle.arrow_builders.proofs.Staying.{tight_long, records_stay, record_last}
@@ -124,21 +125,23 @@ children_set n (f ∷ fs) (b ∷ bs) (suc i) d e c l lt g =
     let r = children_set n fs bs i d e c (omega (arith, l)) (omega (arith, lt)) g in
     record { each = ((grows_none (mask false f.schema) n (nodes b)).each, r.each); all = omega (arith, r.all) }
 
-pub reach_at : (n : ℕ) (fs : List AvroField) (bs : List MutableArray) (i : ℕ) (d : AvroField) (e : MutableArray) → length fs ≡ length bs → i < length fs → ChildrenReach n fs bs → AllReach (mask true (get_or fs i d).schema) n (nodes (get_or bs i e))
+pub reach_at : (n : ℕ) (fs : List AvroField) (bs : List MutableArray) (i : ℕ) (d : AvroField) (e : MutableArray) → length fs ≡ length bs → i < length fs → ChildrenReach n fs bs → AllOffsetsReach (mask true (get_or fs i d).schema) n (get_or bs i e)
 reach_at n [] bs i d e l lt h = absurd (omega (arith, lt))
 reach_at n (f ∷ fs) [] i d e l lt h = absurd (omega (arith, l))
 reach_at n (f ∷ fs) (b ∷ bs) zero d e l lt h = h.0
 reach_at n (f ∷ fs) (b ∷ bs) (suc i) d e l lt h = reach_at n fs bs i d e (omega (arith, l)) (omega (arith, lt)) h.1
 
-pub children_reach : (x y : List ℕ) (fs : List AvroField) (bs cs : List MutableArray) → MovesForward x y → BothFill (passed x y) fs bs cs → ChildrenReach (length x) fs bs → ChildrenReach (length y) fs cs
-children_reach x y [] [] [] f g h = tt
-children_reach x y [] [] (c ∷ cs) f g h = absurd g
-children_reach x y [] (b ∷ bs) cs f g h = absurd g
-children_reach x y (a ∷ fs) [] cs f g h = absurd g
-children_reach x y (a ∷ fs) (b ∷ bs) [] f g h = absurd g
-children_reach x y (a ∷ fs) (b ∷ bs) (c ∷ cs) f g h =
+pub children_reach : (x y : List ℕ) (fs : List AvroField) (bs cs : List MutableArray) → map shape cs ≡ map shape bs → MovesForward x y → BothFill (passed x y) fs bs cs → ChildrenReach (length x) fs bs → ChildrenReach (length y) fs cs
+children_reach x y [] [] [] e f g h = tt
+children_reach x y [] [] (c ∷ cs) e f g h = absurd g
+children_reach x y [] (b ∷ bs) cs e f g h = absurd g
+children_reach x y (a ∷ fs) [] cs e f g h = absurd g
+children_reach x y (a ∷ fs) (b ∷ bs) [] e f g h = absurd g
+children_reach x y (a ∷ fs) (b ∷ bs) (c ∷ cs) e f g h =
     let l = not_longer x y f in
-    (all_reach_after (mask true a.schema) (mask false a.schema) (length x) (length y) (passed x y) (nodes b) (nodes c) (mask_fewer a.schema) g.0 (omega (arith, l)) h.0, children_reach x y fs bs cs f g.1 h.1)
+    let p = heads (shape c) (shape b) (map shape cs) (map shape bs) e in
+    let r = all_reach_after (all_large (shape b)) (mask true a.schema) (mask false a.schema) (length x) (length y) (passed x y) (nodes b) (nodes c) (mask_fewer a.schema) g.0 (omega (arith, l)) h.0 in
+    (subst (λ (s : Shape). AllReach (all_large s) (mask true a.schema) (length y) (nodes c)) (sym p.0) r, children_reach x y fs bs cs p.1 f g.1 h.1)
 
 pub spare_at : (n : ℕ) (fs : List AvroField) (bs : List MutableArray) (i : ℕ) (d : AvroField) (e : MutableArray) → length fs ≡ length bs → i < length fs → ChildrenHaveSpare n fs bs → HaveSpare (mask false (get_or fs i d).schema) n (nodes (get_or bs i e))
 spare_at n [] bs i d e l lt h = absurd (omega (arith, lt))
@@ -173,12 +176,14 @@ total_is [] (b ∷ bs) s = absurd s
 total_is (f ∷ fs) [] s = absurd s
 total_is (f ∷ fs) (b ∷ bs) s = content_append (mask false f.schema) (masks false fs) (nodes b) (all_nodes bs) (mask_length false f.schema b s.0) ∙ ap (λ (k : ℕ). content (mask false f.schema) (nodes b) + k) (total_is fs bs s.1)
 
-all_reach : (n : ℕ) (fs : List AvroField) (bs : List MutableArray) → AllSuit fs bs → AllReach (masks true fs) n (all_nodes bs) → ChildrenReach n fs bs
-all_reach n [] bs s h = tt
-all_reach n (f ∷ fs) [] s h = tt
-all_reach n (f ∷ fs) (b ∷ bs) s h =
-    let r = reach_append (mask true f.schema) (masks true fs) n (nodes b) (all_nodes bs) (mask_length true f.schema b s.0) h in
-    (r.0, all_reach n fs bs s.1 r.1)
+all_reach : (large : Bool) (n : ℕ) (fs : List AvroField) (bs : List MutableArray) → AllSuit fs bs → greatest_offset large ≤ greatest_offset (all_large (fields_of (map shape bs))) → AllReach large (masks true fs) n (all_nodes bs) → ChildrenReach n fs bs
+all_reach large n [] bs s le h = tt
+all_reach large n (f ∷ fs) [] s le h = tt
+all_reach large n (f ∷ fs) (b ∷ bs) s le h =
+    let r = reach_append large (mask true f.schema) (masks true fs) n (nodes b) (all_nodes bs) (mask_length true f.schema b s.0) h in
+    let k = both_below (all_large (shape b)) (all_large (fields_of (map shape bs))) in
+    let both : greatest_offset large ≤ greatest_offset (all_large (shape b) && all_large (fields_of (map shape bs))) = le in
+    (reach_wider large (all_large (shape b)) (mask true f.schema) n (nodes b) (omega (arith, both, k.0)) r.0, all_reach large n fs bs s.1 (omega (arith, both, k.1)) r.1)
 
 all_spare : (n : ℕ) (fs : List AvroField) (bs : List MutableArray) → AllSuit fs bs → HaveSpare (masks false fs) n (all_nodes bs) → ChildrenHaveSpare n fs bs
 all_spare n [] bs s h = tt
@@ -187,13 +192,21 @@ all_spare n (f ∷ fs) (b ∷ bs) s h =
     let r = spare_append (mask false f.schema) (masks false fs) n (nodes b) (all_nodes bs) (mask_length false f.schema b s.0) h in
     (r.0, all_spare n fs bs s.1 r.1)
 
+same_below : (b : Bool) → greatest_offset b ≤ greatest_offset b
+same_below b = omega arith
+
 -- ---- the builder of records
 
 module _ (fs : List AvroField) (b : DynMutableStructArray) (s : AllSuit fs b.values.items) where
-  pub record_reach : (n : ℕ) → AllReach (true ∷ masks true fs) n (nodes (Struct b)) → ChildrenReach n fs b.values.items
+  beneath : (n : ℕ) → AllOffsetsReach (true ∷ masks true fs) n (Struct b) → AllReach (all_large (fields_of (map shape b.values.items))) (true ∷ masks true fs) n (marks_node b.marks ∷ all_nodes b.values.items)
+  beneath n h =
+      subst (AllReach (all_large (fields_of (map shape b.values.items))) (true ∷ masks true fs) n) (nodes-record b)
+      (subst (λ (z : Shape). AllReach (all_large z) (true ∷ masks true fs) n (nodes (Struct b))) (shape-record b) h)
+
+  pub record_reach : (n : ℕ) → AllOffsetsReach (true ∷ masks true fs) n (Struct b) → ChildrenReach n fs b.values.items
   record_reach n h =
-      let r : AllReach (true ∷ masks true fs) n (marks_node b.marks ∷ all_nodes b.values.items) = subst (AllReach (true ∷ masks true fs) n) (nodes-record b) h in
-      all_reach n fs b.values.items s r.1
+      let r = beneath n h in
+      all_reach (all_large (fields_of (map shape b.values.items))) n fs b.values.items s (same_below (all_large (fields_of (map shape b.values.items)))) r.1
 
   pub record_spare : (n : ℕ) → HaveSpare (true ∷ masks false fs) n (nodes (Struct b)) → HasSpare n (marks_node b.marks) × ChildrenHaveSpare n fs b.values.items
   record_spare n h =

@@ -5,16 +5,17 @@ use Rattle.arrow_types.specs.declared.slot.Slot.{Slot}
 use Rattle.arrow_types.specs.declared.slot.Slot.TheVariants as slot
 use Rattle.arrow_builders.specs.Nodes.{Node, Takes, HasSpare}
 use Rattle.arrow_builders.specs.Nested.{items_of, lists_from}
-use Rattle.arrow_builders.specs.Shapes.{shape}
+use Rattle.arrow_builders.specs.Shapes.{Shape, shape}
 use Rattle.arrow_builders.specs.MutableArrays.{builder_slots, nodes}
-use Rattle.arrow_builders.specs.declared.array.MutableArray.{MutableArray, List as ListOf}
+use Rattle.arrow_builders.specs.declared.array.MutableArray.{MutableArray, List as ListOf, LargeList as LargeListOf}
 use Rattle.arrow_builders.proofs.Heads.{first_node}
 use Rattle.arrow_builders.specs.declared.list.DynMutableListArray.{DynMutableListArray}
+use Rattle.arrow_builders.specs.declared.large_list.DynMutableLargeListArray.{DynMutableLargeListArray}
 use Rattle.avro_schema.specs.Number.{MovesForward}
 use Rattle.avro_schema.specs.declared.schema.Schema.{Schema, Array}
 use Rattle.avro_reference.specs.Prefix.{Reader}
 use Rattle.avro_reference.specs.Read.{push_one, read}
-use Rattle.avro_grammar.specs.ValidBlock.{small_limit}
+use Rattle.arrow_types.specs.Numbers.{greatest_offset}
 use Rattle.avro_reference.proofs.ByLists.{read_array}
 use Rattle.avro_skip.specs.Costs.{passed}
 use Rattle.avro_flat.specs.Decoding.{Fails, Gives}
@@ -22,14 +23,14 @@ use Rattle.avro_decode.specs.Decoding.{all_blocks}
 use Rattle.avro_flat.specs.declared.fault.DecodeFault.{DecodeFault}
 use Rattle.avro_flat.specs.declared.fault.DecodeFault.TheVariants.{Memory}
 use Rattle.avro_decode.specs.Masks.{mask, paid}
-use Rattle.avro_decode.specs.Growth.{Grows, Reaches, AllReach, HaveSpare}
+use Rattle.avro_decode.specs.Growth.{Grows, all_large, Reaches, AllReach, AllOffsetsReach, HaveSpare}
 use Rattle.avro_decode.specs.Suits.{Suits}
 use Rattle.avro_skip.proofs.Counting.{not_longer}
-use Rattle.avro_decode.proofs.Nodes.{grows_more, grows_wider, all_reach_after, reach_less, all_reach_fewer, spare_after}
+use Rattle.avro_decode.proofs.Nodes.{grows_more, grows_wider, all_reach_after, reach_less, reach_wider, small_below, large_above, all_reach_fewer, spare_after}
 use Rattle.avro_flat.proofs.Pushes.{fills}
 use Rattle.avro_decode.proofs.Reading.{array-reads, array-err, blocks-all}
 use Rattle.avro_decode.proofs.Lists.{list_more}
-use Rattle.avro_decode.proofs.Suited.{suits_array, mask_array, mask_fewer}
+use Rattle.avro_decode.proofs.Suited.{suits_array, suits_large_array, mask_array, mask_fewer}
 use Rattle.std.proofs.lemmas.List.{length-append}
 
 -- ---- growth over two calls
@@ -58,15 +59,23 @@ grows_behind ms x y z xs ys lt g h =
     let b = not_longer y z g in
     grows_wider ms (passed y z + 1) (passed x z) xs ys h (omega (arith, lt, b))
 
-pub reach_on : (s : Schema) (x y : List ℕ) (xs ys : List Node) → MovesForward x y → Grows (mask false s) (passed x y) xs ys → AllReach (mask true s) (length x) xs → AllReach (mask true s) (length y) ys
-reach_on s x y xs ys f g h =
+pub reach_on : (large : Bool) (s : Schema) (x y : List ℕ) (xs ys : List Node) → MovesForward x y → Grows (mask false s) (passed x y) xs ys → AllReach large (mask true s) (length x) xs → AllReach large (mask true s) (length y) ys
+reach_on large s x y xs ys f g h =
     let a = not_longer x y f in
-    all_reach_after (mask true s) (mask false s) (length x) (length y) (passed x y) xs ys (mask_fewer s) g.each (omega (arith, a)) h
+    all_reach_after large (mask true s) (mask false s) (length x) (length y) (passed x y) xs ys (mask_fewer s) g.each (omega (arith, a)) h
 
-pub reach_then : (s : Schema) (x y z : List ℕ) (xs ys : List Node) → MovesForward x y → MovesForward y z → Grows (mask false s) (passed x y) xs ys → AllReach (mask true s) (length x) xs → AllReach (mask true s) (length z) ys
-reach_then s x y z xs ys f k g h =
-    let b = not_longer y z k in
-    reach_less (mask true s) (length y) (length z) ys b (reach_on s x y xs ys f g h)
+-- the same of builders of one shape
+pub offsets_on : (s : Schema) (x y : List ℕ) (b c : MutableArray) → shape c ≡ shape b → MovesForward x y → Grows (mask false s) (passed x y) (nodes b) (nodes c) → AllOffsetsReach (mask true s) (length x) b → AllOffsetsReach (mask true s) (length y) c
+offsets_on s x y b c e f g h =
+    subst (λ (z : Shape). AllReach (all_large z) (mask true s) (length y) (nodes c)) (sym e) (reach_on (all_large (shape b)) s x y (nodes b) (nodes c) f g h)
+
+pub offsets_then : (s : Schema) (x y z : List ℕ) (b c : MutableArray) → shape c ≡ shape b → MovesForward x y → MovesForward y z → Grows (mask false s) (passed x y) (nodes b) (nodes c) → AllOffsetsReach (mask true s) (length x) b → AllOffsetsReach (mask true s) (length z) c
+offsets_then s x y z b c e f k g h =
+    let l = not_longer y z k in
+    reach_less (all_large (shape c)) (mask true s) (length y) (length z) (nodes c) l (offsets_on s x y b c e f g h)
+
+pub offsets_less : (ms : List Bool) (m n : ℕ) (b : MutableArray) → n ≤ m → AllOffsetsReach ms m b → AllOffsetsReach ms n b
+offsets_less ms m n b le h = reach_less (all_large (shape b)) ms m n (nodes b) le h
 
 pub spare_on : (ms : List Bool) (x y z : List ℕ) (xs ys : List Node) → MovesForward x y → MovesForward y z → Grows ms (passed x y) xs ys → HaveSpare ms (length x) xs → HaveSpare ms (length z) ys
 spare_on ms x y z xs ys f k g h =
@@ -74,15 +83,48 @@ spare_on ms x y z xs ys f k g h =
     let b = not_longer y z k in
     spare_after ms (length x) (length z) (passed x y) xs ys g.each (omega (arith, a, b)) h
 
+-- ---- the first node has as many slots as the builder
+
+top : (large : Bool) (ms : List Bool) (x : Node) (xs : List Node) (n : ℕ) → x.slots ≡ n → AllReach large ms 0 (x ∷ xs) → n ≤ greatest_offset large
+top large ms x xs n e h = from (paid ms) h.0
+  where
+    from : (p : Bool) → Reaches large p 0 x → n ≤ greatest_offset large
+    from true r = omega (arith, r.0, e)
+    from false r = omega (arith, r.0, e)
+
+few_slots : (large : Bool) (ms : List Bool) (b : MutableArray) → AllReach large ms 0 (nodes b) → length (builder_slots b) ≤ greatest_offset large
+few_slots large ms b h = let f = first_node b in top large ms f.0 f.1 (length (builder_slots b)) f.3 (subst (AllReach large ms 0) f.2 h)
+
 -- ---- a builder of lists and its child
 
 pub list_suits : (item : Schema) (b : DynMutableListArray) → Suits (Array item) (shape (ListOf b)) → Suits item (shape b.values.value)
 list_suits item b h = subst (λ (P : Type 0). P) (suits_array item b) h
 
-pub list_reach : (item : Schema) (n : ℕ) (x : Node) (xs : List Node) → AllReach (mask true (Array item)) n (x ∷ xs) → AllReach (mask true item) n xs
-list_reach item n x xs h =
-    let r : AllReach (true ∷ mask false item) n (x ∷ xs) = subst (λ (ms : List Bool). AllReach ms n (x ∷ xs)) (mask_array true item) h in
-    all_reach_fewer (mask true item) (mask false item) n n xs (mask_fewer item) (omega arith) r.1
+pub large_list_suits : (item : Schema) (b : DynMutableLargeListArray) → Suits (Array item) (shape (LargeListOf b)) → Suits item (shape b.values.value)
+large_list_suits item b h = subst (λ (P : Type 0). P) (suits_large_array item b) h
+
+pub list_reach : (large : Bool) (item : Schema) (n : ℕ) (x : Node) (xs : List Node) → AllReach large (mask true (Array item)) n (x ∷ xs) → AllReach large (mask true item) n xs
+list_reach large item n x xs h =
+    let r : AllReach large (true ∷ mask false item) n (x ∷ xs) = subst (λ (ms : List Bool). AllReach large ms n (x ∷ xs)) (mask_array true item) h in
+    all_reach_fewer large (mask true item) (mask false item) n n xs (mask_fewer item) (omega arith) r.1
+
+-- the child's own offsets may have 64 bits
+pub item_reach : (item : Schema) (n : ℕ) (x : Node) (b : MutableArray) → AllReach false (mask true (Array item)) n (x ∷ nodes b) → AllOffsetsReach (mask true item) n b
+item_reach item n x b h = reach_wider false (all_large (shape b)) (mask true item) n (nodes b) (small_below (all_large (shape b))) (list_reach false item n x (nodes b) h)
+
+pub large_item_reach : (item : Schema) (n : ℕ) (x : Node) (b : MutableArray) → AllReach (all_large (shape b)) (mask true (Array item)) n (x ∷ nodes b) → AllOffsetsReach (mask true item) n b
+large_item_reach item n x b h = list_reach (all_large (shape b)) item n x (nodes b) h
+
+-- what the child took can be counted
+pub items_counted : (large : Bool) (item : Schema) (x y : List ℕ) (b c : MutableArray) (top : Node) → MovesForward x y → Grows (mask false item) (passed x y) (nodes b) (nodes c) → AllReach large (mask true (Array item)) (length x) (top ∷ nodes b) → length (builder_slots c) ≤ greatest_offset large
+items_counted large item x y b c top f g h =
+    few_slots large (mask true item) c (reach_less large (mask true item) (length y) 0 (nodes c) (omega arith) (reach_on large item x y (nodes b) (nodes c) f g (list_reach large item (length x) top (nodes b) h)))
+
+pub large_items_counted : (item : Schema) (x y : List ℕ) (b c : MutableArray) (top : Node) → MovesForward x y → Grows (mask false item) (passed x y) (nodes b) (nodes c) → AllReach (all_large (shape b)) (mask true (Array item)) (length x) (top ∷ nodes b) → length (builder_slots c) ≤ greatest_offset true
+large_items_counted item x y b c top f g h =
+    let k = items_counted (all_large (shape b)) item x y b c top f g h in
+    let l = large_above (all_large (shape b)) in
+    omega (arith, k, l)
 
 pub list_spare : (item : Schema) (n : ℕ) (x : Node) (xs : List Node) → HaveSpare (mask false (Array item)) n (x ∷ xs) → HasSpare n x × HaveSpare (mask false item) n xs
 list_spare item n x xs h =
@@ -106,15 +148,3 @@ list_gives (Ok x) item cs all old mid new lens bytes rest l e o m n err =
     subst (λ (f : Reader Slot). push_one old (f bytes) ≡ Some (new, rest)) (sym (read_array item))
     (array-reads (read item) cs all old new bytes rest e (λ xs q. list_more old new mid cs xs all lens l q o m n))
 list_gives (Err d) item cs all old mid new lens bytes rest l e o m n err = rw err tt
-
--- ---- the first node has as many slots as the builder
-
-pub top : (ms : List Bool) (x : Node) (xs : List Node) (n : ℕ) → x.slots ≡ n → AllReach ms 0 (x ∷ xs) → n ≤ small_limit
-top ms x xs n e h = from (paid ms) h.0
-  where
-    from : (p : Bool) → Reaches p 0 x → n ≤ small_limit
-    from true r = omega (arith, r.0, e)
-    from false r = omega (arith, r.0, e)
-
-pub few_slots : (ms : List Bool) (b : MutableArray) → AllReach ms 0 (nodes b) → length (builder_slots b) ≤ small_limit
-few_slots ms b h = let f = first_node b in top ms f.0 f.1 (length (builder_slots b)) f.3 (subst (AllReach ms 0) f.2 h)

@@ -4,6 +4,7 @@ pub mod Columns
 pub mod Fields
 pub mod Going
 pub mod KeptSchemas
+pub mod Large
 pub mod Lists
 pub mod Logical
 pub mod Making
@@ -11,6 +12,7 @@ pub mod Members
 pub mod NewBuilders
 pub mod Nodes
 pub mod OneField
+pub mod Pairs
 pub mod Reading
 pub mod RowCosts
 pub mod RowSteps

@@ -1,16 +1,18 @@
 -- Which schemas and data types stand in a schema that can be kept, and the builder that is made for it.
-use Rattle.std.proofs.Common.{◌≡◌, ◌∙◌, ◌⊎◌, inl, inr, ℕ, suc, ◌<◌, ◌≤◌, false, Option, None, Some, List, [], ◌∷◌, length, map, All, refl, sym, ap, subst, arith}
+use Rattle.std.proofs.Common.{◌≡◌, ◌∙◌, ◌⊎◌, inl, inr, ℕ, suc, ◌<◌, ◌≤◌, Bool, false, true, Option, None, Some, List, [], ◌∷◌, length, map, All, refl, sym, ap, subst, arith}
 use Rattle.std.specs.Prelude.{sum_by}
 use Rattle.std.proofs.lemmas.Bool.{cases_lt}
 use Rattle.std.proofs.lemmas.List.Elements.{All-cons}
+use Rattle.arrow_types.specs.declared.physical.PhysicalType.{PhysicalType}
 use Rattle.arrow_types.specs.declared.physical.PhysicalType.TheVariants as physical
 use Rattle.arrow_types.specs.declared.slot.Slot.TheVariants as slot
 use Rattle.arrow_types.specs.declared.types.Field.{Field}
-use Rattle.arrow_types.specs.declared.types.DataType.{DataType, List', Struct', items-the_row-Field, items_hidden-the_row-Field-1}
+use Rattle.arrow_types.specs.declared.types.DataType.{DataType, List', LargeList', Struct', items-the_row-Field, items_hidden-the_row-Field-1}
 use Rattle.arrow_types.specs.declared.types.DataType as data_type
 use Rattle.arrow_types.specs.declared.types.IntervalUnit.TheVariants as interval
 use Rattle.arrow_types.specs.declared.types.DataType.TheBlock.{shape-the_row-Field-0, hidden-the_row-Field-0}
 use Rattle.arrow_types.specs.Layouts.{physical_type}
+use Rattle.arrow_array.specs.Lists.{list_type, IsListOf}
 use Rattle.arrow_builders.specs.Children.{fields_of}
 use Rattle.arrow_builders.specs.Fits.{TypesFit, field_types}
 use Rattle.arrow_builders.specs.MutableArrays.{builder_type, nodes}
@@ -33,7 +35,7 @@ use Rattle.avro_grammar.specs.Carried.{IsFixedSize, Carried}
 use Rattle.avro_grammar.specs.Encodes.{IsNull}
 use Rattle.avro_grammar.specs.Listed.{CarriedMembersOf}
 use Rattle.avro_grammar.specs.TypeLaws.{HasMemberTypeOf}
-use Rattle.avro_grammar.specs.Types.{IsListOf, HasType, HasColumnType, fixed_type, symbol_type}
+use Rattle.avro_grammar.specs.Types.{IsListOf as TheForm, HasType, HasColumnType, fixed_type, symbol_type}
 use Rattle.avro_grammar.specs.ValidBlock.{small_limit, HasFloat, SymbolsFit, EnumsFit}
 use Rattle.avro_grammar.proofs.ByLists.{moved, carried_array, carried_union, carried_record}
 use Rattle.avro_grammar.proofs.TypeLemmas.{type_composites, float_composites, enum_composites}
@@ -69,7 +71,7 @@ IsOther (Union' p members) = ⊥
 IsOther (Enum e) = ⊥
 IsOther _ = Unit {0}
 
-flat_typed : (s : Schema) (t : DataType) → IsOther s → CanBeKept s → HasType false s t → IsFlatType t × Suits s (flat (physical_type t) t)
+flat_typed : (s : Schema) (t : DataType) → IsOther s → CanBeKept s → HasType true s t → IsFlatType t × Suits s (flat (physical_type t) t)
 flat_typed Boolean t o k h = rw h (tt, tt)
 flat_typed (Int None) t o k h = rw h (tt, tt)
 flat_typed (Int (Some int_logical.Date)) t o k h = rw h (tt, tt)
@@ -82,11 +84,11 @@ flat_typed (Long (Some long_logical.TimestampNanos)) t o k h = rw h (tt, tt)
 flat_typed (Long (Some long_logical.LocalTimestampMillis)) t o k h = rw h (tt, tt)
 flat_typed (Long (Some long_logical.LocalTimestampMicros)) t o k h = rw h (tt, tt)
 flat_typed (Long (Some long_logical.LocalTimestampNanos)) t o k h = rw h (tt, tt)
-flat_typed (Bytes None) t o k (inl h) = rw h (tt, tt)
-flat_typed (Bytes None) t o k (inr h) = absurd cc
+flat_typed (Bytes None) t o k (inl h) = rw h (tt, refl)
+flat_typed (Bytes None) t o k (inr h) = rw h.1 (tt, refl)
 flat_typed (Bytes (Some (bytes_logical.Decimal precision scale))) t o k h = rw h (tt, tt)
-flat_typed (String logical) t o k (inl h) = rw h (tt, tt)
-flat_typed (String logical) t o k (inr h) = absurd cc
+flat_typed (String logical) t o k (inl h) = rw h (tt, refl)
+flat_typed (String logical) t o k (inr h) = rw h.1 (tt, refl)
 flat_typed (Fixed f) t o k h = fixed_typed f t k.carried h
 flat_typed Float t o k h = absurd (k.no_float tt)
 flat_typed Double t o k h = absurd (k.no_float tt)
@@ -97,10 +99,10 @@ flat_typed (Enum e) t o k h = absurd o
 flat_typed (Array' p item) t o k h = absurd o
 flat_typed (Union' p members) t o k h = absurd o
 
-pub flat_type : (s : Schema) (t : DataType) → IsOther s → CanBeKept s → HasType false s t → IsFlatType t
+pub flat_type : (s : Schema) (t : DataType) → IsOther s → CanBeKept s → HasType true s t → IsFlatType t
 flat_type s t o k h = (flat_typed s t o k h).0
 
-pub new_flat : (s : Schema) (t : DataType) (b : MutableArray) → IsOther s → CanBeKept s → HasType false s t → shape b ≡ flat (physical_type t) t → All IsEmpty (nodes b) → IsNewBuilder s t b
+pub new_flat : (s : Schema) (t : DataType) (b : MutableArray) → IsOther s → CanBeKept s → HasType true s t → shape b ≡ flat (physical_type t) t → All IsEmpty (nodes b) → IsNewBuilder s t b
 new_flat s t b o k h e n = record {
   suits = subst (Suits s) (sym e) (flat_typed s t o k h).1;
   types_fit = subst TypesFit (sym e) tt;
@@ -122,9 +124,9 @@ pub enum_fits : (s : Schema) (e : TheEnum) (symbols : List (List ℕ)) → s ≡
 enum_fits s e symbols is same k =
     subst (λ (xs : List (List ℕ)). sum_by length xs ≤ small_limit) (sym same) (symbols_fit e (subst EnumsFit is k.symbols)).1
 
-pub new_dictionary : (s : Schema) (t : DataType) (b : MutableArray) (e : TheEnum) (symbols : List (List ℕ)) → s ≡ Enum e → symbols ≡ e.symbols → CanBeKept s → HasType false s t → shape b ≡ dictionary symbol_type (map slot.String symbols) → All IsEmpty (nodes b) → IsNewBuilder s t b
+pub new_dictionary : (s : Schema) (t : DataType) (b : MutableArray) (e : TheEnum) (symbols : List (List ℕ)) → s ≡ Enum e → symbols ≡ e.symbols → CanBeKept s → HasType true s t → shape b ≡ dictionary symbol_type (map slot.String symbols) → All IsEmpty (nodes b) → IsNewBuilder s t b
 new_dictionary s t b e symbols is same k h sh n =
-    let type : t ≡ symbol_type = subst (λ (x : Schema). HasType false x t) is h in
+    let type : t ≡ symbol_type = subst (λ (x : Schema). HasType true x t) is h in
     let fit = symbols_fit e (subst EnumsFit is k.symbols) in
     let suits : Suits (Enum e) (dictionary symbol_type (map slot.String symbols)) = (fit, ap (map slot.String) same) in
     record {
@@ -138,12 +140,14 @@ new_dictionary s t b e symbols is same k h sh n =
 
 abbrev items_of : DataType → List Field
 items_of (List' p row) = items-the_row-Field _ row
+items_of (LargeList' p row) = items-the_row-Field _ row
 items_of (Struct' p row) = items-the_row-Field _ row
 items_of _ = []
 
-items_of_list : (f : Field) → items_of (data_type.List f) ≡ f ∷ []
+items_of_list : (large : Bool) (f : Field) → items_of (list_type large f) ≡ f ∷ []
 unfolding shape-the_row-Field-0 hidden-the_row-Field-0 denote.Hole.Carrier.hidden
-items_of_list f = refl
+items_of_list false f = refl
+items_of_list true f = refl
 
 items_of_struct : (fs : List Field) → items_of (data_type.Struct fs) ≡ fs
 items_of_struct fs = items_hidden-the_row-Field-1 fs
@@ -151,23 +155,32 @@ items_of_struct fs = items_hidden-the_row-Field-1 fs
 only : (f g : Field) → f ∷ [] ≡ g ∷ [] → f ≡ g
 only f g e = cc
 
-suits_lists : (item : Schema) (t : DataType) (s : Shape) → Suits (Array item) (lists physical.List t s) ≡ Suits item s
+abbrev list_kind : Bool → PhysicalType
+list_kind false = physical.List
+list_kind true = physical.LargeList
+
+suits_lists : (large : Bool) (item : Schema) (t : DataType) (s : Shape) → Suits (Array item) (lists (list_kind large) t s) ≡ Suits item s
 unfolding shape_0 hidden_0 denote.Hole.Carrier.hidden
-suits_lists item t s = refl
+suits_lists false item t s = refl
+suits_lists true item t s = refl
+
+list_fits : (large : Bool) (t : DataType) (s : Shape) → IsListOf large t (shape_type s) → TypesFit s → TypesFit (lists (list_kind large) t s)
+list_fits false t s l f = (l, f)
+list_fits true t s l f = (l, f)
 
 module _ (s : Schema) (t : DataType) (item i : Schema) (e : s ≡ Array item) (x : i ≡ item) where
   abbrev ListOfItem : Type 0
-  ListOfItem = (g : Field) × (t ≡ data_type.List g) × HasColumnType false item g
+  ListOfItem = (large : Bool) × (g : Field) × (t ≡ list_type large g) × HasColumnType true item g
 
-  list_type : HasType false s t → ListOfItem
-  list_type h = from ((type_composites.array false item t).0 (subst (λ (y : Schema). HasType false y t) e h))
+  listed : HasType true s t → ListOfItem
+  listed h = from ((type_composites.array true item t).0 (subst (λ (y : Schema). HasType true y t) e h))
     where
-      from : (g : Field) × IsListOf false g t × HasColumnType false item g → ListOfItem
-      from (g, inl l, c) = (g, l, c)
-      from (g, inr l, c) = absurd cc
+      from : (g : Field) × TheForm true g t × HasColumnType true item g → ListOfItem
+      from (g, inl l, c) = (false, g, l, c)
+      from (g, inr l, c) = (true, g, l.1, c)
 
-  pub is_list : HasType false s t → (g : Field) × (t ≡ data_type.List g)
-  is_list h = let k = list_type h in (k.0, k.1)
+  pub is_list : HasType true s t → (large : Bool) × (g : Field) × (t ≡ list_type large g)
+  is_list h = let k = listed h in (k.0, k.1, k.2)
 
   pub item_kept : CanBeKept s → CanBeKept i
   item_kept k = subst CanBeKept (sym x) (record {
@@ -176,20 +189,20 @@ module _ (s : Schema) (t : DataType) (item i : Schema) (e : s ≡ Array item) (x
     symbols = (enum_composites.array item).0 (subst EnumsFit e k.symbols);
   })
 
-  module _ (f y : Field) (d : t ≡ data_type.List f) (z : y ≡ f) where
-    pub item_typed : HasType false s t → HasType false i y.data_type
+  module _ (large : Bool) (f y : Field) (d : t ≡ list_type large f) (z : y ≡ f) where
+    pub item_typed : HasType true s t → HasType true i y.data_type
     item_typed h =
-        let k = list_type h in
-        let same : k.0 ≡ y = only k.0 f (sym (items_of_list k.0) ∙ ap items_of (sym k.1 ∙ d) ∙ items_of_list f) ∙ sym z in
-        subst (λ (j : Schema). HasType false j y.data_type) (sym x) (subst (λ (g : Field). HasType false item g.data_type) same k.2.1)
+        let k = listed h in
+        let same : k.1 ≡ y = only k.1 f (sym (items_of_list k.0 k.1) ∙ ap items_of (sym k.2 ∙ d) ∙ items_of_list large f) ∙ sym z in
+        subst (λ (j : Schema). HasType true j y.data_type) (sym x) (subst (λ (g : Field). HasType true item g.data_type) same k.3.1)
 
-    pub new_list : (v b : MutableArray) → IsNewBuilder i y.data_type v → shape b ≡ lists physical.List t (shape v) → All IsEmpty (nodes b) → IsNewBuilder s t b
+    pub new_list : (v b : MutableArray) → IsNewBuilder i y.data_type v → shape b ≡ lists (list_kind large) t (shape v) → All IsEmpty (nodes b) → IsNewBuilder s t b
     new_list v b h sh n =
-        let suits : Suits (Array item) (lists physical.List t (shape v)) = moved (sym (suits_lists item t (shape v))) (subst (λ (j : Schema). Suits j (shape v)) x h.suits) in
+        let suits : Suits (Array item) (lists (list_kind large) t (shape v)) = moved (sym (suits_lists large item t (shape v))) (subst (λ (j : Schema). Suits j (shape v)) x h.suits) in
         let type : f.data_type ≡ shape_type (shape v) = ap (λ (g : Field). g.data_type) (sym z) ∙ sym h.data_type ∙ type_is v in
         record {
           suits = subst (λ (y : Schema). Suits y (shape b)) (sym e) (subst (Suits (Array item)) (sym sh) suits);
-          types_fit = subst TypesFit (sym sh) ((f, d, type), h.types_fit);
+          types_fit = subst TypesFit (sym sh) (list_fits large t (shape v) (f, d, type) h.types_fit);
           data_type = type_is b ∙ ap shape_type sh;
           empty = n;
         }
@@ -199,7 +212,7 @@ module _ (s : Schema) (t : DataType) (item i : Schema) (e : s ≡ Array item) (x
 -- one member's builder is the union's
 pub record IsChosen (members : List Schema) (s : Schema) (t : DataType) : Type 0 where
   pub kept : CanBeKept s
-  pub typed : HasType false s t
+  pub typed : HasType true s t
   pub back : (b : MutableArray) → IsNewBuilder s t b → IsNewBuilder (Union members) t b
 
 null_not_carried : (s : Schema) → IsNull s → Carried s → ⊥
@@ -214,12 +227,12 @@ of_union members s t b suits h = record {
   empty = h.empty;
 }
 
-module _ (a b : Schema) (t : DataType) (k : CanBeKept (Union (a ∷ b ∷ []))) (h : HasType false (Union (a ∷ b ∷ [])) t) where
+module _ (a b : Schema) (t : DataType) (k : CanBeKept (Union (a ∷ b ∷ []))) (h : HasType true (Union (a ∷ b ∷ [])) t) where
   carried : CarriedMembersOf (a ∷ b ∷ [])
   carried = moved (carried_union (a ∷ b ∷ [])) k.carried
 
-  types : HasMemberTypeOf false (a ∷ b ∷ []) t
-  types = (type_composites.union false (a ∷ b ∷ []) t).0 h
+  types : HasMemberTypeOf true (a ∷ b ∷ []) t
+  types = (type_composites.union true (a ∷ b ∷ []) t).0 h
 
   floats : All (λ s. HasFloat s → ⊥) (a ∷ b ∷ [])
   floats = (float_composites.union (a ∷ b ∷ [])).0 k.no_float
@@ -230,7 +243,7 @@ module _ (a b : Schema) (t : DataType) (k : CanBeKept (Union (a ∷ b ∷ []))) 
   second_chosen : IsNull a → IsChosen (a ∷ b ∷ []) b t
   second_chosen n = from carried types
     where
-      from : CarriedMembersOf (a ∷ b ∷ []) → HasMemberTypeOf false (a ∷ b ∷ []) t → IsChosen (a ∷ b ∷ []) b t
+      from : CarriedMembersOf (a ∷ b ∷ []) → HasMemberTypeOf true (a ∷ b ∷ []) t → IsChosen (a ∷ b ∷ []) b t
       from (inl c) (inl y) = record {
         kept = record { carried = c.1; no_float = floats 1 a (omega arith); symbols = enums 1 a (omega arith) };
         typed = y.1;
@@ -242,7 +255,7 @@ module _ (a b : Schema) (t : DataType) (k : CanBeKept (Union (a ∷ b ∷ []))) 
   first_chosen : (IsNull a → ⊥) → IsChosen (a ∷ b ∷ []) a t
   first_chosen n = from carried types
     where
-      from : CarriedMembersOf (a ∷ b ∷ []) → HasMemberTypeOf false (a ∷ b ∷ []) t → IsChosen (a ∷ b ∷ []) a t
+      from : CarriedMembersOf (a ∷ b ∷ []) → HasMemberTypeOf true (a ∷ b ∷ []) t → IsChosen (a ∷ b ∷ []) a t
       from (inl c) y = absurd (n c.0)
       from (inr c) (inl y) = absurd (n y.0)
       from (inr c) (inr y) = record {
@@ -251,12 +264,12 @@ module _ (a b : Schema) (t : DataType) (k : CanBeKept (Union (a ∷ b ∷ []))) 
         back = λ v w. of_union (a ∷ b ∷ []) a t v (inr (w.suits, c.1, c.2)) w;
       }
 
-module _ (members : List Schema) (a b : Schema) (t : DataType) (two : members ≡ a ∷ b ∷ []) (k : CanBeKept (Union members)) (h : HasType false (Union members) t) where
+module _ (members : List Schema) (a b : Schema) (t : DataType) (two : members ≡ a ∷ b ∷ []) (k : CanBeKept (Union members)) (h : HasType true (Union members) t) where
   kept_two : CanBeKept (Union (a ∷ b ∷ []))
   kept_two = subst (λ (xs : List Schema). CanBeKept (Union xs)) two k
 
-  typed_two : HasType false (Union (a ∷ b ∷ [])) t
-  typed_two = subst (λ (xs : List Schema). HasType false (Union xs) t) two h
+  typed_two : HasType true (Union (a ∷ b ∷ [])) t
+  typed_two = subst (λ (xs : List Schema). HasType true (Union xs) t) two h
 
   pub choose_second : IsNull a → IsChosen members b t
   choose_second n = subst (λ (xs : List Schema). IsChosen xs b t) (sym two) (second_chosen a b t kept_two typed_two n)
@@ -275,7 +288,7 @@ are_two members k = from members (moved (carried_union members) k.carried)
 
 -- ---- records
 
-pub as_many : (fs : List Field) (avros : List AvroField) → HasColumnTypes false fs avros → length fs ≡ length avros
+pub as_many : (fs : List Field) (avros : List AvroField) → HasColumnTypes true fs avros → length fs ≡ length avros
 as_many [] [] h = refl
 as_many [] (a ∷ avros) h = absurd h
 as_many (f ∷ fs) [] h = absurd h
@@ -323,12 +336,12 @@ some_children (a ∷ avros) (f ∷ fs) [] some h = absurd h
 some_children (a ∷ avros) (f ∷ fs) (b ∷ bs) some h = omega arith
 
 module _ (s : Schema) (t : DataType) (r : TheRecord) (avros : List AvroField) (e : s ≡ Record r) (x : avros ≡ (out-Record r).fields) where
-  struct_type : HasType false s t → (gs : List Field) × (t ≡ data_type.Struct gs) × HasColumnTypes false gs avros
+  struct_type : HasType true s t → (gs : List Field) × (t ≡ data_type.Struct gs) × HasColumnTypes true gs avros
   struct_type h =
-      let k = (type_composites.fields false r t).0 (subst (λ (y : Schema). HasType false y t) e h) in
-      (k.0, k.1, subst (HasColumnTypes false k.0) (sym x) (flip (λ (a : AvroField) (f : Field). HasColumnType false a.schema f) (out-Record r).fields k.0 k.2))
+      let k = (type_composites.fields true r t).0 (subst (λ (y : Schema). HasType true y t) e h) in
+      (k.0, k.1, subst (HasColumnTypes true k.0) (sym x) (flip (λ (a : AvroField) (f : Field). HasColumnType true a.schema f) (out-Record r).fields k.0 k.2))
 
-  pub is_struct : HasType false s t → (gs : List Field) × (t ≡ data_type.Struct gs)
+  pub is_struct : HasType true s t → (gs : List Field) × (t ≡ data_type.Struct gs)
   is_struct h = let k = struct_type h in (k.0, k.1)
 
   some_fields : CanBeKept s → 0 < length avros
@@ -345,11 +358,11 @@ module _ (s : Schema) (t : DataType) (r : TheRecord) (avros : List AvroField) (e
       }
 
   module _ (fs ys : List Field) (d : t ≡ data_type.Struct fs) (z : ys ≡ fs) where
-    pub fields_typed : HasType false s t → HasColumnTypes false ys avros
+    pub fields_typed : HasType true s t → HasColumnTypes true ys avros
     fields_typed h =
         let k = struct_type h in
         let same : k.0 ≡ ys = sym (items_of_struct k.0) ∙ ap items_of (sym k.1 ∙ d) ∙ items_of_struct fs ∙ sym z in
-        subst (λ (gs : List Field). HasColumnTypes false gs avros) same k.2
+        subst (λ (gs : List Field). HasColumnTypes true gs avros) same k.2
 
     pub new_struct : (vs : List MutableArray) (b : MutableArray) → CanBeKept s → AreNewBuilders avros ys vs → shape b ≡ records t (fields_of (map shape vs)) → All IsEmpty (nodes b) → IsNewBuilder s t b
     new_struct vs b k h sh n =

@@ -1,5 +1,5 @@
 -- Unions, nulls and flat values, and a builder of records, as the cycle wants them.
-use Rattle.std.proofs.Common.{◌≡◌, ◌∙◌, ℕ, ℤ, pos, negsuc, zero, suc, ◌+◌, ◌<◌, ◌≤◌, Bool, true, false, List, [], ◌∷◌, ◌++◌, length, map, get_or, Option, Some, None, Result, Ok, Err, refl, sym, ap, subst, arith, inl, inr}
+use Rattle.std.proofs.Common.{◌≡◌, ◌∙◌, ℕ, ℤ, pos, negsuc, zero, suc, ◌+◌, ◌<◌, ◌≤◌, Bool, true, false, ◌⊎◌, List, [], ◌∷◌, ◌++◌, length, map, get_or, Option, Some, None, Result, Ok, Err, refl, sym, ap, subst, arith, inl, inr}
 use Rattle.std.specs.Prelude.{OnOk, OnErr, IfErr, nat_abs, option_and_then, if◌then◌else◌}
 use Rattle.std.proofs.lemmas.Bool.{le-ltb}
 use Rattle.std.proofs.lemmas.List.{length-append}
@@ -10,10 +10,11 @@ use Rattle.arrow_array.specs.Structs.{record_at}
 use Rattle.arrow_builders.specs.MutableArrays.{builder_slots, nodes}
 use Rattle.arrow_builders.specs.Nodes.{Node}
 use Rattle.arrow_builders.specs.Shapes.{Shape, shape}
-use Rattle.arrow_builders.specs.declared.array.MutableArray.{MutableArray, Struct, Struct', List'}
+use Rattle.arrow_builders.specs.declared.array.MutableArray.{MutableArray, Struct, Struct', List', LargeList', Boolean, Int32, Int64, Int128, MonthDayNano, Utf8, LargeUtf8, Binary, LargeBinary, FixedSizeBinary, Dictionary}
 use Rattle.arrow_builders.specs.declared.structs.DynMutableStructArray.{DynMutableStructArray}
 use Rattle.arrow_builders.proofs.Rows.{tight-record}
-use Rattle.avro_schema.specs.declared.schema.Schema.{Schema, Array, Record, Union, Array'}
+use Rattle.avro_schema.specs.declared.schema.Schema.{Schema, Array, Record, Union, Array', Union', Fixed, Enum}
+use Rattle.avro_schema.specs.declared.schema.Schema as schema
 use Rattle.avro_schema.specs.declared.schema.Schema.{Null as NullSchema}
 use Rattle.avro_schema.specs.declared.schema.AvroField.{AvroField}
 use denote.Param.Weighed.{most, at_most}
@@ -38,9 +39,12 @@ use Rattle.avro_decode.specs.Decoding.{null_or, pair_at}
 use Rattle.avro_flat.specs.declared.fault.DecodeFault.{DecodeFault}
 use Rattle.avro_flat.specs.declared.fault.DecodeFault.TheVariants.{Memory}
 use Rattle.avro_decode.specs.Masks.{mask, paid}
-use Rattle.avro_decode.specs.Growth.{mask_pair, masks, Fills, AllFill, Grows, AllReach, HaveSpare}
-use Rattle.avro_decode.specs.Suits.{Suits, AllSuit}
-use Rattle.avro_decode.specs.Growth.{SuitsPair, HasKindOf}
+use Rattle.avro_decode.specs.Growth.{mask_pair, masks, Fills, AllFill, Grows, AllOffsetsReach, HaveSpare}
+use Rattle.avro_decode.specs.Suits.{Suits, AllSuit, IsFixedDecimal}
+use Rattle.arrow_types.specs.declared.physical.PrimitiveType.TheVariants as primitive
+use Rattle.avro_schema.specs.declared.schema.FixedLogical.{FixedLogical}
+use Rattle.avro_schema.specs.declared.schema.FixedLogical.TheVariants as fixed_logical
+use Rattle.avro_decode.specs.Growth.{SuitsPair, HasKindOf, HasFlatKind, fixed_kind}
 use Rattle.arrow_builders.specs.Tight.{IsTight, AllTight}
 use Rattle.avro_decode.proofs.Fields.{record_reads}
 use Rattle.arrow_builders.proofs.Heads.{first_node}
@@ -187,13 +191,18 @@ members_size ms a b e = subst (λ (xs : List Schema). (the_size a ≤ most the_s
 
 -- ---- a value's arms
 
-list_only : (item : Schema) (b : MutableArray) → Suits (Array item) (shape b) → builder_kind b ≡ physical.List
+list_only : (item : Schema) (b : MutableArray) → Suits (Array item) (shape b) → (builder_kind b ≡ physical.List) ⊎ (builder_kind b ≡ physical.LargeList)
 unfolding shape-the_row-Schema-0 hidden-the_row-Schema-0 denote.Hole.Carrier.hidden
-list_only item (List' lists p child) h = refl
+list_only item (List' lists p child) h = inl refl
+list_only item (LargeList' lists p child) h = inr refl
 list_only item _ h = absurd h
 
-pub list_kind : (s : Schema) (item : Schema) (b : MutableArray) → s ≡ Array item → Suits s (shape b) → builder_kind b ≡ physical.List
-list_kind s item b e h = list_only item b (subst (λ (x : Schema). Suits x (shape b)) e h)
+pub no_list : (s : Schema) (item : Schema) (b : MutableArray) → s ≡ Array item → Suits s (shape b) → (builder_kind b ≡ physical.List → ⊥) → (builder_kind b ≡ physical.LargeList → ⊥) → ⊥
+no_list s item b e h small large = from (list_only item b (subst (λ (x : Schema). Suits x (shape b)) e h))
+  where
+    from : (builder_kind b ≡ physical.List) ⊎ (builder_kind b ≡ physical.LargeList) → ⊥
+    from (inl k) = small k
+    from (inr k) = large k
 
 pub record_kind : (s : Schema) (r : TheRecord) (b : MutableArray) → s ≡ Record r → Suits s (shape b) → builder_kind b ≡ physical.Struct
 record_kind s r b e h = from b (subst (λ (x : Schema). Suits x (shape b)) e h)
@@ -209,8 +218,8 @@ module _ (s : Schema) (ms xs : List Schema) (e : s ≡ Union ms) (x : xs ≡ ms)
   union_mask : (nulls : Bool) → mask nulls s ≡ mask_pair xs
   union_mask nulls = ap (mask nulls) e ∙ mask_union nulls ms ∙ ap mask_pair (sym x)
 
-  pub union_reach : (n : ℕ) (ys : List Node) → AllReach (mask true s) n ys → AllReach (mask_pair xs) n ys
-  union_reach n ys h = subst (λ (zs : List Bool). AllReach zs n ys) (union_mask true) h
+  pub union_reach : (n : ℕ) (b : MutableArray) → AllOffsetsReach (mask true s) n b → AllOffsetsReach (mask_pair xs) n b
+  union_reach n b h = subst (λ (zs : List Bool). AllOffsetsReach zs n b) (union_mask true) h
 
   pub union_grows : (n : ℕ) (ys zs : List Node) → Grows (mask_pair xs) n ys zs → Grows (mask false s) n ys zs
   union_grows n ys zs h = subst (λ (ws : List Bool). Grows ws n ys zs) (sym (union_mask false)) h
@@ -222,7 +231,7 @@ module _ (s : Schema) (ms xs : List Schema) (e : s ≡ Union ms) (x : xs ≡ ms)
   union_gives f r old bytes h =
       subst (λ (g : Reader Slot). Gives f r (push_one old (g bytes))) (ap read_union_of x ∙ sym (read_union ms) ∙ ap read (sym e)) h
 
-  pub union_size : 6 * most the_size xs + 3 < 6 * the_size s
+  pub union_size : most the_size xs < the_size s
   union_size = let a = ap (λ (ys : List Schema). most the_size ys) x in let b = ap the_size e in search (rules, the_lemmas)
 
 module _ (s : Schema) (r : TheRecord) (fs : List AvroField) (b : MutableArray) (S T : DynMutableStructArray) (e : s ≡ Record r) (d : b ≡ Struct S) (t : T ≡ S) (x : fs ≡ (out-Record r).fields) where
@@ -241,8 +250,8 @@ module _ (s : Schema) (r : TheRecord) (fs : List AvroField) (b : MutableArray) (
   pub record_is_tight : IsTight b → IsTight (Struct T)
   record_is_tight h = subst IsTight same_builder h
 
-  pub record_reaches : (n : ℕ) → AllReach (mask true s) n (nodes b) → AllReach (true ∷ masks true fs) n (nodes (Struct T))
-  record_reaches n h = subst (λ (c : MutableArray). AllReach (true ∷ masks true fs) n (nodes c)) same_builder (subst (λ (zs : List Bool). AllReach zs n (nodes b)) (record_mask true) h)
+  pub record_reaches : (n : ℕ) → AllOffsetsReach (mask true s) n b → AllOffsetsReach (true ∷ masks true fs) n (Struct T)
+  record_reaches n h = subst (λ (c : MutableArray). AllOffsetsReach (true ∷ masks true fs) n c) same_builder (subst (λ (zs : List Bool). AllOffsetsReach zs n b) (record_mask true) h)
 
   pub record_grown : (n : ℕ) (ys : List Node) → Grows (true ∷ masks false fs) n (nodes (Struct T)) ys → Grows (mask false s) n (nodes b) ys
   record_grown n ys h = subst (λ (c : MutableArray). Grows (mask false s) n (nodes c) ys) (sym same_builder) (subst (λ (zs : List Bool). Grows zs n (nodes (Struct T)) ys) (sym (record_mask false)) h)
@@ -258,6 +267,30 @@ module _ (s : Schema) (r : TheRecord) (fs : List AvroField) (b : MutableArray) (
 pub has_kind : (s : Schema) (b : MutableArray) → Suits s (shape b) → HasKindOf s (builder_kind b)
 has_kind (Record r) (Struct' marks p row) h = refl
 has_kind (Record r) _ h = absurd h
-has_kind (Array' p item) (List' lists q child) h = refl
+has_kind (Array' p item) (List' lists q child) h = inl refl
+has_kind (Array' p item) (LargeList' lists q child) h = inr refl
 has_kind (Array' p item) _ h = absurd h
 has_kind _ b h = tt
+
+fixed_decimal_kind : (logical : Option FixedLogical) → IsFixedDecimal logical → physical.Primitive primitive.Int128 ≡ fixed_kind logical
+fixed_decimal_kind None h = absurd h
+fixed_decimal_kind (Some (fixed_logical.Decimal precision scale)) h = refl
+fixed_decimal_kind (Some fixed_logical.Duration) h = absurd h
+
+pub has_flat_kind : (s : Schema) (b : MutableArray) → Suits s (shape b) → HasFlatKind s (builder_kind b)
+has_flat_kind schema.Boolean (Boolean b) h = refl
+has_flat_kind (schema.Int logical) (Int32 b) h = refl
+has_flat_kind (schema.Long logical) (Int64 b) h = refl
+has_flat_kind (schema.Bytes None) (Binary b) h = inl refl
+has_flat_kind (schema.Bytes None) (LargeBinary b) h = inr refl
+has_flat_kind (schema.Bytes (Some decimal)) (Int128 b) h = refl
+has_flat_kind (schema.String logical) (Utf8 b) h = inl refl
+has_flat_kind (schema.String logical) (LargeUtf8 b) h = inr refl
+has_flat_kind (Fixed f) (FixedSizeBinary b) h = sym (ap fixed_kind h.0)
+has_flat_kind (Fixed f) (Int128 b) h = fixed_decimal_kind f.logical h.0
+has_flat_kind (Fixed f) (MonthDayNano b) h = sym (ap fixed_kind h.0)
+has_flat_kind (Enum e) (Dictionary b) h = refl
+has_flat_kind (Record r) b h = tt
+has_flat_kind (Array' p item) b h = tt
+has_flat_kind (Union' p members) b h = tt
+has_flat_kind _ _ h = absurd h

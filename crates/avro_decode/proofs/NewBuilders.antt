@@ -11,8 +11,9 @@ use Rattle.arrow_builders.specs.MutableArrays.{builder_slots, nodes}
 use Rattle.arrow_builders.specs.Nested.{lists_node, marks_node}
 use Rattle.arrow_builders.specs.Nodes.{Node, IsEmpty}
 use Rattle.arrow_builders.specs.Shapes.{dictionary, lists, records, shape}
-use Rattle.arrow_builders.specs.declared.array.MutableArray.{MutableArray, List as ListOf, Struct}
+use Rattle.arrow_builders.specs.declared.array.MutableArray.{MutableArray, List as ListOf, LargeList as LargeListOf, Struct}
 use Rattle.arrow_builders.specs.declared.list.DynMutableListArray.{DynMutableListArray}
+use Rattle.arrow_builders.specs.declared.large_list.DynMutableLargeListArray.{DynMutableLargeListArray}
 use Rattle.arrow_builders.specs.declared.structs.DynMutableStructArray.{DynMutableStructArray}
 use Rattle.arrow_builders.proofs.Rows.{shape-record, nodes-record}
 use Rattle.std.specs.Prelude.{sum_by}
@@ -32,7 +33,7 @@ use Rattle.arrow_builders.specs.Fits.{TypesFit}
 use Rattle.arrow_builders.specs.Tight.{IsTight}
 use Rattle.arrow_builders.proofs.Heads.{no_slots}
 use Rattle.arrow_builders.proofs.TightLaws.{empty_tight}
-use Rattle.avro_grammar.specs.Types.{HasType, Typed}
+use Rattle.avro_grammar.specs.Types.{HasType, HasColumnType}
 use Rattle.avro_grammar.specs.ValidBlock.{HasFloat, EnumsFit}
 use Rattle.avro_grammar.proofs.KeptLemmas.{kept_by_index}
 use Rattle.avro_infer.proofs.ColumnTypes.{zip_at}
@@ -59,6 +60,16 @@ list_empty b v e d h =
     All-cons IsEmpty (lists_node b.lists) (nodes b.values.value) (record { slots = ap length e; bytes = refl }) (subst (λ (x : MutableArray). All IsEmpty (nodes x)) (sym d) h)
 
 pub ruleset new_lists = (list_shape, list_empty)
+
+pub large_list_shape : (b : DynMutableLargeListArray) (t : DataType) (v : MutableArray) → b.lists.data_type ≡ t → b.values.value ≡ v → shape (LargeListOf b) ≡ lists physical.LargeList t (shape v)
+large_list_shape b t v e d =
+    ap (λ (x : DataType). lists physical.LargeList x (shape b.values.value)) e ∙ ap (λ (x : MutableArray). lists physical.LargeList t (shape x)) d
+
+pub large_list_empty : (b : DynMutableLargeListArray) (v : MutableArray) → b.lists.lens ≡ [] → b.values.value ≡ v → All IsEmpty (nodes v) → All IsEmpty (nodes (LargeListOf b))
+large_list_empty b v e d h =
+    All-cons IsEmpty (lists_node b.lists) (nodes b.values.value) (record { slots = ap length e; bytes = refl }) (subst (λ (x : MutableArray). All IsEmpty (nodes x)) (sym d) h)
+
+pub ruleset new_large_lists = (large_list_shape, large_list_empty)
 
 -- ---- structs
 
@@ -183,8 +194,8 @@ module _ (fields : List Field) (avro_fields : List AvroField) (projection : List
         symbols = (kept_by_index (λ (x : AvroField). EnumsFit x.schema) avro_fields projection).0 b.symbols i a less taken;
       }
 
-  pub field_is_typed : HasType false (get_or avro_fields i a).schema (get_or fields i f).data_type
-  field_is_typed = (zip_at (λ (g : Field) (e : AvroField). Typed e.schema g) fields avro_fields i f a b.typed lt).1
+  pub field_fits : HasType true (get_or avro_fields i a).schema (get_or fields i f).data_type
+  field_fits = (zip_at (λ (g : Field) (e : AvroField). HasColumnType true e.schema g) fields avro_fields i f a b.fits lt).1
 
 -- any element
 pub some_of : {A : Type 0} (xs : List A) → 0 < length xs → A

@@ -1,5 +1,6 @@
 -- How nodes grow, and that their room lasts.
-use Rattle.std.proofs.Common.{◌≡◌, ℕ, ◌+◌, ◌≤◌, Bool, true, false, List, [], ◌∷◌, ◌++◌, length, refl, arith}
+use Rattle.std.proofs.Common.{◌≡◌, ℕ, ◌+◌, ◌≤◌, Bool, true, false, ◌&&◌, List, [], ◌∷◌, ◌++◌, length, refl, arith}
+use Rattle.arrow_types.specs.Numbers.{greatest_offset}
 use Rattle.std.specs.Prelude.{if◌then◌else◌}
 use Rattle.arrow_builders.specs.Nodes.{Node, Takes, HasSpare}
 use Rattle.avro_decode.specs.Masks.{paid, later, content}
@@ -33,11 +34,11 @@ fill_wider : (p : Bool) (m n : ℕ) (x y : Node) → Fills p m x y → m ≤ n �
 fill_wider true m n x y h le = takes_more m m 0 0 n n x y y h (takes_none 0 0 y) (omega (arith, le)) (omega (arith, le))
 fill_wider false m n x y h le = (h.0, takes_more m h.0 0 0 n h.0 x y y h.1 (takes_none 0 0 y) (omega (arith, le)) (omega arith))
 
-reach_after : (p q : Bool) (m n k : ℕ) (x y : Node) → Fills p k x y → (q ≡ true → p ≡ true) → k + n ≤ m → Reaches q m x → Reaches q n y
-reach_after true true m n k x y f w le h = (omega (arith, h.0, f.slots_added, le), omega (arith, h.1, f.bytes_added, le))
-reach_after true false m n k x y f w le h = (omega (arith, h.0, f.slots_added, le), tt)
-reach_after false true m n k x y f w le h = let e : false ≡ true = w refl in absurd cc
-reach_after false false m n k x y f w le h = (omega (arith, h.0, f.1.slots_added, le), tt)
+reach_after : (large p q : Bool) (m n k : ℕ) (x y : Node) → Fills p k x y → (q ≡ true → p ≡ true) → k + n ≤ m → Reaches large q m x → Reaches large q n y
+reach_after large true true m n k x y f w le h = (omega (arith, h.0, f.slots_added, le), omega (arith, h.1, f.bytes_added, le))
+reach_after large true false m n k x y f w le h = (omega (arith, h.0, f.slots_added, le), tt)
+reach_after large false true m n k x y f w le h = let e : false ≡ true = w refl in absurd cc
+reach_after large false false m n k x y f w le h = (omega (arith, h.0, f.1.slots_added, le), tt)
 
 room_after : (p : Bool) (m n k : ℕ) (x y : Node) → Fills p k x y → p ≡ true → k + n ≤ m → HasSpare m x → HasSpare n y
 room_after true m n k x y f e le h = record {
@@ -144,24 +145,45 @@ grows_fewer ms ns n xs ys w g =
     let c = content_fewer ms ns n xs ys w g.each in
     record { each = all_fill_fewer ms ns n xs ys w g.each; all = omega (arith, c, g.all) }
 
-reach_fewer : (q p : Bool) (m n : ℕ) (x : Node) → (q ≡ true → p ≡ true) → n ≤ m → Reaches p m x → Reaches q n x
-reach_fewer true true m n x w le h = (omega (arith, h.0, le), omega (arith, h.1, le))
-reach_fewer true false m n x w le h = let e : false ≡ true = w refl in absurd cc
-reach_fewer false true m n x w le h = (omega (arith, h.0, le), tt)
-reach_fewer false false m n x w le h = (omega (arith, h.0, le), tt)
+reach_fewer : (large q p : Bool) (m n : ℕ) (x : Node) → (q ≡ true → p ≡ true) → n ≤ m → Reaches large p m x → Reaches large q n x
+reach_fewer large true true m n x w le h = (omega (arith, h.0, le), omega (arith, h.1, le))
+reach_fewer large true false m n x w le h = let e : false ≡ true = w refl in absurd cc
+reach_fewer large false true m n x w le h = (omega (arith, h.0, le), tt)
+reach_fewer large false false m n x w le h = (omega (arith, h.0, le), tt)
 
-pub all_reach_fewer : (ms ns : List Bool) (m n : ℕ) (xs : List Node) → Fewer ms ns → n ≤ m → AllReach ns m xs → AllReach ms n xs
-all_reach_fewer ms ns m n [] w le h = tt
-all_reach_fewer ms ns m n (x ∷ xs) w le h = (reach_fewer (paid ms) (paid ns) m n x (fewer_paid ms ns w) le h.0, all_reach_fewer (later ms) (later ns) m n xs (fewer_later ms ns w) le h.1)
+pub all_reach_fewer : (large : Bool) (ms ns : List Bool) (m n : ℕ) (xs : List Node) → Fewer ms ns → n ≤ m → AllReach large ns m xs → AllReach large ms n xs
+all_reach_fewer large ms ns m n [] w le h = tt
+all_reach_fewer large ms ns m n (x ∷ xs) w le h = (reach_fewer large (paid ms) (paid ns) m n x (fewer_paid ms ns w) le h.0, all_reach_fewer large (later ms) (later ns) m n xs (fewer_later ms ns w) le h.1)
 
-pub reach_less : (ms : List Bool) (m n : ℕ) (xs : List Node) → n ≤ m → AllReach ms m xs → AllReach ms n xs
-reach_less ms m n xs le h = all_reach_fewer ms ms m n xs (fewer_same ms) le h
+pub reach_less : (large : Bool) (ms : List Bool) (m n : ℕ) (xs : List Node) → n ≤ m → AllReach large ms m xs → AllReach large ms n xs
+reach_less large ms m n xs le h = all_reach_fewer large ms ms m n xs (fewer_same ms) le h
 
-pub all_reach_after : (ms ns : List Bool) (m n k : ℕ) (xs ys : List Node) → Fewer ms ns → AllFill ns k xs ys → k + n ≤ m → AllReach ms m xs → AllReach ms n ys
-all_reach_after ms ns m n k [] [] w f le h = tt
-all_reach_after ms ns m n k [] (y ∷ ys) w f le h = absurd f
-all_reach_after ms ns m n k (x ∷ xs) [] w f le h = absurd f
-all_reach_after ms ns m n k (x ∷ xs) (y ∷ ys) w f le h = (reach_after (paid ns) (paid ms) m n k x y f.0 (fewer_paid ms ns w) le h.0, all_reach_after (later ms) (later ns) m n k xs ys (fewer_later ms ns w) f.1 le h.1)
+pub all_reach_after : (large : Bool) (ms ns : List Bool) (m n k : ℕ) (xs ys : List Node) → Fewer ms ns → AllFill ns k xs ys → k + n ≤ m → AllReach large ms m xs → AllReach large ms n ys
+all_reach_after large ms ns m n k [] [] w f le h = tt
+all_reach_after large ms ns m n k [] (y ∷ ys) w f le h = absurd f
+all_reach_after large ms ns m n k (x ∷ xs) [] w f le h = absurd f
+all_reach_after large ms ns m n k (x ∷ xs) (y ∷ ys) w f le h = (reach_after large (paid ns) (paid ms) m n k x y f.0 (fewer_paid ms ns w) le h.0, all_reach_after large (later ms) (later ns) m n k xs ys (fewer_later ms ns w) f.1 le h.1)
+
+one_wider : (a b p : Bool) (n : ℕ) (x : Node) → greatest_offset a ≤ greatest_offset b → Reaches a p n x → Reaches b p n x
+one_wider a b true n x le h = (omega (arith, h.0, le), omega (arith, h.1, le))
+one_wider a b false n x le h = (omega (arith, h.0, le), tt)
+
+-- greater offsets count as much
+pub reach_wider : (a b : Bool) (ms : List Bool) (n : ℕ) (xs : List Node) → greatest_offset a ≤ greatest_offset b → AllReach a ms n xs → AllReach b ms n xs
+reach_wider a b ms n [] le h = tt
+reach_wider a b ms n (x ∷ xs) le h = (one_wider a b (paid ms) n x le h.0, reach_wider a b (later ms) n xs le h.1)
+
+pub small_below : (b : Bool) → greatest_offset false ≤ greatest_offset b
+small_below false = omega arith
+small_below true = omega arith
+
+pub large_above : (b : Bool) → greatest_offset b ≤ greatest_offset true
+large_above false = omega arith
+large_above true = omega arith
+
+pub both_below : (a b : Bool) → (greatest_offset (a && b) ≤ greatest_offset a) × (greatest_offset (a && b) ≤ greatest_offset b)
+both_below true b = (large_above b, omega arith)
+both_below false b = (omega arith, small_below b)
 
 room_less : (m n : ℕ) (x : Node) → n ≤ m → HasSpare m x → HasSpare n x
 room_less m n x le h = record { slots = omega (arith, le, h.slots); bytes = omega (arith, le, h.bytes) }
@@ -195,11 +217,11 @@ content_append (m ∷ ms) ns [] zs l = absurd (omega (arith, l))
 content_append [] ns (x ∷ xs) zs l = absurd (omega (arith, l))
 content_append (m ∷ ms) ns (x ∷ xs) zs l = let r = content_append ms ns xs zs (omega (arith, l)) in omega (arith, r)
 
-pub reach_append : (ms ns : List Bool) (n : ℕ) (xs zs : List Node) → length ms ≡ length xs → AllReach (ms ++ ns) n (xs ++ zs) → AllReach ms n xs × AllReach ns n zs
-reach_append [] ns n [] zs l h = (tt, h)
-reach_append (m ∷ ms) ns n [] zs l h = absurd (omega (arith, l))
-reach_append [] ns n (x ∷ xs) zs l h = absurd (omega (arith, l))
-reach_append (m ∷ ms) ns n (x ∷ xs) zs l h = let r = reach_append ms ns n xs zs (omega (arith, l)) h.1 in ((h.0, r.0), r.1)
+pub reach_append : (large : Bool) (ms ns : List Bool) (n : ℕ) (xs zs : List Node) → length ms ≡ length xs → AllReach large (ms ++ ns) n (xs ++ zs) → AllReach large ms n xs × AllReach large ns n zs
+reach_append large [] ns n [] zs l h = (tt, h)
+reach_append large (m ∷ ms) ns n [] zs l h = absurd (omega (arith, l))
+reach_append large [] ns n (x ∷ xs) zs l h = absurd (omega (arith, l))
+reach_append large (m ∷ ms) ns n (x ∷ xs) zs l h = let r = reach_append large ms ns n xs zs (omega (arith, l)) h.1 in ((h.0, r.0), r.1)
 
 pub spare_append : (ms ns : List Bool) (n : ℕ) (xs zs : List Node) → length ms ≡ length xs → HaveSpare (ms ++ ns) n (xs ++ zs) → HaveSpare ms n xs × HaveSpare ns n zs
 spare_append [] ns n [] zs l h = (tt, h)

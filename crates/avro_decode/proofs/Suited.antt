@@ -5,8 +5,9 @@ use Rattle.arrow_builders.specs.Children.{fields_of}
 use Rattle.arrow_builders.specs.MutableArrays.{nodes}
 use Rattle.arrow_builders.specs.Nested.{lists_node}
 use Rattle.arrow_builders.specs.Shapes.{Shape, Added, flat, dictionary, lists, fixed_lists, records, no_field, field, shape, nulls_in}
-use Rattle.arrow_builders.specs.declared.array.MutableArray.{MutableArray, List as ListOf, Struct}
+use Rattle.arrow_builders.specs.declared.array.MutableArray.{MutableArray, List as ListOf, LargeList as LargeListOf, Struct}
 use Rattle.arrow_builders.specs.declared.list.DynMutableListArray.{DynMutableListArray}
+use Rattle.arrow_builders.specs.declared.large_list.DynMutableLargeListArray.{DynMutableLargeListArray}
 use Rattle.arrow_builders.specs.declared.structs.DynMutableStructArray.{DynMutableStructArray}
 use Rattle.arrow_builders.proofs.Rows.{shape-record}
 use Rattle.arrow_builders.proofs.Sizes.{nulls-fit}
@@ -39,12 +40,19 @@ pub suits_array : (item : Schema) (b : DynMutableListArray) → Suits (Array ite
 unfolding shape-the_row-Schema-0 hidden-the_row-Schema-0 denote.Hole.Carrier.hidden
 suits_array item b = refl
 
+pub suits_large_array : (item : Schema) (b : DynMutableLargeListArray) → Suits (Array item) (shape (LargeListOf b)) ≡ Suits item (shape b.values.value)
+unfolding shape-the_row-Schema-0 hidden-the_row-Schema-0 denote.Hole.Carrier.hidden
+suits_large_array item b = refl
+
 pub mask_array : (nulls : Bool) (item : Schema) → mask nulls (Array item) ≡ true ∷ mask false item
 unfolding shape-the_row-Schema-0 hidden-the_row-Schema-0 denote.Hole.Carrier.hidden
 mask_array nulls item = refl
 
 pub nodes_list : (b : DynMutableListArray) → nodes (ListOf b) ≡ lists_node b.lists ∷ nodes b.values.value
 nodes_list b = refl
+
+pub nodes_large_list : (b : DynMutableLargeListArray) → nodes (LargeListOf b) ≡ lists_node b.lists ∷ nodes b.values.value
+nodes_large_list b = refl
 
 -- ---- unions
 
@@ -120,6 +128,7 @@ mutual
   mask_fits n (Fixed f) (flat k t) h false = refl
   mask_fits n (Record r) (records t fs) h nulls = ap suc (record_fits n r fs h nulls)
   mask_fits n (Array' p item) (lists physical.List t s) h nulls = ap suc (item_fits 0 item s h)
+  mask_fits n (Array' p item) (lists physical.LargeList t s) h nulls = ap suc (item_fits 0 item s h)
   mask_fits n (Union' p members) s h nulls = members_fit n members s h
   mask_fits n (Bytes None) _ h nulls = absurd h
   mask_fits n (Bytes (Some decimal)) _ h nulls = absurd h
@@ -215,14 +224,17 @@ mutual
   light (Int logical) (flat (physical.Primitive primitive.Int32) t) h = (omega arith, λ e. refl, tt)
   light (Long logical) (flat (physical.Primitive primitive.Int64) t) h = (omega arith, λ e. refl, tt)
   light (Bytes None) (flat physical.Binary t) h = (omega arith, λ e. refl, tt)
+  light (Bytes None) (flat physical.LargeBinary t) h = (omega arith, λ e. refl, tt)
   light (Bytes (Some decimal)) (flat (physical.Primitive primitive.Int128) t) h = (omega arith, λ e. refl, tt)
   light (String logical) (flat physical.Utf8 t) h = (omega arith, λ e. refl, tt)
+  light (String logical) (flat physical.LargeUtf8 t) h = (omega arith, λ e. refl, tt)
   light (Fixed f) (flat physical.FixedSizeBinary t) h = (omega arith, λ e. absurd (not_paid f.logical h.0 e), tt)
   light (Fixed f) (flat (physical.Primitive primitive.Int128) t) h = (omega arith, λ e. refl, tt)
   light (Fixed f) (flat (physical.Primitive primitive.MonthDayNano) t) h = (omega arith, λ e. refl, tt)
   light (Enum e) (dictionary t items) h = (omega arith, λ e. refl, tt)
   light (Record r) (records t fs) h = (omega arith, λ e. refl, record_light r fs h)
   light (Array' p item) (lists physical.List t s) h = (omega arith, λ e. refl, item_light item s h)
+  light (Array' p item) (lists physical.LargeList t s) h = (omega arith, λ e. refl, item_light item s h)
   light (Union' p members) s h = members_light members s h
   light _ _ h = absurd h
 

@@ -6,23 +6,14 @@ use Rattle.arrow_core.specs.declared.error.Reason.TheVariants as reason
 use Rattle.arrow_types.specs.declared.types.Field.{Field}
 use Rattle.arrow_types.specs.declared.slot.Slot.{Slot}
 use Rattle.avro_schema.specs.declared.schema.AvroField.{AvroField}
-use Rattle.avro_grammar.specs.Types.{Fits}
 use Rattle.avro_grammar.specs.ValidBlock.{ValidBlock}
 use Rattle.avro_grammar.proofs.RowLaws.{rows_have, rows_exclude}
-use Rattle.avro_grammar.proofs.TypeLemmas.{small_forms_fit}
-use Rattle.avro_infer.specs.Columns.{AllTyped}
 use Rattle.avro_decode.specs.Columns.{AreColumns}
-use Rattle.avro_decode.specs.Refusals.{BelongTogether, FieldsRefused, AreCounted, BytesRefused, IsSmallBlock, ValidBlocksAreRead}
+use Rattle.avro_decode.specs.Refusals.{BelongTogether, FieldsRefused, AreCounted, BytesRefused, ValidBlocksAreRead}
 
 -- ---- what is decoded is valid
 
-typed_fit : (fields : List Field) (avro_fields : List AvroField) → AllTyped fields avro_fields → Fits fields avro_fields
-typed_fit [] [] h = tt
-typed_fit [] (a ∷ more) h = absurd h
-typed_fit (f ∷ fs) [] h = absurd h
-typed_fit (f ∷ fs) (a ∷ more) h = (small_forms_fit a.schema f h.0, typed_fit fs more h.1)
-
-pub decoded_is_valid : (fields : List Field) (n : ℕ) (avro_fields : List AvroField) (projection : List Bool) (bytes ahead : List ℕ) (cs : List (List Slot)) → ahead ≡ bytes → BelongTogether fields avro_fields projection → AreCounted n ahead → AreColumns n avro_fields projection ahead cs → ValidBlock n bytes fields avro_fields projection
+pub decoded_is_valid : (fields : List Field) (n : ℕ) (avro_fields : List AvroField) (projection : List Bool) (bytes ahead : List ℕ) (cs : List (List Slot)) → ahead ≡ bytes → BelongTogether fields avro_fields projection → AreCounted n fields projection ahead → AreColumns n avro_fields projection ahead cs → ValidBlock n bytes fields avro_fields projection
 decoded_is_valid fields n avro_fields projection bytes ahead cs e b c h =
     subst (λ (all : List ℕ). ValidBlock n all fields avro_fields projection) e
     (record {
@@ -30,9 +21,9 @@ decoded_is_valid fields n avro_fields projection bytes ahead cs e b c h =
         lengths = b.lengths;
         some = b.some;
         carried = b.carried;
-        fits = typed_fit fields avro_fields b.typed;
+        fits = b.fits;
         no_float = b.no_float;
-        offsets = inl c.0;
+        offsets = c.0;
         symbols = b.symbols;
       };
       table = h.0;
@@ -41,19 +32,19 @@ decoded_is_valid fields n avro_fields projection bytes ahead cs e b c h =
 
 -- ---- what is valid is not refused
 
-module _ (fields : List Field) (n : ℕ) (avro_fields : List AvroField) (projection : List Bool) (bytes : List ℕ) (v : ValidBlock n bytes fields avro_fields projection) (s : IsSmallBlock fields avro_fields bytes) where
+module _ (fields : List Field) (n : ℕ) (avro_fields : List AvroField) (projection : List Bool) (bytes : List ℕ) (v : ValidBlock n bytes fields avro_fields projection) where
   fields_refused : (e : Error) → FieldsRefused fields avro_fields projection e → e ≡ OutOfMemory
   fields_refused (InvalidArgumentError reason.Lengths) h = absurd (h v.columns.lengths)
   fields_refused (NotYetImplemented reason.NoField) h = absurd (omega (arith, ap length h.1, v.columns.some))
   fields_refused (NotYetImplemented reason.NotCarried) h = absurd (h.2 v.columns.carried)
-  fields_refused (InvalidArgumentError reason.FieldType) h = absurd (h.1 s.types)
+  fields_refused (InvalidArgumentError reason.FieldType) h = absurd (h.1 v.columns.fits)
   fields_refused (NotYetImplemented reason.Float) h = absurd (h.2 v.columns.no_float)
   fields_refused Overflow h = absurd (h.3 v.columns.symbols)
   fields_refused OutOfMemory h = refl
   fields_refused _ h = absurd h
 
-  bytes_refused : (e : Error) → BytesRefused n avro_fields projection bytes e → e ≡ OutOfMemory
-  bytes_refused Overflow h = absurd (omega (arith, h, s.few))
+  bytes_refused : (e : Error) → BytesRefused n fields avro_fields projection bytes e → e ≡ OutOfMemory
+  bytes_refused Overflow h = absurd (h v.columns.offsets)
   bytes_refused (ExternalFormat reason.Rows) h =
       let enough = rows_have n avro_fields projection bytes v.table (omega (arith, v.columns.some, v.columns.lengths.0)) v.columns.carried v.rows in
       absurd (omega (arith, h.1, enough))
@@ -63,5 +54,5 @@ module _ (fields : List Field) (n : ℕ) (avro_fields : List AvroField) (project
   bytes_refused _ h = absurd h
 
 pub valid_blocks : ValidBlocksAreRead
-valid_blocks fields n avro_fields projection bytes e v s (inl h) = fields_refused fields n avro_fields projection bytes v s e h
-valid_blocks fields n avro_fields projection bytes e v s (inr h) = bytes_refused fields n avro_fields projection bytes v s e h.1
+valid_blocks fields n avro_fields projection bytes e v (inl h) = fields_refused fields n avro_fields projection bytes v e h
+valid_blocks fields n avro_fields projection bytes e v (inr h) = bytes_refused fields n avro_fields projection bytes v e h.1

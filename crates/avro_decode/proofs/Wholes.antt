@@ -5,6 +5,7 @@ use Rattle.std.proofs.lemmas.List.{append-nil, length-map, get_or-map, drop-set-
 use Rattle.std.proofs.lemmas.List.FromFn.{get_or-map-range_with_len}
 use Rattle.std.proofs.Math.Seq.{drop-cons}
 use Rattle.arrow_types.specs.declared.slot.Slot.{Slot}
+use Rattle.arrow_types.specs.declared.types.Field.{Field}
 use Rattle.arrow_array.specs.declared.array.Array.{Array}
 use Rattle.arrow_array.specs.Arrays.{array_slots}
 use Rattle.arrow_array.specs.Chunks.{AreSameLength}
@@ -43,16 +44,17 @@ block_columns n fields projection before now start many h g =
     let l : length now ≡ length before = ap length g.2 ∙ length-grown_by table before in
     (table, rows.1, many, g.2 ∙ grown_columns table before h (wide_same (length now) (length before) table l g.3) ∙ ap (λ (cs : List (List Slot)). columns (length cs) table) (sym g.2))
 
-pub block_refused : (n : ℕ) (fields : List AvroField) (projection : List Bool) (start : List ℕ) (d : BlockFault) → d ≡ Bytes → AreCounted n start → IsFault d (block n fields projection start) → AreCounted n start × ((table : List (List Slot)) → Rows n fields projection start table → ⊥) × (NegativeSize n fields projection start → ⊥)
-block_refused n fields projection start d is c e =
-    let bad : block n fields projection start ≡ Err Bad = subst (λ (x : BlockFault). IsFault x (block n fields projection start)) is e in
-    let b = (block_is_bad n fields projection start).0 bad in
-    (c, λ table r. b.0 table c.1 r, b.1)
+module _ (n : ℕ) (fs : List Field) (fields : List AvroField) (projection : List Bool) (start : List ℕ) (d : BlockFault) (c : AreCounted n fs projection start) where
+  pub block_refused : d ≡ Bytes → IsFault d (block n fields projection start) → AreCounted n fs projection start × ((table : List (List Slot)) → Rows n fields projection start table → ⊥) × (NegativeSize n fields projection start → ⊥)
+  block_refused is e =
+      let bad : block n fields projection start ≡ Err Bad = subst (λ (x : BlockFault). IsFault x (block n fields projection start)) is e in
+      let b = (block_is_bad n fields projection start).0 bad in
+      (c, λ table r. b.0 table c.1 r, b.1)
 
-pub block_negative : (n : ℕ) (fields : List AvroField) (projection : List Bool) (start : List ℕ) (d : BlockFault) → d ≡ BelowZero → AreCounted n start → IsFault d (block n fields projection start) → AreCounted n start × NegativeSize n fields projection start
-block_negative n fields projection start d is c e =
-    let negative : block n fields projection start ≡ Err Negative = subst (λ (x : BlockFault). IsFault x (block n fields projection start)) is e in
-    (c, (block_is_negative n fields projection start).0 negative)
+  pub block_negative : d ≡ BelowZero → IsFault d (block n fields projection start) → AreCounted n fs projection start × NegativeSize n fields projection start
+  block_negative is e =
+      let negative : block n fields projection start ≡ Err Negative = subst (λ (x : BlockFault). IsFault x (block n fields projection start)) is e in
+      (c, (block_is_negative n fields projection start).0 negative)
 
 -- ---- what a block costs
 

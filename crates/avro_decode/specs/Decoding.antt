@@ -22,6 +22,12 @@ use Rattle.avro_decode.specs.declared.fault.BlockFault.TheVariants.{Bytes, Negat
 abbrev pub null_or : Bool → Schema → Reader Slot
 null_or null s bytes = if null then Some (slot.Null, bytes) else read s bytes
 
+-- whether the member at an index is null, where null is the first one or the second
+abbrev pub null_at : ℤ → Bool → Option Bool
+null_at (pos zero) null_first = Some null_first
+null_at (pos (suc zero)) null_first = Some (if null_first then false else true)
+null_at _ null_first = None
+
 -- the member at an index, where null is the first one or the second
 abbrev pub pair_at : ℤ → Bool → Schema → Reader Slot
 pair_at (pos zero) null_first s bytes = null_or null_first s bytes

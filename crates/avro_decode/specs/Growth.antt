@@ -1,13 +1,14 @@
 -- How the nodes of builders grow while they are filled, and what else of builders the decoder goes by. Contracts of
 -- private functions alone cite this file.
-use Rattle.std.specs.Prelude.{◌≡◌, ℕ, zero, suc, ◌+◌, ◌≤◌, ◌⊎◌, Bool, true, false, List, [], ◌∷◌, ◌++◌, length, Option, None, Some, if◌then◌else◌}
+use Rattle.std.specs.Prelude.{◌≡◌, ℕ, zero, suc, ◌+◌, ◌≤◌, ◌⊎◌, Bool, true, false, List, [], ◌∷◌, ◌++◌, length, Option, None, Some, ◌&&◌, if◌then◌else◌}
+use Rattle.arrow_types.specs.Numbers.{greatest_offset}
 use Rattle.arrow_types.specs.declared.types.IntegerType.TheVariants as integer
 use Rattle.arrow_types.specs.declared.physical.PhysicalType.{PhysicalType}
 use Rattle.arrow_types.specs.declared.physical.PhysicalType.TheVariants as physical
 use Rattle.arrow_types.specs.declared.physical.PrimitiveType.TheVariants as primitive
 use Rattle.arrow_builders.specs.MutableArrays.{builder_slots, nodes}
 use Rattle.arrow_builders.specs.Nodes.{Node, Takes, HasSpare}
-use Rattle.arrow_builders.specs.Shapes.{Shape}
+use Rattle.arrow_builders.specs.Shapes.{Shape, flat, lists, fixed_lists, records, field, shape}
 use Rattle.arrow_builders.specs.Tight.{IsTight, AllTight}
 use Rattle.arrow_builders.specs.declared.array.MutableArray.{MutableArray}
 use Rattle.avro_schema.specs.declared.schema.AvroField.{AvroField}
@@ -16,7 +17,6 @@ use Rattle.avro_schema.specs.declared.schema.FixedLogical.TheVariants as fixed_l
 use Rattle.avro_schema.specs.declared.schema.Schema.{Schema, Boolean, Int, Long, Bytes, String, Fixed, Record, Enum, Array'}
 use Rattle.avro_grammar.specs.Carried.{IsNoUnion}
 use Rattle.avro_grammar.specs.Encodes.{IsNull, is_null}
-use Rattle.avro_grammar.specs.ValidBlock.{small_limit}
 use Rattle.avro_decode.specs.Masks.{mask, paid, later, content, total}
 use Rattle.avro_decode.specs.Suits.{Suits}
 
@@ -34,14 +34,29 @@ pub record Grows (ms : List Bool) (n : ℕ) (xs ys : List Node) : Type 0 where
   pub each : AllFill ms n xs ys
   pub all : content ms ys ≤ content ms xs + n
 
--- offsets of 32 bits can count n more slots, and n more content bytes
-abbrev pub Reaches : Bool → ℕ → Node → Type 0
-Reaches true n x = (x.slots + n ≤ small_limit) × (x.bytes + n ≤ small_limit)
-Reaches false n x = (x.slots + n ≤ small_limit) × Unit {0}
+-- no offsets of the builders have 32 bits
+abbrev pub all_large : Shape → Bool
+all_large (flat physical.Utf8 data_type) = false
+all_large (flat physical.Binary data_type) = false
+all_large (lists physical.LargeList data_type item) = all_large item
+all_large (lists kind data_type item) = false
+all_large (fixed_lists data_type item) = all_large item
+all_large (records data_type fields) = all_large fields
+all_large (field first more) = all_large first && all_large more
+all_large _ = true
 
-abbrev pub AllReach : List Bool → ℕ → List Node → Type 0
-AllReach ms n [] = Unit {0}
-AllReach ms n (x ∷ xs) = Reaches (paid ms) n x × AllReach (later ms) n xs
+-- offsets, of 64 bits where large, can count n more slots, and n more content bytes
+abbrev pub Reaches : Bool → Bool → ℕ → Node → Type 0
+Reaches large true n x = (x.slots + n ≤ greatest_offset large) × (x.bytes + n ≤ greatest_offset large)
+Reaches large false n x = (x.slots + n ≤ greatest_offset large) × Unit {0}
+
+abbrev pub AllReach : Bool → List Bool → ℕ → List Node → Type 0
+AllReach large ms n [] = Unit {0}
+AllReach large ms n (x ∷ xs) = Reaches large (paid ms) n x × AllReach large (later ms) n xs
+
+-- the offsets of the builder can
+abbrev pub AllOffsetsReach : List Bool → ℕ → MutableArray → Type 0
+AllOffsetsReach ms n b = AllReach (all_large (shape b)) ms n (nodes b)
 
 -- each node's content is paid for, and has spare capacity for n more
 abbrev pub HaveSpare : List Bool → ℕ → List Node → Type 0
@@ -69,7 +84,7 @@ pub record ChildrenGrow (n : ℕ) (fields : List AvroField) (bs cs : List Mutabl
   pub all : total fields cs ≤ total fields bs + n
 
 abbrev pub ChildrenReach : ℕ → List AvroField → List MutableArray → Type 0
-ChildrenReach n (f ∷ fs) (b ∷ bs) = AllReach (mask true f.schema) n (nodes b) × ChildrenReach n fs bs
+ChildrenReach n (f ∷ fs) (b ∷ bs) = AllOffsetsReach (mask true f.schema) n b × ChildrenReach n fs bs
 ChildrenReach n _ _ = Unit {0}
 
 abbrev pub ChildrenHaveSpare : ℕ → List AvroField → List MutableArray → Type 0
@@ -94,7 +109,7 @@ SuitsPair _ s = ⊥
 -- what follows of the builder's kind
 abbrev pub HasKindOf : Schema → PhysicalType → Type 0
 HasKindOf (Record r) k = k ≡ physical.Struct
-HasKindOf (Array' p item) k = k ≡ physical.List
+HasKindOf (Array' p item) k = (k ≡ physical.List) ⊎ (k ≡ physical.LargeList)
 HasKindOf _ k = Unit {0}
 
 abbrev pub fixed_kind : Option FixedLogical → PhysicalType
@@ -102,13 +117,14 @@ fixed_kind None = physical.FixedSizeBinary
 fixed_kind (Some (fixed_logical.Decimal precision scale)) = physical.Primitive primitive.Int128
 fixed_kind (Some fixed_logical.Duration) = physical.Primitive primitive.MonthDayNano
 
-abbrev pub flat_kind : Schema → PhysicalType
-flat_kind Boolean = physical.Boolean
-flat_kind (Int logical) = physical.Primitive primitive.Int32
-flat_kind (Long logical) = physical.Primitive primitive.Int64
-flat_kind (Bytes None) = physical.Binary
-flat_kind (Bytes (Some decimal)) = physical.Primitive primitive.Int128
-flat_kind (String logical) = physical.Utf8
-flat_kind (Fixed f) = fixed_kind f.logical
-flat_kind (Enum e) = physical.Dictionary integer.Int32
-flat_kind _ = physical.Null
+-- the same of flat values; strings and binary values have two kinds
+abbrev pub HasFlatKind : Schema → PhysicalType → Type 0
+HasFlatKind Boolean k = k ≡ physical.Boolean
+HasFlatKind (Int logical) k = k ≡ physical.Primitive primitive.Int32
+HasFlatKind (Long logical) k = k ≡ physical.Primitive primitive.Int64
+HasFlatKind (Bytes None) k = (k ≡ physical.Binary) ⊎ (k ≡ physical.LargeBinary)
+HasFlatKind (Bytes (Some decimal)) k = k ≡ physical.Primitive primitive.Int128
+HasFlatKind (String logical) k = (k ≡ physical.Utf8) ⊎ (k ≡ physical.LargeUtf8)
+HasFlatKind (Fixed f) k = k ≡ fixed_kind f.logical
+HasFlatKind (Enum e) k = k ≡ physical.Dictionary integer.Int32
+HasFlatKind _ k = Unit {0}

@@ -2,7 +2,7 @@
 -- cite this file.
 use Rattle.std.specs.Prelude.{◌≡◌, ◌≤◌, List, [], ◌∷◌, All}
 use Rattle.arrow_types.specs.declared.types.Field.{Field}
-use Rattle.arrow_types.specs.declared.types.DataType.{DataType, Boolean, Int32, Int64, Date32, Time32, Time64, Timestamp, Interval, Utf8, Binary, FixedSizeBinary, Decimal}
+use Rattle.arrow_types.specs.declared.types.DataType.{DataType, Boolean, Int32, Int64, Date32, Time32, Time64, Timestamp, Interval, Utf8, LargeUtf8, Binary, LargeBinary, FixedSizeBinary, Decimal}
 use Rattle.arrow_types.specs.declared.types.IntervalUnit.TheVariants as interval
 use Rattle.arrow_builders.specs.Fits.{TypesFit}
 use Rattle.arrow_builders.specs.MutableArrays.{builder_type, nodes}
@@ -44,7 +44,9 @@ IsFlatType Int64 = Unit {0}
 IsFlatType (Time64 unit) = Unit {0}
 IsFlatType (Timestamp unit _) = Unit {0}
 IsFlatType Utf8 = Unit {0}
+IsFlatType LargeUtf8 = Unit {0}
 IsFlatType Binary = Unit {0}
+IsFlatType LargeBinary = Unit {0}
 IsFlatType (Decimal precision scale) = Unit {0}
 IsFlatType (Interval interval.MonthDayNano) = Unit {0}
 IsFlatType (FixedSizeBinary size) = 1 ≤ size

@@ -9,17 +9,17 @@ use Rattle.avro_schema.specs.declared.schema.AvroField.{AvroField}
 use Rattle.avro_grammar.specs.Carried.{CarriedList}
 use Rattle.avro_grammar.specs.NegativeSize.{NegativeSize}
 use Rattle.avro_grammar.specs.Rows.{Rows}
-use Rattle.avro_grammar.specs.ValidBlock.{HaveSameLength, KeepNoFloat, KeptEnumsFit, small_limit, ValidBlock}
-use Rattle.avro_infer.specs.Columns.{AllTyped}
+use Rattle.avro_grammar.specs.ValidBlock.{HaveSameLength, KeepNoFloat, KeptEnumsFit, OffsetsFit, ValidBlock}
+use Rattle.avro_grammar.specs.Types.{Fits}
 
 -- ---- fields, Avro fields and a projection
 
--- they belong together: what `CanBeColumns` asks of them, of small types alone
+-- they belong together: what `CanBeColumns` asks of them
 pub record BelongTogether (fields : List Field) (avro_fields : List AvroField) (projection : List Bool) : Type 0 where
   pub lengths : HaveSameLength fields avro_fields projection
   pub some : 0 < length fields
   pub carried : CarriedList avro_fields
-  pub typed : AllTyped fields avro_fields
+  pub fits : Fits fields avro_fields
   pub no_float : KeepNoFloat avro_fields projection
   pub symbols : KeptEnumsFit avro_fields projection
 
@@ -32,39 +32,34 @@ abbrev pub FieldsRefused : List Field → List AvroField → List Bool → Error
 FieldsRefused fields avro_fields projection (InvalidArgumentError reason.Lengths) = HaveSameLength fields avro_fields projection → ⊥
 FieldsRefused fields avro_fields projection (NotYetImplemented reason.NoField) = HaveSameLength fields avro_fields projection × (fields ≡ [])
 FieldsRefused fields avro_fields projection (NotYetImplemented reason.NotCarried) = HaveSameLength fields avro_fields projection × (0 < length fields) × (CarriedList avro_fields → ⊥)
-FieldsRefused fields avro_fields projection (InvalidArgumentError reason.FieldType) = HaveCarriedFields fields avro_fields projection × (AllTyped fields avro_fields → ⊥)
-FieldsRefused fields avro_fields projection (NotYetImplemented reason.Float) = HaveCarriedFields fields avro_fields projection × AllTyped fields avro_fields × (KeepNoFloat avro_fields projection → ⊥)
-FieldsRefused fields avro_fields projection Overflow = HaveCarriedFields fields avro_fields projection × AllTyped fields avro_fields × KeepNoFloat avro_fields projection × (KeptEnumsFit avro_fields projection → ⊥)
+FieldsRefused fields avro_fields projection (InvalidArgumentError reason.FieldType) = HaveCarriedFields fields avro_fields projection × (Fits fields avro_fields → ⊥)
+FieldsRefused fields avro_fields projection (NotYetImplemented reason.Float) = HaveCarriedFields fields avro_fields projection × Fits fields avro_fields × (KeepNoFloat avro_fields projection → ⊥)
+FieldsRefused fields avro_fields projection Overflow = HaveCarriedFields fields avro_fields projection × Fits fields avro_fields × KeepNoFloat avro_fields projection × (KeptEnumsFit avro_fields projection → ⊥)
 FieldsRefused fields avro_fields projection OutOfMemory = Unit {0}
 FieldsRefused fields avro_fields projection _ = ⊥
 
 -- ---- bytes
 
--- no more bytes than offsets of 32 bits count, and no more rows than bytes
-abbrev pub AreCounted : ℕ → List ℕ → Type 0
-AreCounted n bytes = (length bytes ≤ small_limit) × (n ≤ length bytes)
+-- the offsets of the kept fields can count the bytes, and no more rows are stated than bytes
+abbrev pub AreCounted : ℕ → List Field → List Bool → List ℕ → Type 0
+AreCounted n fields projection bytes = OffsetsFit fields projection bytes × (n ≤ length bytes)
 
 -- why bytes are refused as n rows, in this order
-abbrev pub BytesRefused : ℕ → List AvroField → List Bool → List ℕ → Error → Type 0
-BytesRefused n avro_fields projection bytes Overflow = small_limit < length bytes
-BytesRefused n avro_fields projection bytes (ExternalFormat reason.Rows) = (length bytes ≤ small_limit) × (length bytes < n)
-BytesRefused n avro_fields projection bytes (ExternalFormat reason.BlockBytes) = AreCounted n bytes × ((table : List (List Slot)) → Rows n avro_fields projection bytes table → ⊥) × (NegativeSize n avro_fields projection bytes → ⊥)
-BytesRefused n avro_fields projection bytes (OutOfSpec reason.NegativeSize) = AreCounted n bytes × NegativeSize n avro_fields projection bytes
-BytesRefused n avro_fields projection bytes OutOfMemory = Unit {0}
-BytesRefused n avro_fields projection bytes _ = ⊥
+abbrev pub BytesRefused : ℕ → List Field → List AvroField → List Bool → List ℕ → Error → Type 0
+BytesRefused n fields avro_fields projection bytes Overflow = OffsetsFit fields projection bytes → ⊥
+BytesRefused n fields avro_fields projection bytes (ExternalFormat reason.Rows) = OffsetsFit fields projection bytes × (length bytes < n)
+BytesRefused n fields avro_fields projection bytes (ExternalFormat reason.BlockBytes) = AreCounted n fields projection bytes × ((table : List (List Slot)) → Rows n avro_fields projection bytes table → ⊥) × (NegativeSize n avro_fields projection bytes → ⊥)
+BytesRefused n fields avro_fields projection bytes (OutOfSpec reason.NegativeSize) = AreCounted n fields projection bytes × NegativeSize n avro_fields projection bytes
+BytesRefused n fields avro_fields projection bytes OutOfMemory = Unit {0}
+BytesRefused n fields avro_fields projection bytes _ = ⊥
 
 -- why a block is refused, in this order
 abbrev pub BlockRefused : List Field → ℕ → List AvroField → List Bool → List ℕ → Error → Type 0
 BlockRefused fields n avro_fields projection bytes e =
-    FieldsRefused fields avro_fields projection e ⊎ (BelongTogether fields avro_fields projection × BytesRefused n avro_fields projection bytes e)
+    FieldsRefused fields avro_fields projection e ⊎ (BelongTogether fields avro_fields projection × BytesRefused n fields avro_fields projection bytes e)
 
 -- ---- valid blocks
 
--- columns of small types alone, and no more bytes than offsets of 32 bits count
-pub record IsSmallBlock (fields : List Field) (avro_fields : List AvroField) (bytes : List ℕ) : Type 0 where
-  pub types : AllTyped fields avro_fields
-  pub few : length bytes ≤ small_limit
-
--- a valid block of small types and so few bytes is refused for out of memory alone
+-- a valid block is refused for out of memory alone
 abbrev pub ValidBlocksAreRead : Type 0
-ValidBlocksAreRead = (fields : List Field) (n : ℕ) (avro_fields : List AvroField) (projection : List Bool) (bytes : List ℕ) (e : Error) → ValidBlock n bytes fields avro_fields projection → IsSmallBlock fields avro_fields bytes → BlockRefused fields n avro_fields projection bytes e → e ≡ OutOfMemory
+ValidBlocksAreRead = (fields : List Field) (n : ℕ) (avro_fields : List AvroField) (projection : List Bool) (bytes : List ℕ) (e : Error) → ValidBlock n bytes fields avro_fields projection → BlockRefused fields n avro_fields projection bytes e → e ≡ OutOfMemory

@@ -1,7 +1,9 @@
 -- Which builders take the values of a schema, by the kinds of the builder and of its children at every depth, and by
--- the values of a dictionary; data types do not count, but for the size of fixed-size binary values.
+-- the values of a dictionary; data types do not count, but for the size of fixed-size binary values, and that those of
+-- strings and binary values are of the builder's kind.
 use Rattle.std.specs.Prelude.{◌≡◌, List, [], ◌∷◌, ◌⊎◌, map, Option, None, Some}
 use Rattle.arrow_types.specs.declared.slot.Slot.TheVariants as slot
+use Rattle.arrow_types.specs.declared.types.DataType.TheVariants as types
 use Rattle.arrow_types.specs.declared.physical.PhysicalType.TheVariants as physical
 use Rattle.arrow_types.specs.declared.physical.PrimitiveType.TheVariants as primitive
 use Rattle.arrow_array.specs.Parts.{byte_width}
@@ -25,15 +27,18 @@ abbrev mutual
   Suits Boolean (flat physical.Boolean t) = Unit {0}
   Suits (Int logical) (flat (physical.Primitive primitive.Int32) t) = Unit {0}
   Suits (Long logical) (flat (physical.Primitive primitive.Int64) t) = Unit {0}
-  Suits (Bytes None) (flat physical.Binary t) = Unit {0}
+  Suits (Bytes None) (flat physical.Binary t) = t ≡ types.Binary
+  Suits (Bytes None) (flat physical.LargeBinary t) = t ≡ types.LargeBinary
   Suits (Bytes (Some decimal)) (flat (physical.Primitive primitive.Int128) t) = Unit {0}
-  Suits (String logical) (flat physical.Utf8 t) = Unit {0}
+  Suits (String logical) (flat physical.Utf8 t) = t ≡ types.Utf8
+  Suits (String logical) (flat physical.LargeUtf8 t) = t ≡ types.LargeUtf8
   Suits (Fixed f) (flat physical.FixedSizeBinary t) = (f.logical ≡ None) × IsFixedSize f.size f.logical × (byte_width t ≡ f.size)
   Suits (Fixed f) (flat (physical.Primitive primitive.Int128) t) = IsFixedDecimal f.logical × IsFixedSize f.size f.logical
   Suits (Fixed f) (flat (physical.Primitive primitive.MonthDayNano) t) = (f.logical ≡ Some fixed_logical.Duration) × IsFixedSize f.size f.logical
   Suits (Enum e) (dictionary t items) = SymbolsFit e × (items ≡ map slot.String e.symbols)
   Suits (Record r) (records t fields) = SuitsRecord r fields
   Suits (Array' shape item) (lists physical.List t s) = SuitsItem item s
+  Suits (Array' shape item) (lists physical.LargeList t s) = SuitsItem item s
   Suits (Union' shape members) s = SuitsMembers members s
   Suits _ _ = ⊥
 

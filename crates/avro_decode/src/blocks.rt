@@ -10,10 +10,10 @@ ghost use Rattle.arrow_builders.specs.Shapes.{shape};
 ghost use Rattle.arrow_builders.specs.Tight.{IsTight};
 ghost use Rattle.avro_schema.specs.Number.{MovesForward};
 ghost use Rattle.avro_grammar.specs.Carried.{CarriedList};
+ghost use Rattle.avro_grammar.specs.Types.{Fits};
 ghost use Rattle.avro_grammar.specs.ValidBlock.{kept, ValidBlock};
 ghost use Rattle.avro_reference.specs.Block.{block};
 ghost use Rattle.avro_skip.specs.Costs.{passed, Moves};
-ghost use Rattle.avro_infer.specs.Columns.{AllTyped};
 ghost use Rattle.avro_decode.specs.Capacity.{AtNodes, BetweenNodes};
 ghost use Rattle.avro_decode.specs.Columns.{AreColumns, kept_types};
 ghost use Rattle.avro_decode.specs.Counting.{ShowsAtMost, CallsAtMost};
@@ -24,6 +24,7 @@ ghost use Rattle.avro_decode.specs.Refusals.{BelongTogether, AreCounted, BytesRe
 ghost use Rattle.avro_decode.specs.Suits.{AllSuit};
 
 use crate::fault::BlockFault;
+use crate::kept::offsets_fit;
 use crate::prepare::make_builders;
 use crate::rows::decode_block;
 use arrow_array::{Array, Chunk};
@@ -35,9 +36,6 @@ use avro_skip::Lent;
 use std::alloc::Global;
 use std::marker::PhantomData;
 
-/// The most bytes of a block.
-const MOST_BYTES: usize = 2_147_483_647;
-
 /// The columns of a block's kept fields: one for each, in order, of exactly the field's data type
 /// (Avro 1.11, "Object Container Files" and "Binary Encoding").
 ///
@@ -46,9 +44,10 @@ const MOST_BYTES: usize = 2_147_483_647;
 /// `InvalidArgumentError(Lengths)` where the lengths of the three lists differ,
 /// `NotYetImplemented(NoField)` where there is no field, `NotYetImplemented(NotCarried)` where a
 /// schema isn't carried, be it kept or not, `InvalidArgumentError(FieldType)` where a field hasn't
-/// the type and the nullability of its schema, `NotYetImplemented(Float)` where a kept schema holds
-/// a float or a double at any depth, `Overflow` where one holds an enum whose symbols are more than
-/// 2147483647 or have more bytes together, or where the block has more than 2147483647 bytes,
+/// the type, in small or large forms, and the nullability of its schema, `NotYetImplemented(Float)`
+/// where a kept schema holds a float or a double at any depth, `Overflow` where one holds an enum
+/// whose symbols are more than 2147483647 or have more bytes together, or where the block has more
+/// than 2147483647 bytes and a kept field's type holds offsets of 32 bits at any depth,
 /// `ExternalFormat(Rows)` where it states more rows than it has bytes, `OutOfSpec(NegativeSize)`
 /// where after whole rows, and whole fields of one more, a block of an array that isn't kept states
 /// a size below 0, and `ExternalFormat(BlockBytes)` where its bytes aren't its rows otherwise.
@@ -63,7 +62,8 @@ pub fn deserialize(
     ensures valid { OnOk result (ValidBlock block.now.number_of_rows block.now.bytes fields.now
         avro_fields.now projection.now) }
     ensures together { OnOk result (BelongTogether fields.now avro_fields.now projection.now) }
-    ensures counted { OnOk result (AreCounted block.now.number_of_rows block.now.bytes) }
+    ensures counted { OnOk result (AreCounted block.now.number_of_rows fields.now projection.now
+        block.now.bytes) }
     ensures columns { IfOk result (λ chunk. AreColumns block.now.number_of_rows avro_fields.now
         projection.now block.now.bytes (map array_slots chunk)) }
     ensures data_types { IfOk result (λ chunk. map array_type chunk
@@ -82,9 +82,9 @@ pub fn deserialize(
 /// Reads `rows` rows from all bytes ahead, each kept value into one more slot of its builder.
 ///
 /// The builders are as `make_builders` gives them for these lists, or as `clear` leaves such: of
-/// kinds and dictionary values that suit their schemas, of the fields' data types, tight, and empty
-/// at every node. Ok: no byte is left, and the builders hold the columns. The refusals are those of
-/// `deserialize` over the bytes ahead, from `Overflow` of too many bytes on, and `OutOfMemory`.
+/// kinds and dictionary values that suit their schemas, of the fields' data types at every node,
+/// tight, and empty. Ok: no byte is left, and the builders hold the columns. The refusals are those
+/// of `deserialize` over the bytes ahead, from `Overflow` of too many bytes on, and `OutOfMemory`.
 ///
 /// With n bytes ahead, on every answer kinds, data types and dictionary values stay at every node;
 /// no node has more than n slots, all nodes together have no more than n content bytes, and none
@@ -109,19 +109,20 @@ pub fn deserialize_into<'a, C: Cursor<'a>>(
 ) -> Result<()>
     requires lengths { length avro_fields.now ≡ length projection.now }
     requires carried { CarriedList avro_fields.now }
-    requires typed { AllTyped fields.now avro_fields.now }
+    requires fits { Fits fields.now avro_fields.now }
     requires data_types { map builder_type builders.old ≡ kept_types fields.now projection.now }
     requires suits { AllSuit (kept avro_fields.now projection.now) builders.old }
+    requires types_fit { All (λ b. TypesFit (shape b)) builders.old }
     requires tight { All IsTight builders.old }
     requires empty { AtNodes IsEmpty builders.old }
     ensures shapes { map shape builders.new ≡ map shape builders.old }
     ensures tight { OnOk result (All IsTight builders.new) }
     ensures data_types { map builder_type builders.new ≡ map builder_type builders.old }
-    ensures counted { OnOk result (AreCounted rows (C.rest cursor.old)) }
+    ensures counted { OnOk result (AreCounted rows fields.now projection.now (C.rest cursor.old)) }
     ensures columns { OnOk result (AreColumns rows avro_fields.now projection.now
         (C.rest cursor.old) (map builder_slots builders.new)) }
     ensures done { OnOk result (C.rest cursor.new ≡ []) }
-    ensures err { IfErr result (BytesRefused rows avro_fields.now projection.now
+    ensures err { IfErr result (BytesRefused rows fields.now avro_fields.now projection.now
         (C.rest cursor.old)) }
 
     // What is not kept is skipped.
@@ -141,7 +142,7 @@ pub fn deserialize_into<'a, C: Cursor<'a>>(
         → BytesPayForAll (kept avro_fields.now projection.now)
         → IfErr result (λ e. e ≡ OutOfMemory → ⊥) }
 {
-    if cursor.left() > MOST_BYTES {
+    if !offsets_fit(cursor.left(), fields, projection) {
         return Err(Error::Overflow);
     }
     if rows > cursor.left() {

@@ -1,35 +1,39 @@
 //! Kept values, from the start of the bytes into builders.
 
 ghost use Rattle.std.specs.Prelude.{◌+◌, ◌≤◌, ◌<◌, length, ◌≡◌, ◌≢◌, ◌++◌, ◌∷◌, [], map, drop, true, false, pos, OnOk, IfErr};
+ghost use Rattle.arrow_types.specs.Numbers.{greatest_offset};
 ghost use Rattle.arrow_types.specs.declared.slot.Slot.TheVariants.{List as ListSlot};
 ghost use Rattle.arrow_builders.specs.Nested.{items_of, lists_node};
 ghost use Rattle.arrow_builders.specs.Nodes.{Takes};
 ghost use Rattle.arrow_builders.specs.MutableArrays.{builder_kind, builder_slots, nodes};
 ghost use Rattle.arrow_builders.specs.Shapes.{shape};
-ghost use Rattle.arrow_builders.specs.declared.array.MutableArray.{List, Struct};
+ghost use Rattle.arrow_builders.specs.declared.array.MutableArray.{List, LargeList, Struct};
 ghost use Rattle.avro_schema.specs.declared.schema.Schema.{Array};
 ghost use Rattle.avro_reference.specs.Read.{push_one, items, block_items, read};
-ghost use Rattle.avro_grammar.specs.ValidBlock.{small_limit};
+ghost use Rattle.avro_grammar.specs.Carried.{IsNoUnion};
 ghost use Rattle.avro_reference.specs.Listed.{read_union_of, read_fields_of, read_record_of};
 ghost use Rattle.avro_skip.specs.Costs.{passed, Moves, CostsKept};
 ghost use Rattle.avro_flat.specs.Decoding.{Gives, HasMemory};
-ghost use Rattle.avro_decode.specs.Decoding.{GivesFields, null_or, pair_at, sized_items, all_blocks};
+ghost use Rattle.avro_decode.specs.Decoding.{GivesFields, null_or, null_at, pair_at, sized_items, all_blocks};
 ghost use Rattle.avro_decode.specs.Masks.{mask};
-ghost use Rattle.avro_decode.specs.Growth.{mask_pair, masks, Grows, AllReach, HaveSpare, ChildrenGrow, ChildrenReach, ChildrenHaveSpare};
+ghost use Rattle.avro_decode.specs.Growth.{mask_pair, masks, Grows, AllOffsetsReach, HaveSpare, ChildrenGrow, ChildrenReach, ChildrenHaveSpare};
 ghost use Rattle.avro_decode.specs.Suits.{Suits, AllSuit};
 ghost use Rattle.avro_decode.specs.Growth.{SuitsPair, HasKindOf};
 ghost use Rattle.arrow_builders.specs.Tight.{IsTight, AllTight};
 
 use crate::flat::decode_flat;
-use arrow_builders::{DynMutableListArray, DynMutableStructArray, MutableArray};
+use crate::items::decode_flat_items;
+use arrow_builders::{
+    DynMutableLargeListArray, DynMutableListArray, DynMutableStructArray, MutableArray,
+};
 use avro_flat::{DecodeFault, pushed};
 use avro_infer::is_null;
 use avro_schema::{AvroField, AvroSchema};
 use avro_skip::Ahead;
 
 /// Reads one value of a schema into one more slot.
-// It is inlined wherever a value is read, so that a flat one takes no call into the cycle.
-// `decode_pair`, `decode_array` and `decode_record`, which the others go through, are not.
+// It is inlined wherever a value is read, so that a flat one, beneath a union too, takes no call into
+// the cycle: `decode_array` and `decode_record`, which the others go through, are not.
 #[cycle(decode)]
 #[inline(always)]
 #[tactic(auto, using(crate::proofs::Sets::values))]
@@ -41,8 +45,8 @@ pub fn decode_value<C: Ahead>(
     requires kind { HasKindOf schema.now (builder_kind builder.old) }
     requires suits { Suits schema.now (shape builder.old) }
     requires tight { IsTight builder.old }
-    requires offsets { AllReach (mask true schema.now) (length (C.rest cursor.old))
-        (nodes builder.old) }
+    requires offsets { AllOffsetsReach (mask true schema.now) (length (C.rest cursor.old))
+        builder.old }
     ensures shape { shape builder.new ≡ shape builder.old }
     ensures tight { OnOk result (IsTight builder.new) }
     ensures grows { Grows (mask false schema.now) (passed (C.rest cursor.old) (C.rest cursor.new))
@@ -58,12 +62,44 @@ pub fn decode_value<C: Ahead>(
 {
     match schema {
         AvroSchema::Union(members) => decode_union(cursor, members.as_slice(), builder),
-        AvroSchema::Array(item) => {
-            let MutableArray::List(lists) = builder else {
-                unreachable!()
-            };
-            decode_array(cursor, item.get(), lists)
-        }
+        _ => decode_no_union(cursor, schema, builder),
+    }
+}
+
+/// Reads one value of a schema that is no union.
+#[cycle(decode)]
+#[inline(always)]
+#[tactic(auto, using(crate::proofs::Sets::values))]
+fn decode_no_union<C: Ahead>(
+    cursor: &mut C,
+    schema: &AvroSchema,
+    builder: &mut MutableArray,
+) -> Result<(), DecodeFault>
+    requires no_union { IsNoUnion schema.now }
+    requires kind { HasKindOf schema.now (builder_kind builder.old) }
+    requires suits { Suits schema.now (shape builder.old) }
+    requires tight { IsTight builder.old }
+    requires offsets { AllOffsetsReach (mask true schema.now) (length (C.rest cursor.old))
+        builder.old }
+    ensures shape { shape builder.new ≡ shape builder.old }
+    ensures tight { OnOk result (IsTight builder.new) }
+    ensures grows { Grows (mask false schema.now) (passed (C.rest cursor.old) (C.rest cursor.new))
+        (nodes builder.old) (nodes builder.new) }
+    ensures has_capacity { HaveSpare (mask false schema.now) (length (C.rest cursor.old))
+        (nodes builder.old) → HasMemory result }
+    ensures same { C.whose cursor.new ≡ C.whose cursor.old }
+    ensures moves { Moves C.rest C.calls cursor.old cursor.new }
+    ensures shorter { OnOk result (length (C.rest cursor.new) < length (C.rest cursor.old)) }
+    ensures costs { OnOk result (CostsKept C.rest C.shown C.calls cursor.old cursor.new) }
+    ensures reads { Gives (λ _. (builder_slots builder.new, C.rest cursor.new)) result
+        (push_one (builder_slots builder.old) (read schema.now (C.rest cursor.old))) }
+{
+    match schema {
+        AvroSchema::Array(item) => match builder {
+            MutableArray::List(lists) => decode_array(cursor, item.get(), lists),
+            MutableArray::LargeList(lists) => decode_large_array(cursor, item.get(), lists),
+            _ => unreachable!(),
+        },
         AvroSchema::Record(record) => {
             let MutableArray::Struct(records) = builder else {
                 unreachable!()
@@ -84,8 +120,8 @@ fn decode_union<C: Ahead>(
 ) -> Result<(), DecodeFault>
     requires suits { SuitsPair members.now (shape builder.old) }
     requires tight { IsTight builder.old }
-    requires offsets { AllReach (mask_pair members.now) (length (C.rest cursor.old))
-        (nodes builder.old) }
+    requires offsets { AllOffsetsReach (mask_pair members.now) (length (C.rest cursor.old))
+        builder.old }
     ensures shape { shape builder.new ≡ shape builder.old }
     ensures tight { OnOk result (IsTight builder.new) }
     ensures grows { Grows (mask_pair members.now) (passed (C.rest cursor.old) (C.rest cursor.new))
@@ -114,7 +150,7 @@ fn decode_union<C: Ahead>(
 
 /// Reads the value of the member at an index, where null is the first one or the second.
 #[cycle(decode)]
-#[inline(never)]
+#[inline(always)]
 #[tactic(auto, using(crate::proofs::Sets::values))]
 fn decode_pair<C: Ahead>(
     cursor: &mut C,
@@ -123,10 +159,11 @@ fn decode_pair<C: Ahead>(
     schema: &AvroSchema,
     builder: &mut MutableArray,
 ) -> Result<(), DecodeFault>
+    requires no_union { IsNoUnion schema.now }
     requires suits { Suits schema.now (shape builder.old) }
     requires tight { IsTight builder.old }
-    requires offsets { AllReach (mask true schema.now) (length (C.rest cursor.old) + 1)
-        (nodes builder.old) }
+    requires offsets { AllOffsetsReach (mask true schema.now) (length (C.rest cursor.old) + 1)
+        builder.old }
     ensures shape { shape builder.new ≡ shape builder.old }
     ensures tight { OnOk result (IsTight builder.new) }
     ensures grows { Grows (mask true schema.now) (passed (C.rest cursor.old) (C.rest cursor.new) + 1) (nodes builder.old) (nodes builder.new) }
@@ -138,12 +175,24 @@ fn decode_pair<C: Ahead>(
     ensures reads { Gives (λ _. (builder_slots builder.new, C.rest cursor.new)) result
         (push_one (builder_slots builder.old) (pair_at index null_first schema.now (C.rest cursor.old))) }
 {
+    match is_null_at(index, null_first) {
+        Some(null) => decode_member(cursor, null, schema, builder),
+        None => Err(DecodeFault::Bytes),
+    }
+}
+
+/// Whether the member at an index is null, where null is the first one or the second; None where
+/// there is no such member.
+#[inline(always)]
+fn is_null_at(index: i64, null_first: bool) -> Option<bool>
+    ensures { result ≡ null_at index null_first }
+{
     if index == 0 {
-        decode_member(cursor, null_first, schema, builder)
+        Some(null_first)
     } else if index == 1 {
-        decode_member(cursor, !null_first, schema, builder)
+        Some(!null_first)
     } else {
-        Err(DecodeFault::Bytes)
+        None
     }
 }
 
@@ -157,10 +206,11 @@ fn decode_member<C: Ahead>(
     schema: &AvroSchema,
     builder: &mut MutableArray,
 ) -> Result<(), DecodeFault>
+    requires no_union { IsNoUnion schema.now }
     requires suits { Suits schema.now (shape builder.old) }
     requires tight { IsTight builder.old }
-    requires offsets { AllReach (mask true schema.now) (length (C.rest cursor.old) + 1)
-        (nodes builder.old) }
+    requires offsets { AllOffsetsReach (mask true schema.now) (length (C.rest cursor.old) + 1)
+        builder.old }
     ensures shape { shape builder.new ≡ shape builder.old }
     ensures tight { OnOk result (IsTight builder.new) }
     ensures grows { Grows (mask true schema.now) (passed (C.rest cursor.old) (C.rest cursor.new) + 1) (nodes builder.old) (nodes builder.new) }
@@ -175,7 +225,7 @@ fn decode_member<C: Ahead>(
     if null {
         pushed(builder.push_null())
     } else {
-        decode_value(cursor, schema, builder)
+        decode_no_union(cursor, schema, builder)
     }
 }
 
@@ -190,8 +240,8 @@ fn decode_array<C: Ahead>(
 ) -> Result<(), DecodeFault>
     requires suits { Suits (Array item.now) (shape (List lists.old)) }
     requires tight { IsTight (List lists.old) }
-    requires offsets { AllReach (mask true (Array item.now)) (length (C.rest cursor.old))
-        (nodes (List lists.old)) }
+    requires offsets { AllOffsetsReach (mask true (Array item.now)) (length (C.rest cursor.old))
+        (List lists.old) }
     ensures shape { shape (List lists.new) ≡ shape (List lists.old) }
     ensures tight { OnOk result (IsTight (List lists.new)) }
     ensures grows { Grows (mask false (Array item.now)) (passed (C.rest cursor.old) (C.rest cursor.new)) (nodes (List lists.old)) (nodes (List lists.new)) }
@@ -208,6 +258,35 @@ fn decode_array<C: Ahead>(
     pushed_list(lists)
 }
 
+/// The same where offsets have 64 bits.
+#[cycle(decode)]
+#[inline(never)]
+#[tactic(auto, using(crate::proofs::Sets::values))]
+fn decode_large_array<C: Ahead>(
+    cursor: &mut C,
+    item: &AvroSchema,
+    lists: &mut DynMutableLargeListArray,
+) -> Result<(), DecodeFault>
+    requires suits { Suits (Array item.now) (shape (LargeList lists.old)) }
+    requires tight { IsTight (LargeList lists.old) }
+    requires offsets { AllOffsetsReach (mask true (Array item.now)) (length (C.rest cursor.old))
+        (LargeList lists.old) }
+    ensures shape { shape (LargeList lists.new) ≡ shape (LargeList lists.old) }
+    ensures tight { OnOk result (IsTight (LargeList lists.new)) }
+    ensures grows { Grows (mask false (Array item.now)) (passed (C.rest cursor.old) (C.rest cursor.new)) (nodes (LargeList lists.old)) (nodes (LargeList lists.new)) }
+    ensures has_capacity { HaveSpare (mask false (Array item.now)) (length (C.rest cursor.old))
+        (nodes (LargeList lists.old)) → HasMemory result }
+    ensures same { C.whose cursor.new ≡ C.whose cursor.old }
+    ensures moves { Moves C.rest C.calls cursor.old cursor.new }
+    ensures shorter { OnOk result (length (C.rest cursor.new) < length (C.rest cursor.old)) }
+    ensures costs { OnOk result (CostsKept C.rest C.shown C.calls cursor.old cursor.new) }
+    ensures reads { Gives (λ _. (builder_slots (LargeList lists.new), C.rest cursor.new)) result
+        (push_one (builder_slots (LargeList lists.old)) (read (Array item.now) (C.rest cursor.old))) }
+{
+    decode_blocks(cursor, item, lists.mut_values())?;
+    pushed_large_list(lists)
+}
+
 /// Reads blocks of items, up to the number 0 that ends them.
 #[cycle(decode)]
 #[tactic(auto, using(crate::proofs::Sets::values))]
@@ -218,8 +297,8 @@ fn decode_blocks<C: Ahead>(
 ) -> Result<(), DecodeFault>
     requires suits { Suits item.now (shape child.old) }
     requires tight { IsTight child.old }
-    requires offsets { AllReach (mask true item.now) (length (C.rest cursor.old))
-        (nodes child.old) }
+    requires offsets { AllOffsetsReach (mask true item.now) (length (C.rest cursor.old))
+        child.old }
     ensures shape { shape child.new ≡ shape child.old }
     ensures tight { OnOk result (IsTight child.new) }
     ensures grows { Grows (mask false item.now) (passed (C.rest cursor.old) (C.rest cursor.new))
@@ -256,8 +335,8 @@ fn decode_block_items<C: Ahead>(
     requires some { count ≢ pos 0 }
     requires suits { Suits item.now (shape child.old) }
     requires tight { IsTight child.old }
-    requires offsets { AllReach (mask true item.now) (length (C.rest cursor.old))
-        (nodes child.old) }
+    requires offsets { AllOffsetsReach (mask true item.now) (length (C.rest cursor.old))
+        child.old }
     ensures shape { shape child.new ≡ shape child.old }
     ensures tight { OnOk result (IsTight child.new) }
     ensures grows { Grows (mask false item.now) (passed (C.rest cursor.old) (C.rest cursor.new))
@@ -290,8 +369,8 @@ fn decode_sized<C: Ahead>(
 ) -> Result<(), DecodeFault>
     requires suits { Suits item.now (shape child.old) }
     requires tight { IsTight child.old }
-    requires offsets { AllReach (mask true item.now) (length (C.rest cursor.old))
-        (nodes child.old) }
+    requires offsets { AllOffsetsReach (mask true item.now) (length (C.rest cursor.old))
+        child.old }
     ensures shape { shape child.new ≡ shape child.old }
     ensures tight { OnOk result (IsTight child.new) }
     ensures grows { Grows (mask false item.now) (passed (C.rest cursor.old) (C.rest cursor.new))
@@ -315,6 +394,7 @@ fn decode_sized<C: Ahead>(
     Ok(())
 }
 
+/// Reads so many values of one schema. Flat ones are read in a loop outside of the cycle.
 #[cycle(decode)]
 #[tactic(auto, using(crate::proofs::Sets::values))]
 pub fn decode_items<C: Ahead>(
@@ -325,8 +405,40 @@ pub fn decode_items<C: Ahead>(
 ) -> Result<(), DecodeFault>
     requires suits { Suits item.now (shape child.old) }
     requires tight { IsTight child.old }
-    requires offsets { AllReach (mask true item.now) (length (C.rest cursor.old))
-        (nodes child.old) }
+    requires offsets { AllOffsetsReach (mask true item.now) (length (C.rest cursor.old))
+        child.old }
+    ensures shape { shape child.new ≡ shape child.old }
+    ensures tight { OnOk result (IsTight child.new) }
+    ensures grows { Grows (mask false item.now) (passed (C.rest cursor.old) (C.rest cursor.new))
+        (nodes child.old) (nodes child.new) }
+    ensures has_capacity { HaveSpare (mask false item.now) (length (C.rest cursor.old))
+        (nodes child.old) → HasMemory result }
+    ensures same { C.whose cursor.new ≡ C.whose cursor.old }
+    ensures moves { Moves C.rest C.calls cursor.old cursor.new }
+    ensures costs { OnOk result (CostsKept C.rest C.shown C.calls cursor.old cursor.new) }
+    ensures reads { Gives (λ _. (builder_slots child.new, C.rest cursor.new)) result
+        (items (read item.now) count (builder_slots child.old) (C.rest cursor.old)) }
+{
+    match item {
+        AvroSchema::Union(_) | AvroSchema::Array(_) | AvroSchema::Record(_) => {
+            decode_nested_items(cursor, item, count, child)
+        }
+        _ => decode_flat_items(cursor, item, count, child),
+    }
+}
+
+#[cycle(decode)]
+#[tactic(auto, using(crate::proofs::Sets::values))]
+fn decode_nested_items<C: Ahead>(
+    cursor: &mut C,
+    item: &AvroSchema,
+    count: u64,
+    child: &mut MutableArray,
+) -> Result<(), DecodeFault>
+    requires suits { Suits item.now (shape child.old) }
+    requires tight { IsTight child.old }
+    requires offsets { AllOffsetsReach (mask true item.now) (length (C.rest cursor.old))
+        child.old }
     ensures shape { shape child.new ≡ shape child.old }
     ensures tight { OnOk result (IsTight child.new) }
     ensures grows { Grows (mask false item.now) (passed (C.rest cursor.old) (C.rest cursor.new))
@@ -357,8 +469,8 @@ fn decode_record<C: Ahead>(
     requires some { 0 < length fields.now }
     requires suits { AllSuit fields.now records.old.values.items }
     requires tight { IsTight (Struct records.old) }
-    requires offsets { AllReach (true ∷ masks true fields.now) (length (C.rest cursor.old))
-        (nodes (Struct records.old)) }
+    requires offsets { AllOffsetsReach (true ∷ masks true fields.now) (length (C.rest cursor.old))
+        (Struct records.old) }
     ensures shape { shape (Struct records.new) ≡ shape (Struct records.old) }
     ensures tight { OnOk result (IsTight (Struct records.new)) }
     ensures grows { Grows (true ∷ masks false fields.now) (passed (C.rest cursor.old) (C.rest cursor.new)) (nodes (Struct records.old)) (nodes (Struct records.new)) }
@@ -413,10 +525,26 @@ fn decode_fields<C: Ahead>(
 /// Pushes the list of what the child took. Offsets of 32 bits reach.
 fn pushed_list(lists: &mut DynMutableListArray) -> Result<(), DecodeFault>
     requires order { items_of lists.old.lists.lens ≤ length (builder_slots lists.old.values.value) }
-    requires reach { length (builder_slots lists.old.values.value) ≤ small_limit }
+    requires reach { length (builder_slots lists.old.values.value) ≤ greatest_offset false }
     ensures data_type { lists.new.lists.data_type ≡ lists.old.lists.data_type }
     ensures values { lists.new.values ≡ lists.old.values }
     ensures ok { OnOk result (builder_slots (List lists.new) ≡ builder_slots (List lists.old)
+        ++ ListSlot (drop (items_of lists.old.lists.lens) (builder_slots lists.old.values.value)) ∷ []) }
+    ensures end { OnOk result (items_of lists.new.lists.lens ≡ length (builder_slots lists.old.values.value)) }
+    ensures err { IfErr result (λ e. e ≡ DecodeFault.Memory) }
+    ensures takes { Takes 1 0 (lists_node lists.old.lists) (lists_node lists.new.lists) }
+    ensures has_capacity { 1 ≤ lists.old.lists.spare → HasMemory result }
+{
+    pushed(lists.try_push_valid())
+}
+
+/// The same where offsets have 64 bits.
+fn pushed_large_list(lists: &mut DynMutableLargeListArray) -> Result<(), DecodeFault>
+    requires order { items_of lists.old.lists.lens ≤ length (builder_slots lists.old.values.value) }
+    requires reach { length (builder_slots lists.old.values.value) ≤ greatest_offset true }
+    ensures data_type { lists.new.lists.data_type ≡ lists.old.lists.data_type }
+    ensures values { lists.new.values ≡ lists.old.values }
+    ensures ok { OnOk result (builder_slots (LargeList lists.new) ≡ builder_slots (LargeList lists.old)
         ++ ListSlot (drop (items_of lists.old.lists.lens) (builder_slots lists.old.values.value)) ∷ []) }
     ensures end { OnOk result (items_of lists.new.lists.lens ≡ length (builder_slots lists.old.values.value)) }
     ensures err { IfErr result (λ e. e ≡ DecodeFault.Memory) }

@@ -10,7 +10,7 @@ ghost use Rattle.avro_infer.specs.Inference.{HasNoParts};
 ghost use Rattle.avro_reference.specs.Read.{push_one, read, fixed_at};
 ghost use Rattle.avro_skip.specs.Costs.{passed, Moves, CostsKept};
 ghost use Rattle.avro_flat.specs.Decoding.{Gives, HasMemory};
-ghost use Rattle.avro_decode.specs.Growth.{Grows, AllReach, HaveSpare, flat_kind, fixed_kind};
+ghost use Rattle.avro_decode.specs.Growth.{Grows, AllOffsetsReach, HaveSpare, HasFlatKind, fixed_kind};
 ghost use Rattle.avro_decode.specs.Masks.{mask};
 ghost use Rattle.avro_decode.specs.Suits.{Suits};
 
@@ -31,10 +31,10 @@ pub fn decode_flat<C: Ahead>(
     builder: &mut MutableArray,
 ) -> Result<(), DecodeFault>
     requires flat { HasNoParts schema.now }
-    requires kind { builder_kind builder.old ≡ flat_kind schema.now }
+    requires kind { HasFlatKind schema.now (builder_kind builder.old) }
     requires suits { Suits schema.now (shape builder.old) }
-    requires offsets { AllReach (mask true schema.now) (length (C.rest cursor.old))
-        (nodes builder.old) }
+    requires offsets { AllOffsetsReach (mask true schema.now) (length (C.rest cursor.old))
+        builder.old }
     ensures tight { OnOk result (IsTight builder.new) }
     ensures shape { shape builder.new ≡ shape builder.old }
     ensures grows { Grows (mask false schema.now) (passed (C.rest cursor.old) (C.rest cursor.new))
@@ -66,18 +66,16 @@ pub fn decode_flat<C: Ahead>(
             };
             decode_long(cursor, values)
         }
-        AvroSchema::String(_) => {
-            let MutableArray::Utf8(values) = builder else {
-                unreachable!()
-            };
-            decode_string(cursor, values)
-        }
-        AvroSchema::Bytes(None) => {
-            let MutableArray::Binary(values) = builder else {
-                unreachable!()
-            };
-            decode_binary(cursor, values)
-        }
+        AvroSchema::String(_) => match builder {
+            MutableArray::Utf8(values) => decode_string(cursor, values),
+            MutableArray::LargeUtf8(values) => decode_string(cursor, values),
+            _ => unreachable!(),
+        },
+        AvroSchema::Bytes(None) => match builder {
+            MutableArray::Binary(values) => decode_binary(cursor, values),
+            MutableArray::LargeBinary(values) => decode_binary(cursor, values),
+            _ => unreachable!(),
+        },
         AvroSchema::Bytes(Some(_)) => {
             let MutableArray::Int128(values) = builder else {
                 unreachable!()

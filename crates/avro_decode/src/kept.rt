@@ -1,10 +1,14 @@
-//! What is asked of the schemas of the kept fields alone.
+//! What is asked of the kept fields alone, and of their schemas.
 
-ghost use Rattle.std.specs.Prelude.{◌≡◌, ◌↔◌, length, true, IsTrue};
-ghost use Rattle.avro_grammar.specs.ValidBlock.{KeepNoFloat, KeptEnumsFit};
+ghost use Rattle.std.specs.Prelude.{◌≡◌, ◌≤◌, ◌⊎◌, ◌↔◌, length, true, All, IsTrue};
+ghost use Rattle.avro_grammar.specs.ValidBlock.{kept, small_limit, IsSmall, KeepNoFloat, KeptEnumsFit};
 
-use avro_infer::{enums_fit, has_float};
+use arrow_types::Field;
+use avro_infer::{enums_fit, has_float, is_small};
 use avro_schema::AvroField;
+
+/// The most bytes of a block of which a column has offsets of 32 bits.
+const MOST_BYTES: usize = 2_147_483_647;
 
 /// Whether no `float` and no `double` stands in the schema of a kept field, at any depth.
 pub fn keep_no_float(avro_fields: &[AvroField], projection: &[bool]) -> bool
@@ -27,6 +31,33 @@ pub fn kept_enums_fit(avro_fields: &[AvroField], projection: &[bool]) -> bool
 {
     for i in 0..avro_fields.len() {
         if projection[i] && !enums_fit(&avro_fields[i].schema) {
+            return false;
+        }
+    }
+    true
+}
+
+/// Whether offsets of the kept fields can count so many bytes: these are 2147483647 at most, or no
+/// kept field's type holds offsets of 32 bits, at any depth.
+pub fn offsets_fit(bytes: usize, fields: &[Field], projection: &[bool]) -> bool
+    requires lengths { length fields.now ≡ length projection.now }
+    ensures { IsTrue result ↔ ((bytes ≤ small_limit)
+        ⊎ All (λ f. IsSmall f.data_type → ⊥) (kept fields.now projection.now)) }
+{
+    if bytes <= MOST_BYTES {
+        return true;
+    }
+    keep_no_small(fields, projection)
+}
+
+/// Whether no kept field's type holds offsets of 32 bits, at any depth.
+fn keep_no_small(fields: &[Field], projection: &[bool]) -> bool
+    requires lengths { length fields.now ≡ length projection.now }
+    ensures { IsTrue result ↔ All (λ f. IsSmall f.data_type → ⊥)
+        (kept fields.now projection.now) }
+{
+    for i in 0..fields.len() {
+        if projection[i] && is_small(&fields[i].data_type) {
             return false;
         }
     }

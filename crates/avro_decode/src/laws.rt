@@ -3,8 +3,8 @@
 ghost use Rattle.avro_decode.specs.Refusals.{ValidBlocksAreRead};
 ghost use Rattle.avro_decode.specs.Capacity.{ReservedCapacityStays};
 
-/// `deserialize` refuses a valid block of small types and at most 2147483647 bytes with
-/// `OutOfMemory` alone: none of its other errors has its cause there.
+/// `deserialize` refuses a valid block with `OutOfMemory` alone: none of its other errors has its
+/// cause there.
 pub fn valid_blocks_are_read()
     ensures { ValidBlocksAreRead }
 {}

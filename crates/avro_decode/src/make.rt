@@ -1,8 +1,8 @@
 //! Empty builders for the values of schemas.
 
-ghost use Rattle.std.specs.Prelude.{◌≡◌, ◌≤◌, length, map, sum_by, false, All, IfOk, IfErr};
+ghost use Rattle.std.specs.Prelude.{◌≡◌, ◌≤◌, length, map, sum_by, true, All, IfOk, IfErr};
 ghost use Rattle.arrow_core.specs.declared.error.Error.TheVariants.{OutOfMemory};
-ghost use Rattle.arrow_types.specs.declared.physical.PhysicalType.TheVariants.{List as ListKind};
+ghost use Rattle.arrow_types.specs.declared.physical.PhysicalType.TheVariants.{List as ListKind, LargeList as LargeListKind};
 ghost use Rattle.arrow_types.specs.declared.slot.Slot.TheVariants.{String as StringSlot};
 ghost use Rattle.arrow_types.specs.Layouts.{physical_type};
 ghost use Rattle.arrow_builders.specs.Children.{fields_of};
@@ -17,9 +17,9 @@ ghost use Rattle.avro_decode.specs.Making.{CanBeKept, IsNewBuilder, AreNewBuilde
 
 use arrow_array::Utf8Array;
 use arrow_builders::{
-    Container, DynMutableListArray, DynMutableStructArray, FixedItemsUtf8Dictionary, MutableArray,
-    MutableBinaryArray, MutableBooleanArray, MutableFixedSizeBinaryArray, MutablePrimitiveArray,
-    MutableUtf8Array,
+    Container, DynMutableLargeListArray, DynMutableListArray, DynMutableStructArray,
+    FixedItemsUtf8Dictionary, MutableArray, MutableBinaryArray, MutableBooleanArray,
+    MutableFixedSizeBinaryArray, MutablePrimitiveArray, MutableUtf8Array,
 };
 use arrow_core::{Error, Result, Text};
 use arrow_types::{DataType, Field, IntervalUnit};
@@ -35,19 +35,23 @@ pub fn make_builder(
     data_type: &DataType,
 ) -> Result<MutableArray>
     requires kept { CanBeKept schema.now }
-    requires typed { HasType false schema.now data_type.now }
+    requires typed { HasType true schema.now data_type.now }
     ensures made { IfOk result (IsNewBuilder schema.now data_type.now) }
     ensures memory { IfErr result (λ e. e ≡ OutOfMemory) }
 {
     match schema {
         AvroSchema::Union(members) => make_nullable(alloc, members.as_slice(), data_type),
-        AvroSchema::Array(item) => {
-            let DataType::List(field) = data_type else {
-                unreachable!()
-            };
-            let values = make_builder(alloc, item.get(), &field.get().data_type)?;
-            make_list(alloc, values, data_type)
-        }
+        AvroSchema::Array(item) => match data_type {
+            DataType::List(field) => {
+                let values = make_builder(alloc, item.get(), &field.get().data_type)?;
+                make_list(alloc, values, data_type)
+            }
+            DataType::LargeList(field) => {
+                let values = make_builder(alloc, item.get(), &field.get().data_type)?;
+                make_large_list(alloc, values, data_type)
+            }
+            _ => unreachable!(),
+        },
         AvroSchema::Record(record) => {
             let DataType::Struct(fields) = data_type else {
                 unreachable!()
@@ -68,7 +72,7 @@ fn make_nullable(
     data_type: &DataType,
 ) -> Result<MutableArray>
     requires kept { CanBeKept (Union members.now) }
-    requires typed { HasType false (Union members.now) data_type.now }
+    requires typed { HasType true (Union members.now) data_type.now }
     ensures made { IfOk result (IsNewBuilder (Union members.now) data_type.now) }
     ensures memory { IfErr result (λ e. e ≡ OutOfMemory) }
 {
@@ -90,7 +94,7 @@ fn make_children(
     fields: &[Field],
 ) -> Result<Vec<MutableArray>>
     requires kept { All (λ a. CanBeKept a.schema) avro_fields.now }
-    requires typed { HasColumnTypes false fields.now avro_fields.now }
+    requires typed { HasColumnTypes true fields.now avro_fields.now }
     ensures made { IfOk result (λ bs. AreNewBuilders avro_fields.now fields.now bs.items) }
     ensures memory { IfErr result (λ e. e ≡ OutOfMemory) }
 {
@@ -113,6 +117,26 @@ fn make_list(alloc: Global, values: MutableArray, data_type: &DataType) -> Resul
         Ok(data_type) => {
             let lists = DynMutableListArray::new_from(alloc, values, data_type, 0)?;
             Ok(MutableArray::List(lists))
+        }
+        Err(error) => Err(error),
+    }
+}
+
+#[tactic(auto, using(crate::proofs::NewBuilders::new_large_lists))]
+fn make_large_list(
+    alloc: Global,
+    values: MutableArray,
+    data_type: &DataType,
+) -> Result<MutableArray>
+    requires empty { All IsEmpty (nodes values) }
+    ensures shape { IfOk result (λ b. shape b ≡ lists LargeListKind data_type.now (shape values)) }
+    ensures empty { IfOk result (λ b. All IsEmpty (nodes b)) }
+    ensures memory { IfErr result (λ e. e ≡ OutOfMemory) }
+{
+    match data_type.try_clone(alloc) {
+        Ok(data_type) => {
+            let lists = DynMutableLargeListArray::new_from(alloc, values, data_type, 0)?;
+            Ok(MutableArray::LargeList(lists))
         }
         Err(error) => Err(error),
     }
@@ -191,9 +215,17 @@ fn make_flat(alloc: Global, data_type: &DataType) -> Result<MutableArray>
             let values = MutableUtf8Array::with_capacity(alloc, 0)?;
             Ok(MutableArray::Utf8(values))
         }
+        DataType::LargeUtf8 => {
+            let values = MutableUtf8Array::with_capacity(alloc, 0)?;
+            Ok(MutableArray::LargeUtf8(values))
+        }
         DataType::Binary => {
             let values = MutableBinaryArray::with_capacity(alloc, 0)?;
             Ok(MutableArray::Binary(values))
+        }
+        DataType::LargeBinary => {
+            let values = MutableBinaryArray::with_capacity(alloc, 0)?;
+            Ok(MutableArray::LargeBinary(values))
         }
         DataType::Decimal(_, _) => {
             let values = MutablePrimitiveArray::with_capacity(alloc, 0)?;

@@ -18,7 +18,7 @@ use crate::make::make_builder;
 use arrow_builders::MutableArray;
 use arrow_core::{Error, Reason, Result};
 use arrow_types::Field;
-use avro_infer::{all_carried, all_typed};
+use avro_infer::{all_carried, all_fit};
 use avro_schema::AvroField;
 use std::alloc::Global;
 
@@ -37,7 +37,7 @@ fn check_fields(fields: &[Field], avro_fields: &[AvroField], projection: &[bool]
     if !all_carried(avro_fields) {
         return Err(Error::NotYetImplemented(Reason::NotCarried));
     }
-    if !all_typed(fields, avro_fields) {
+    if !all_fit(fields, avro_fields) {
         return Err(Error::InvalidArgumentError(Reason::FieldType));
     }
     if !keep_no_float(avro_fields, projection) {
@@ -56,7 +56,8 @@ fn check_fields(fields: &[Field], avro_fields: &[AvroField], projection: &[bool]
 /// In this order: `InvalidArgumentError(Lengths)` where the lengths of fields, Avro fields and
 /// projection differ, `NotYetImplemented(NoField)` where there is no field,
 /// `NotYetImplemented(NotCarried)` where a schema isn't carried, be it kept or not,
-/// `InvalidArgumentError(FieldType)` where a field hasn't the type and nullability of its schema,
+/// `InvalidArgumentError(FieldType)` where a field hasn't the type, in small or large forms, and the
+/// nullability of its schema,
 /// `NotYetImplemented(Float)` where a kept schema holds a float or a double at any depth, and
 /// `Overflow` where one holds an enum whose symbols are more than 2147483647, or have more bytes
 /// together. `OutOfMemory` at any time.

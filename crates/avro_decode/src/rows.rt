@@ -12,14 +12,12 @@ ghost use Rattle.avro_reference.specs.Block.{row, rows as rows_at, block};
 ghost use Rattle.avro_skip.specs.Costs.{passed, Moves, CostsKept};
 ghost use Rattle.avro_flat.specs.Decoding.{Gives, HasMemory};
 ghost use Rattle.avro_decode.specs.Decoding.{BlockHasMemory, GivesField, PassesField, GivesRow, GivesRows, GivesBlock};
-ghost use Rattle.avro_decode.specs.Growth.{Grows, AllReach, HaveSpare, ChildrenGrow, ChildrenReach, ChildrenHaveSpare};
+ghost use Rattle.avro_decode.specs.Growth.{Grows, AllOffsetsReach, HaveSpare, ChildrenGrow, ChildrenReach, ChildrenHaveSpare};
 ghost use Rattle.avro_decode.specs.Masks.{mask};
 ghost use Rattle.avro_decode.specs.Suits.{Suits, AllSuit};
 
 use crate::decode::{decode_items, decode_value};
 use crate::fault::BlockFault;
-use crate::flat::decode_flat;
-use crate::items::decode_flat_items;
 use arrow_builders::MutableArray;
 use avro_flat::DecodeFault;
 use avro_schema::{AvroField, AvroSchema};
@@ -132,8 +130,8 @@ fn decode_only_field<C: Ahead>(
 ) -> Result<(), BlockFault>
     requires suits { Suits schema.now (shape builder.old) }
     requires tight { IsTight builder.old }
-    requires offsets { AllReach (mask true schema.now) (length (C.rest cursor.old))
-        (nodes builder.old) }
+    requires offsets { AllOffsetsReach (mask true schema.now) (length (C.rest cursor.old))
+        builder.old }
     ensures shape { shape builder.new ≡ shape builder.old }
     ensures tight { OnOk result (IsTight builder.new) }
     ensures grows { Grows (mask false schema.now) (passed (C.rest cursor.old) (C.rest cursor.new))
@@ -146,43 +144,10 @@ fn decode_only_field<C: Ahead>(
     ensures reads { GivesField (λ _. (builder_slots builder.new, C.rest cursor.new)) result
         (items (read schema.now) rows (builder_slots builder.old) (C.rest cursor.old)) }
 {
-    match decode_column_items(cursor, schema, rows as u64, builder) {
+    match decode_items(cursor, schema, rows as u64, builder) {
         Ok(()) => Ok(()),
         Err(DecodeFault::Bytes) => Err(BlockFault::Bytes),
         Err(DecodeFault::Memory) => Err(BlockFault::Memory),
-    }
-}
-
-/// Reads so many values of a column.
-#[inline(always)]
-#[tactic(auto, using(crate::proofs::Sets::values))]
-fn decode_column_items<C: Ahead>(
-    cursor: &mut C,
-    schema: &AvroSchema,
-    count: u64,
-    builder: &mut MutableArray,
-) -> Result<(), DecodeFault>
-    requires suits { Suits schema.now (shape builder.old) }
-    requires tight { IsTight builder.old }
-    requires offsets { AllReach (mask true schema.now) (length (C.rest cursor.old))
-        (nodes builder.old) }
-    ensures shape { shape builder.new ≡ shape builder.old }
-    ensures tight { OnOk result (IsTight builder.new) }
-    ensures grows { Grows (mask false schema.now) (passed (C.rest cursor.old) (C.rest cursor.new))
-        (nodes builder.old) (nodes builder.new) }
-    ensures has_capacity { HaveSpare (mask false schema.now) (length (C.rest cursor.old))
-        (nodes builder.old) → HasMemory result }
-    ensures same { C.whose cursor.new ≡ C.whose cursor.old }
-    ensures moves { Moves C.rest C.calls cursor.old cursor.new }
-    ensures costs { OnOk result (CostsKept C.rest C.shown C.calls cursor.old cursor.new) }
-    ensures reads { Gives (λ _. (builder_slots builder.new, C.rest cursor.new)) result
-        (items (read schema.now) count (builder_slots builder.old) (C.rest cursor.old)) }
-{
-    match schema {
-        AvroSchema::Union(_) | AvroSchema::Array(_) | AvroSchema::Record(_) => {
-            decode_items(cursor, schema, count, builder)
-        }
-        _ => decode_flat_items(cursor, schema, count, builder),
     }
 }
 
@@ -234,8 +199,8 @@ fn decode_field<C: Ahead>(
 ) -> Result<(), BlockFault>
     requires suits { Suits schema.now (shape builder.old) }
     requires tight { IsTight builder.old }
-    requires offsets { AllReach (mask true schema.now) (length (C.rest cursor.old))
-        (nodes builder.old) }
+    requires offsets { AllOffsetsReach (mask true schema.now) (length (C.rest cursor.old))
+        builder.old }
     ensures shape { shape builder.new ≡ shape builder.old }
     ensures tight { OnOk result (IsTight builder.new) }
     ensures grows { Grows (mask false schema.now) (passed (C.rest cursor.old) (C.rest cursor.new))
@@ -248,43 +213,10 @@ fn decode_field<C: Ahead>(
     ensures reads { GivesField (λ _. (builder_slots builder.new, C.rest cursor.new)) result
         (push_one (builder_slots builder.old) (read schema.now (C.rest cursor.old))) }
 {
-    match decode_column(cursor, schema, builder) {
+    match decode_value(cursor, schema, builder) {
         Ok(()) => Ok(()),
         Err(DecodeFault::Bytes) => Err(BlockFault::Bytes),
         Err(DecodeFault::Memory) => Err(BlockFault::Memory),
-    }
-}
-
-/// Reads a value. The reader of a flat one is picked here, inside the loop over rows; unions,
-/// arrays and records take a call.
-#[inline(always)]
-#[tactic(auto, using(crate::proofs::Sets::values))]
-fn decode_column<C: Ahead>(
-    cursor: &mut C,
-    schema: &AvroSchema,
-    builder: &mut MutableArray,
-) -> Result<(), DecodeFault>
-    requires suits { Suits schema.now (shape builder.old) }
-    requires tight { IsTight builder.old }
-    requires offsets { AllReach (mask true schema.now) (length (C.rest cursor.old))
-        (nodes builder.old) }
-    ensures shape { shape builder.new ≡ shape builder.old }
-    ensures tight { OnOk result (IsTight builder.new) }
-    ensures grows { Grows (mask false schema.now) (passed (C.rest cursor.old) (C.rest cursor.new))
-        (nodes builder.old) (nodes builder.new) }
-    ensures has_capacity { HaveSpare (mask false schema.now) (length (C.rest cursor.old))
-        (nodes builder.old) → HasMemory result }
-    ensures same { C.whose cursor.new ≡ C.whose cursor.old }
-    ensures moves { Moves C.rest C.calls cursor.old cursor.new }
-    ensures costs { OnOk result (CostsKept C.rest C.shown C.calls cursor.old cursor.new) }
-    ensures reads { Gives (λ _. (builder_slots builder.new, C.rest cursor.new)) result
-        (push_one (builder_slots builder.old) (read schema.now (C.rest cursor.old))) }
-{
-    match schema {
-        AvroSchema::Union(_) | AvroSchema::Array(_) | AvroSchema::Record(_) => {
-            decode_value(cursor, schema, builder)
-        }
-        _ => decode_flat(cursor, schema, builder),
     }
 }
 

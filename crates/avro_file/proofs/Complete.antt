@@ -6,13 +6,12 @@ use Rattle.arrow_base.specs.Outside.{RoseOrFull}
 use Rattle.arrow_core.specs.declared.error.Error.{Error}
 use Rattle.arrow_core.specs.declared.error.Error.TheVariants.{ExternalFormat, NotYetImplemented, LimitExceeded, OutOfMemory}
 use Rattle.arrow_core.specs.declared.error.Reason.TheVariants as reason
-use Rattle.json_tree.specs.Meaning.{IsJson}
-use Rattle.json_tree.proofs.TextLaws.{one_value}
-use Rattle.avro_schema.specs.declared.schema.Schema.{Schema}
 use Rattle.avro_schema.specs.declared.schema.Schema as schema
 use Rattle.avro_schema.specs.declared.schema.Record.{Record}
-use Rattle.avro_text.specs.Outcome.{wrong, reference, found}
-use Rattle.avro_text.specs.Reading.{schema_of}
+use Rattle.avro_text.specs.Reading.{SchemaTextRefused}
+use Rattle.avro_text.specs.declared.fault.Fault.{Fault}
+use Rattle.avro_text.specs.declared.fault.Fault.TheVariants.{Form, Reference, Depth, Memory}
+use Rattle.avro_text.proofs.Answered.{one_schema, only_memory}
 use Rattle.avro_container.specs.File.{HeaderParts, header_parts, schema_entry}
 use Rattle.avro_container.specs.ReadHeader.{Change, ReadsHeader, NoHeader}
 use Rattle.avro_container.specs.Taking.{state}
@@ -21,23 +20,18 @@ use Rattle.avro_container.proofs.Complete.{header_is_read}
 use Rattle.avro_file.specs.File.{StandsFor}
 use Rattle.avro_file.specs.Laws.{IsMetadata}
 use Rattle.avro_file.specs.Metadata.{ReadsMetadata, RootFails, IsRecord, MetadataFails}
-use Rattle.avro_file.proofs.Roots.{one_root, one_schema}
+use Rattle.avro_file.proofs.Roots.{one_root}
 
 -- ---- the schema's text
 
-wrong_found : (s : Schema) → wrong ≡ found s → ⊥
-wrong_found s e = cc
-
-reference_found : (s : Schema) → reference ≡ found s → ⊥
-reference_found s e = cc
-
 module _ (text : List ℕ) (root : Record) (stands : StandsFor text root) where
+  no_fault : (fault : Fault) → (fault ≡ Memory → ⊥) → SchemaTextRefused text fault → ⊥
+  no_fault fault isnt f = isnt (only_memory text (schema.Record root) stands.means fault f)
+
   root_is_read : (e : Error) → RootFails text e → e ≡ OutOfMemory
-  root_is_read (ExternalFormat reason.SchemaText) f =
-      absurd (wrong_found (schema.Record root) (sym (f.1 stands.means.0 stands.means.1) ∙ stands.means.2))
-  root_is_read (NotYetImplemented reason.TypeReference) f =
-      absurd (reference_found (schema.Record root) (sym f.2 ∙ ap schema_of (one_value text f.0 stands.means.0 (f.1.0, (128, f.1.1)) (stands.means.1.0, (128, stands.means.1.1))) ∙ stands.means.2))
-  root_is_read LimitExceeded f = absurd (f.4 f.1 stands.means.0 (subst (λ b. IsJson stands.means.0 b) f.2 stands.means.1))
+  root_is_read (ExternalFormat reason.SchemaText) f = absurd (no_fault Form (λ e. cc) f)
+  root_is_read (NotYetImplemented reason.TypeReference) f = absurd (no_fault Reference (λ e. cc) f)
+  root_is_read LimitExceeded f = absurd (no_fault Depth (λ e. cc) f)
   root_is_read (NotYetImplemented reason.RootNotRecord) f =
       absurd (f.differs (subst IsRecord (one_schema text (schema.Record root) f.other stands.means f.means) tt))
   root_is_read OutOfMemory f = refl

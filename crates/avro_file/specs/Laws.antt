@@ -9,6 +9,7 @@ use Rattle.avro_schema.specs.declared.schema.Record.{Record}
 use Rattle.avro_container.specs.File.{FileBlock, Entry, Header, header_parts, schema_entry, codec_entry, IsPlain}
 use Rattle.avro_container.specs.Laws.{OneFile, AllSmall}
 use Rattle.avro_container.specs.ReadHeader.{Change}
+use Rattle.avro_text.specs.Writable.{IsWritable}
 use Rattle.avro_text.specs.Writing.{schema_text_of}
 use Rattle.avro_file.specs.File.{StandsFor, AvroFile, canonical_file}
 use Rattle.avro_file.specs.Metadata.{ReadsMetadata, MetadataFails}
@@ -17,10 +18,10 @@ use Rattle.avro_file.specs.Metadata.{ReadsMetadata, MetadataFails}
 abbrev pub OneAvroFile : Type 0
 OneAvroFile = OneFile StandsFor
 
--- the canonical file of a root whose text is read back, of sixteen bytes and of blocks is a file of these
+-- the canonical file of a writable root, of sixteen bytes and of blocks is a file of these
 abbrev pub CanonicalIsAvroFile : Type 0
 CanonicalIsAvroFile =
-    (root : Record) (marker : List ℕ) (blocks : List FileBlock) → StandsFor (schema_text_of (schema.Record root)) root → length (schema_text_of (schema.Record root)) < 2 ^ 63 → length marker ≡ 16 → AllSmall blocks → AvroFile (canonical_file root marker blocks) root marker blocks
+    (root : Record) (marker : List ℕ) (blocks : List FileBlock) → IsWritable (schema.Record root) → length (schema_text_of (schema.Record root)) < 2 ^ 63 → length marker ≡ 16 → AllSmall blocks → AvroFile (canonical_file root marker blocks) root marker blocks
 
 -- the bytes are a header that names no codec, with this root and sync marker
 pub record IsMetadata (bytes : List ℕ) (root : Record) (marker : List ℕ) : Type 0 where

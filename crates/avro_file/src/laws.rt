@@ -1,8 +1,9 @@
 //! Laws of files.
 ghost use Rattle.avro_file.specs.Laws.{OneAvroFile, CanonicalIsAvroFile, MetadataIsRead, MetadataIsRight};
 
-/// Bytes are a file of at most one root, marker and list of blocks. For a root whose text is read
-/// back, and any blocks of counts and lengths that a number can state, the canonical file is a file.
+/// Bytes are a file of at most one root, marker and list of blocks. For a writable root, sixteen
+/// bytes, and any blocks whose counts and lengths, as the length of the root's text, are below 2^63,
+/// the canonical file is a file of these.
 pub fn one_avro_file()
     ensures one { OneAvroFile }
     ensures canonical { CanonicalIsAvroFile }

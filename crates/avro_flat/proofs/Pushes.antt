@@ -1,5 +1,5 @@
 -- What a push brings to a builder's node, and when it has memory.
-use Rattle.std.proofs.Common.{◌≡◌, ◌∙◌, ◌⊎◌, inl, inr, ℕ, ◌+◌, ◌<◌, ◌≤◌, List, [], ◌∷◌, ◌++◌, length, take, drop, false, Result, Ok, Err, ap, arith}
+use Rattle.std.proofs.Common.{◌≡◌, ◌∙◌, ◌⊎◌, inl, inr, ℕ, ◌+◌, ◌<◌, ◌≤◌, List, [], ◌∷◌, ◌++◌, length, take, drop, Bool, false, Result, Ok, Err, ap, arith}
 use Rattle.std.specs.Prelude.{OnOk, OnErr, IfErr}
 use Rattle.std.proofs.lemmas.List.{length-append, length-take-le, length-drop}
 use Rattle.arrow_core.specs.declared.error.Error.{Error}
@@ -94,8 +94,8 @@ module _ (start mid string rest : List ℕ) (n : ℕ) (lt : length mid < length 
   pub string_fills : (x y : Node) → Takes 1 (length string) x y → Fills (passed start rest) x y
   string_fills x y t = fills 1 (length string) (passed start rest) x y t (omega (arith, lt, rest_size)) (omega (arith, lt, rest_size, string_size))
 
-  pub string_reach : (x : Node) → OffsetsReach (length start) x → OffsetsReach (length string) x
-  string_reach x h = omega (arith, h, lt, p.0, string_size)
+  pub string_reach : (large : Bool) (x : Node) → OffsetsReach large (length start) x → OffsetsReach large (length string) x
+  string_reach large x h = omega (arith, h, lt, p.0, string_size)
 
   pub string_has_memory : (x : Node) (r : Result (Unit {0}) DecodeFault) → (1 ≤ x.spare → length string ≤ x.byte_spare → HasMemory r) → HasSpare (length start) x → HasMemory r
   string_has_memory x r has_capacity h = has_capacity (omega (arith, h.slots, lt)) (omega (arith, h.bytes, lt, p.0, string_size))

@@ -11,6 +11,7 @@ ghost use Rattle.avro_flat.specs.Growing.{OffsetsReach, Fills};
 
 use crate::fault::{DecodeFault, pushed};
 use arrow_flat::MutableBinaryArray;
+use arrow_types::Offset;
 use avro_skip::{Ahead, read_length};
 use std::convert::AsSlice;
 
@@ -18,11 +19,12 @@ use std::convert::AsSlice;
 /// `Bytes` where the length is below 0, or fewer bytes follow.
 #[inline(never)]
 #[tactic(auto, using(crate::proofs::Sets::binaries))]
-pub fn decode_binary<C: Ahead>(
+pub fn decode_binary<C: Ahead, O: Offset>(
     cursor: &mut C,
-    values: &mut MutableBinaryArray<i32>,
+    values: &mut MutableBinaryArray<O>,
 ) -> Result<(), DecodeFault>
-    requires offsets { OffsetsReach (length (C.rest cursor.old)) (content_node values.old) }
+    requires offsets { OffsetsReach O.IS_LARGE (length (C.rest cursor.old))
+        (content_node values.old) }
     ensures data_type { values.new.data_type ≡ values.old.data_type }
     ensures grows { Fills (passed (C.rest cursor.old) (C.rest cursor.new)) (content_node values.old)
         (content_node values.new) }
@@ -45,8 +47,11 @@ pub fn decode_binary<C: Ahead>(
 
 #[inline(always)]
 #[tactic(auto, using(crate::proofs::Sets::fixed_pushes))]
-fn push_binary(values: &mut MutableBinaryArray<i32>, bytes: &[u8]) -> Result<(), DecodeFault>
-    requires offsets { OffsetsReach (length bytes.now) (content_node values.old) }
+fn push_binary<O: Offset>(
+    values: &mut MutableBinaryArray<O>,
+    bytes: &[u8],
+) -> Result<(), DecodeFault>
+    requires offsets { OffsetsReach O.IS_LARGE (length bytes.now) (content_node values.old) }
     ensures data_type { values.new.data_type ≡ values.old.data_type }
     ensures grows { Takes 1 (length bytes.now) (content_node values.old) (content_node values.new) }
     ensures has_capacity { 1 ≤ values.old.spare → length bytes.now ≤ values.old.byte_spare

@@ -23,6 +23,7 @@ const MAX_LEN: usize = 16;
 /// Reads a decimal over bytes: a length from 0 to 16, and as many bytes, which are the digits
 /// without their point (Avro 1.11, "Decimal"). `Bytes` where the length is another, or fewer bytes
 /// follow.
+#[inline(never)]
 #[tactic(auto, using(crate::proofs::Sets::decimals))]
 pub fn decode_decimal<C: Ahead>(
     cursor: &mut C,
@@ -51,6 +52,7 @@ pub fn decode_decimal<C: Ahead>(
 /// Reads a decimal over a fixed type: as many bytes as the type has, which are the digits without
 /// their point (Avro 1.11, "Decimal"). `Bytes` where the type has more than 16, or fewer bytes are
 /// ahead.
+#[inline(never)]
 #[tactic(auto, using(crate::proofs::Sets::decimals))]
 pub fn decode_fixed_decimal<C: Ahead>(
     cursor: &mut C,

@@ -1,4 +1,4 @@
-//! Avro values without parts, each into one more slot of a builder.
+//! Flat Avro values, each into one more slot of a builder.
 #![tactic(auto)]
 
 mod binary;

@@ -13,8 +13,7 @@ use arrow_flat::{MutableBooleanArray, MutablePrimitiveArray};
 use avro_skip::Ahead;
 
 /// Reads a boolean: one byte, 0 or 1.
-// Inlined into the loop over rows it would make that too large for the compiler to inline the others.
-#[inline(never)]
+#[inline(always)]
 #[tactic(auto, using(crate::proofs::Sets::flats))]
 pub fn decode_boolean<C: Ahead>(
     cursor: &mut C,

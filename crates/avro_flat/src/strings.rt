@@ -13,18 +13,21 @@ ghost use Rattle.avro_flat.specs.Growing.{OffsetsReach, Fills};
 use crate::fault::{DecodeFault, pushed};
 use crate::utf8::is_utf8;
 use arrow_flat::MutableUtf8Array;
+use arrow_types::Offset;
 use avro_skip::{Ahead, read_length};
 use std::convert::AsSlice;
 
 /// Reads a string: a length of 0 or more, and as many bytes, which have to be UTF-8 (Avro 1.11,
 /// "Primitive Types").
+// Inlined into the loop over rows it would make the other fields slower.
 #[inline(never)]
 #[tactic(auto, using(crate::proofs::Sets::strings))]
-pub fn decode_string<C: Ahead>(
+pub fn decode_string<C: Ahead, O: Offset>(
     cursor: &mut C,
-    values: &mut MutableUtf8Array<i32>,
+    values: &mut MutableUtf8Array<O>,
 ) -> Result<(), DecodeFault>
-    requires offsets { OffsetsReach (length (C.rest cursor.old)) (content_node values.old) }
+    requires offsets { OffsetsReach O.IS_LARGE (length (C.rest cursor.old))
+        (content_node values.old) }
     ensures data_type { values.new.data_type ≡ values.old.data_type }
     ensures grows { Fills (passed (C.rest cursor.old) (C.rest cursor.new)) (content_node values.old)
         (content_node values.new) }
@@ -48,8 +51,8 @@ pub fn decode_string<C: Ahead>(
 /// Pushes a string, which has to be UTF-8.
 #[inline(always)]
 #[tactic(auto, using(crate::proofs::Pushes::takes_none))]
-fn push_string(values: &mut MutableUtf8Array<i32>, bytes: &[u8]) -> Result<(), DecodeFault>
-    requires offsets { OffsetsReach (length bytes.now) (content_node values.old) }
+fn push_string<O: Offset>(values: &mut MutableUtf8Array<O>, bytes: &[u8]) -> Result<(), DecodeFault>
+    requires offsets { OffsetsReach O.IS_LARGE (length bytes.now) (content_node values.old) }
     ensures data_type { values.new.data_type ≡ values.old.data_type }
     ensures grows { Takes 1 (length bytes.now) (content_node values.old) (content_node values.new) }
     ensures has_capacity { 1 ≤ values.old.spare → length bytes.now ≤ values.old.byte_spare

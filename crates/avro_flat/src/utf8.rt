@@ -18,6 +18,15 @@ pub fn is_utf8(bytes: &[u8]) -> bool
     if bytes.len() <= SHORT_LEN && is_ascii(bytes) {
         return true;
     }
+    is_long_utf8(bytes)
+}
+
+/// The same by a call that looks at many bytes at once. It takes a frame of its own, which short strings
+/// are spared.
+#[inline(never)]
+fn is_long_utf8(bytes: &[u8]) -> bool
+    ensures { IsTrue result ↔ IsUtf8 bytes.now }
+{
     from_utf8(bytes).is_ok()
 }
 

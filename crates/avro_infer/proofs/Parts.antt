@@ -34,7 +34,7 @@ not_apart : {A B : Type 0} → (A → ⊥) → (A ⊎ B) → B
 not_apart f (inl a) = absurd (f a)
 not_apart f (inr b) = b
 
-or_none : {A : Type 0} → A ⊎ ⊥ → A
+pub or_none : {A : Type 0} → A ⊎ ⊥ → A
 or_none (inl a) = a
 or_none (inr b) = absurd b
 

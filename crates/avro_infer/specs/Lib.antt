@@ -1,3 +1,4 @@
 pub mod Columns
+pub mod Enlarged
 pub mod Inference
 pub mod Parts

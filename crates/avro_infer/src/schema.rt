@@ -5,9 +5,11 @@ ghost use Rattle.std.specs.Option.{option_copied};
 ghost use Rattle.arrow_core.specs.declared.error.Error.TheVariants.{OutOfMemory};
 ghost use Rattle.avro_schema.specs.declared.schema.Record.{out-Record};
 ghost use Rattle.avro_schema.specs.declared.schema.Schema.{Record as RecordSchema};
+ghost use Rattle.avro_grammar.specs.Carried.{CarriedList};
 ghost use Rattle.avro_grammar.specs.Types.{int_type as int_type_of, long_type as long_type_of, utc, fixed_type as fixed_type_of, is_union};
 ghost use Rattle.avro_grammar.specs.TypeLaws.{inferred_member_of};
 ghost use Rattle.avro_grammar.specs.Inferred.{inferred, columns_of, inferred_columns, own_doc as own_doc_of, is_item as is_item_of, HasMapOrUnion};
+ghost use Rattle.avro_infer.specs.Columns.{AllTyped};
 ghost use Rattle.avro_infer.specs.Inference.{SchemaRefused, doc_entries, HasNoParts};
 
 use arrow_core::{Box, Error, Items, Metadata, Reason, Result, Text};
@@ -34,14 +36,17 @@ const DOC: &str = "avro::doc";
 /// that doc in its metadata; a field of a nested record keeps the doc of its Avro field.
 ///
 /// `NotYetImplemented(MapOrUnion)` exactly where, at any depth, a map stands, or a union that
-/// isn't two members of which one is null and the other neither null nor a union. `OutOfMemory`
-/// at any time.
+/// isn't two members of which one is null and the other neither null nor a union. None of these
+/// is carried. `OutOfMemory` at any time.
 pub fn infer_schema(alloc: Global, root: &Record) -> Result<Schema>
     ensures fields { IfOk result (λ schema. inferred_columns (out-Record root.now).fields
         ≡ Some schema.fields) }
     ensures metadata { IfOk result (λ schema. schema.metadata ≡ []) }
+    ensures typed { IfOk result (λ schema. AllTyped schema.fields (out-Record root.now).fields) }
     ensures ok { OnOk result (HasMapOrUnion (RecordSchema root.now) → ⊥) }
     ensures err { IfErr result (SchemaRefused (HasMapOrUnion (RecordSchema root.now))) }
+    ensures carried { CarriedList (out-Record root.now).fields
+        → IfErr result (λ e. e ≡ OutOfMemory) }
 {
     let mut fields = Vec::new(alloc);
     for field in root.fields.as_slice() {

@@ -7,7 +7,7 @@ head_is e = cc
 pub tail_is : {A : Type 0} {a b : A} {xs ys : List A} → a ∷ xs ≡ b ∷ ys → xs ≡ ys
 tail_is e = cc
 
--- prefixes of one length are one
+-- prefixes of the same length are the same
 pub same_length : (a b x y : List ℕ) → length a ≡ length b → a ++ x ≡ b ++ y → a ≡ b
 same_length [] [] x y l e = refl
 same_length [] (c ∷ b) x y l e = absurd (omega (arith, l))

@@ -6,7 +6,7 @@ use arrow_core::{Box, Error, Items, Result, Text};
 use std::alloc::Global;
 
 impl Schema {
-    /// A copy of this schema.
+    /// A copy of this schema, with memory of its own. `OutOfMemory` alone.
     pub fn try_clone(&self, alloc: Global) -> Result<Schema>
         ensures copy { IfOk result (λ copied. copied ≡ self.now) }
         ensures memory { IfErr result (λ e. e ≡ Error.OutOfMemory) }
@@ -16,7 +16,7 @@ impl Schema {
 }
 
 impl Record {
-    /// A copy of this record.
+    /// A copy of this record, with memory of its own. `OutOfMemory` alone.
     pub fn try_clone(&self, alloc: Global) -> Result<Record>
         ensures copy { IfOk result (λ copied. copied ≡ self.now) }
         ensures memory { IfErr result (λ e. e ≡ Error.OutOfMemory) }
@@ -26,7 +26,7 @@ impl Record {
 }
 
 impl AvroField {
-    /// A copy of this field.
+    /// A copy of this field, with memory of its own. `OutOfMemory` alone.
     pub fn try_clone(&self, alloc: Global) -> Result<AvroField>
         ensures copy { IfOk result (λ copied. copied ≡ self.now) }
         ensures memory { IfErr result (λ e. e ≡ Error.OutOfMemory) }
@@ -36,7 +36,7 @@ impl AvroField {
 }
 
 impl Enum {
-    /// A copy of this enum.
+    /// A copy of this enum, with memory of its own. `OutOfMemory` alone.
     pub fn try_clone(&self, alloc: Global) -> Result<Enum>
         ensures copy { IfOk result (λ copied. copied ≡ self.now) }
         ensures memory { IfErr result (λ e. e ≡ Error.OutOfMemory) }
@@ -51,7 +51,7 @@ impl Enum {
 }
 
 impl Fixed {
-    /// A copy of this fixed-size type.
+    /// A copy of this fixed-size type, with memory of its own. `OutOfMemory` alone.
     pub fn try_clone(&self, alloc: Global) -> Result<Fixed>
         ensures copy { IfOk result (λ copied. copied ≡ self.now) }
         ensures memory { IfErr result (λ e. e ≡ Error.OutOfMemory) }

@@ -21,9 +21,10 @@ pub trait Cursor<'a> {
     // calls of `byte`, `take` and `jump`
     ghost calls: { Self → ℕ };
 
-    /// How many bytes are ahead. It counts as no call.
+    /// How many bytes are ahead, fewer than 2^63. It counts as no call.
     fn left(&self) -> usize
-        ensures { result ≡ length (rest self.now) };
+        ensures length { result ≡ length (rest self.now) }
+        ensures limit { length (rest self.now) < 2 ^ 63 };
 
     /// The next byte, which the cursor passes; None at the end of the bytes.
     fn byte(&mut self) -> Option<u8>

@@ -7,7 +7,7 @@ use Rattle.avro_schema.specs.declared.schema.AvroField.{AvroField}
 use Rattle.avro_schema.specs.declared.schema.Record.{Record as TheRecord, out-Record}
 use Rattle.avro_schema.specs.declared.schema.Schema.{Schema, Array, Union, Record}
 use Rattle.avro_schema.proofs.schema.Schema.TheLaws.{the_size}
-use Rattle.avro_grammar.specs.Carried.{Carried}
+use Rattle.avro_grammar.specs.Carried.{Carried, IsNoUnion}
 use Rattle.avro_grammar.specs.Encodes.{IsNull}
 use Rattle.avro_grammar.specs.Listed.{CarriedMembersOf, CarriedFieldsOf}
 use Rattle.avro_grammar.specs.Skips.{Passed, nothing, seen_only, both}
@@ -52,12 +52,12 @@ pub skip_other : (members : List Schema) (bytes mid : List ℕ) (v : ℤ) → nu
 unfolding measured_at or_bad
 skip_other members bytes mid v e a b = rw (e, other_index v a b) refl
 
-pub first_member : (s u : Schema) → CarriedMembersOf (s ∷ u ∷ []) → IsNull s ⊎ Carried s
+pub first_member : (s u : Schema) → CarriedMembersOf (s ∷ u ∷ []) → IsNull s ⊎ (Carried s × IsNoUnion s)
 first_member s u (inl h) = inl h.0
-first_member s u (inr h) = inr h.0
+first_member s u (inr h) = inr (h.0, h.1)
 
-pub second_member : (s u : Schema) → CarriedMembersOf (s ∷ u ∷ []) → IsNull u ⊎ Carried u
-second_member s u (inl h) = inr h.1
+pub second_member : (s u : Schema) → CarriedMembersOf (s ∷ u ∷ []) → IsNull u ⊎ (Carried u × IsNoUnion u)
+second_member s u (inl h) = inr (h.1, h.2)
 second_member s u (inr h) = inl h.2
 
 pub two_of : {A : Type 0} (xs : List A) (a b : A) → 2 ≤ length xs → length xs < 3 → a ≡ get_or xs 0 a → b ≡ get_or xs 1 b → xs ≡ a ∷ b ∷ []

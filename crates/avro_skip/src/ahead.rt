@@ -147,5 +147,9 @@ pub fn read_length<A: Ahead>(cursor: &mut A) -> Option<usize>
     ensures reads { MatchOption result (length_at (A.rest cursor.old) ≡ None)
         (λ n. length_at (A.rest cursor.old) ≡ Some (n, A.rest cursor.new)) }
 {
-    usize::try_from(cursor.number()?).ok()
+    let number = cursor.number()?;
+    if number < 0 {
+        return None;
+    }
+    Some(number as usize)
 }

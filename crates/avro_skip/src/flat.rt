@@ -12,6 +12,9 @@ use crate::fault::SkipFault;
 use avro_schema::{AvroSchema, Fixed, FixedLogical};
 
 /// Skips a value of a schema that has no others in it.
+// It and what it calls are inlined wherever a value is skipped, since the calls would cost as much as
+// the skipping.
+#[inline(always)]
 #[tactic(auto, using(crate::proofs::Sets::flats))]
 pub fn skip_flat<A: Ahead>(cursor: &mut A, schema: &AvroSchema) -> Result<(), SkipFault>
     requires flat { IsCarriedFlat schema.now }
@@ -33,6 +36,7 @@ pub fn skip_flat<A: Ahead>(cursor: &mut A, schema: &AvroSchema) -> Result<(), Sk
 }
 
 /// How many bytes a fixed-size value has (Avro 1.11, "Fixed" and "Duration").
+#[inline(always)]
 fn fixed_size(fixed: &Fixed) -> usize
     ensures { result ≡ fixed_size_of fixed.now.size fixed.now.logical }
 {
@@ -43,6 +47,7 @@ fn fixed_size(fixed: &Fixed) -> usize
 }
 
 /// Skips a number.
+#[inline(always)]
 #[tactic(auto, using(crate::proofs::Sets::numbered))]
 fn skip_number<A: Ahead>(cursor: &mut A) -> Result<(), SkipFault>
     ensures same { A.whose cursor.new ≡ A.whose cursor.old }
@@ -58,6 +63,7 @@ fn skip_number<A: Ahead>(cursor: &mut A) -> Result<(), SkipFault>
 }
 
 /// Skips a length and so many bytes, unseen.
+#[inline(always)]
 #[tactic(auto, using(crate::proofs::Sets::numbered))]
 fn skip_sized<A: Ahead>(cursor: &mut A) -> Result<(), SkipFault>
     ensures same { A.whose cursor.new ≡ A.whose cursor.old }
@@ -102,6 +108,7 @@ fn block_size(size: i64) -> Result<usize, SkipFault>
 }
 
 /// Skips `count` bytes, unseen.
+#[inline(always)]
 #[tactic(auto, using(crate::proofs::Sets::jumps))]
 fn skip_bytes<A: Ahead>(cursor: &mut A, count: usize) -> Result<(), SkipFault>
     ensures same { A.whose cursor.new ≡ A.whose cursor.old }

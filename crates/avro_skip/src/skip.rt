@@ -2,7 +2,7 @@
 //! skipped.
 
 ghost use Rattle.std.specs.Prelude.{◌≡◌, ◌≢◌, ◌⊎◌, ◌+◌, ◌<◌, ◌≤◌, length, pos, OnOk};
-ghost use Rattle.avro_grammar.specs.Carried.{Carried, CarriedList};
+ghost use Rattle.avro_grammar.specs.Carried.{Carried, CarriedList, IsNoUnion};
 ghost use Rattle.avro_grammar.specs.Encodes.{IsNull};
 ghost use Rattle.avro_grammar.specs.Listed.{CarriedMembersOf};
 ghost use Rattle.avro_reference.specs.Skip.{skip, skip_items as skip_items_at, skip_block_items as skip_block_items_at, skip_array};
@@ -21,7 +21,10 @@ use avro_schema::{AvroField, AvroSchema};
 /// bytes are no such value otherwise: whichever fault is the first from the left. Items of blocks
 /// that state their size are passed by one jump, and so are the bytes of strings, of binary values
 /// and of fixed-size ones.
+// It is inlined wherever a value is skipped, so that a flat one, beneath a union too, takes no call
+// into the cycle: `skip_fields` and `skip_blocks`, which the others go through, are not.
 #[cycle(skips)]
+#[inline(always)]
 pub fn skip_value<A: Ahead>(cursor: &mut A, schema: &AvroSchema) -> Result<(), SkipFault>
     requires carried { Carried schema.now }
     ensures same { A.whose cursor.new ≡ A.whose cursor.old }
@@ -31,14 +34,32 @@ pub fn skip_value<A: Ahead>(cursor: &mut A, schema: &AvroSchema) -> Result<(), S
         (skip schema.now (A.rest cursor.old)) }
 {
     match schema {
+        AvroSchema::Union(members) => skip_union(cursor, members.as_slice()),
+        _ => skip_no_union(cursor, schema),
+    }
+}
+
+/// Skips one value of a schema that is no union.
+#[cycle(skips)]
+#[inline(always)]
+fn skip_no_union<A: Ahead>(cursor: &mut A, schema: &AvroSchema) -> Result<(), SkipFault>
+    requires carried { Carried schema.now }
+    requires no_union { IsNoUnion schema.now }
+    ensures same { A.whose cursor.new ≡ A.whose cursor.old }
+    ensures moves { Moves A.rest A.calls cursor.old cursor.new }
+    ensures shorter { OnOk result (length (A.rest cursor.new) < length (A.rest cursor.old)) }
+    ensures passes { Passes A.rest A.shown A.calls cursor.old cursor.new result
+        (skip schema.now (A.rest cursor.old)) }
+{
+    match schema {
         AvroSchema::Record(record) => skip_fields(cursor, record.fields.as_slice()),
         AvroSchema::Array(item) => skip_blocks(cursor, item.get()),
-        AvroSchema::Union(members) => skip_union(cursor, members.as_slice()),
         _ => skip_flat(cursor, schema),
     }
 }
 
 #[cycle(skips)]
+#[inline(always)]
 #[tactic(auto, using(crate::proofs::Sets::unions))]
 fn skip_union<A: Ahead>(cursor: &mut A, members: &[AvroSchema]) -> Result<(), SkipFault>
     requires carried { CarriedMembersOf members.now }
@@ -65,9 +86,10 @@ fn skip_union<A: Ahead>(cursor: &mut A, members: &[AvroSchema]) -> Result<(), Sk
 
 /// Skips the value of one member. Null has no bytes.
 #[cycle(skips)]
+#[inline(always)]
 #[tactic(auto, using(crate::proofs::Sets::nulls))]
 fn skip_member<A: Ahead>(cursor: &mut A, schema: &AvroSchema) -> Result<(), SkipFault>
-    requires member { IsNull schema.now ⊎ Carried schema.now }
+    requires member { IsNull schema.now ⊎ (Carried schema.now × IsNoUnion schema.now) }
     ensures same { A.whose cursor.new ≡ A.whose cursor.old }
     ensures moves { Moves A.rest A.calls cursor.old cursor.new }
     ensures passes { Passes A.rest A.shown A.calls cursor.old cursor.new result
@@ -76,12 +98,13 @@ fn skip_member<A: Ahead>(cursor: &mut A, schema: &AvroSchema) -> Result<(), Skip
     if matches!(schema, AvroSchema::Null) {
         Ok(())
     } else {
-        skip_value(cursor, schema)
+        skip_no_union(cursor, schema)
     }
 }
 
 /// Skips the fields of a record, in order.
 #[cycle(skips)]
+#[inline(never)]
 fn skip_fields<A: Ahead>(cursor: &mut A, fields: &[AvroField]) -> Result<(), SkipFault>
     requires carried { CarriedList fields.now }
     ensures same { A.whose cursor.new ≡ A.whose cursor.old }
@@ -99,6 +122,7 @@ fn skip_fields<A: Ahead>(cursor: &mut A, fields: &[AvroField]) -> Result<(), Ski
 
 /// Skips the blocks of an array, up to the number 0 that ends them.
 #[cycle(skips)]
+#[inline(never)]
 fn skip_blocks<A: Ahead>(cursor: &mut A, item: &AvroSchema) -> Result<(), SkipFault>
     requires carried { Carried item.now }
     ensures same { A.whose cursor.new ≡ A.whose cursor.old }

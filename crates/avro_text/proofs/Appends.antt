@@ -18,3 +18,14 @@ last (Err x) new part whole e i h = tt
 pub alone : {T E : Type 0} (r : Result T E) (old new part whole : List ℕ) → whole ≡ part → OnOk r (new ≡ old ++ part) → OnOk r (new ≡ old ++ whole)
 alone (Ok x) old new part whole e h = h ∙ ap (λ t. old ++ t) (sym e)
 alone (Err x) old new part whole e h = tt
+
+-- ---- the same parts, joined from the other side
+
+pub six : (a b c d e f : List ℕ) → a ++ b ++ c ++ d ++ e ++ f ≡ a ++ (b ++ (c ++ (d ++ (e ++ f))))
+six a b c d e f = simp append_assoc
+
+pub seven : (a b c d e f g : List ℕ) → a ++ b ++ c ++ d ++ e ++ f ++ g ≡ a ++ (b ++ (c ++ (d ++ (e ++ (f ++ g)))))
+seven a b c d e f g = simp append_assoc
+
+pub eight : (a b c d e f g h : List ℕ) → a ++ b ++ c ++ d ++ e ++ f ++ g ++ h ≡ a ++ (b ++ (c ++ (d ++ (e ++ (f ++ (g ++ h))))))
+eight a b c d e f g h = simp append_assoc

@@ -1,5 +1,5 @@
 -- A numeral of digits alone, as a test.
-use Rattle.std.proofs.Common.{◌≡◌, ℕ, ◌<◌, ◌≤◌, Bool, true, false, ◌&&◌, nat_lt, nat_le, cond, List, [], ◌∷◌, length, Option, Some, None, IfSome, refl, ap, subst, arith}
+use Rattle.std.proofs.Common.{◌≡◌, ℕ, ◌<◌, ◌≤◌, Bool, true, false, ◌&&◌, nat_lt, nat_le, cond, List, [], ◌∷◌, length, Option, Some, None, IfSome, refl, sym, ap, subst, arith}
 use Rattle.std.proofs.lemmas.Bool.Decides.{nat_tests}
 use Rattle.std.specs.List.{list_all}
 use Rattle.std.specs.Char.{is_digit, digit_value}
@@ -9,7 +9,7 @@ use Rattle.avro_text.specs.Attributes.{digits_count}
 abbrev are_digits : List ℕ → Bool
 are_digits = list_all (λ byte. is_digit byte 10)
 
-parts : (a b : Bool) → (a && b) ≡ true → (a ≡ true) × (b ≡ true)
+pub parts : (a b : Bool) → (a && b) ≡ true → (a ≡ true) × (b ≡ true)
 parts true b e = (refl, e)
 parts false b e = absurd (cc)
 
@@ -30,13 +30,13 @@ all-digits (d ∷ ds) h = rw (test (digit_value d) h.0) (all-digits ds h.1)
 abbrev test : List ℕ → Bool
 test ds = nat_lt 0 (length ds) && (are_digits ds && nat_le (digits_value 10 ds) 2147483647)
 
-le_true : (m n : ℕ) → m ≤ n → nat_le m n ≡ true
+pub le_true : (m n : ℕ) → m ≤ n → nat_le m n ≡ true
 le_true m n l = grind (arith, nat_tests, l)
 
 lt_true : (m n : ℕ) → m < n → nat_lt m n ≡ true
 lt_true m n l = grind (arith, nat_tests, l)
 
-true_le : (m n : ℕ) → nat_le m n ≡ true → m ≤ n
+pub true_le : (m n : ℕ) → nat_le m n ≡ true → m ≤ n
 true_le m n l = grind (arith, nat_tests, l)
 
 true_lt : (m n : ℕ) → nat_lt m n ≡ true → m < n
@@ -56,6 +56,10 @@ read_is ds None h isnt = go (test ds) refl
         let p = parts (nat_lt 0 (length ds)) (are_digits ds && nat_le (digits_value 10 ds) 2147483647) e in
         let q = parts (are_digits ds) (nat_le (digits_value 10 ds) 2147483647) p.1 in
         absurd (isnt refl (true_lt 0 (length ds) p.0, digits-all ds q.0) (true_le (digits_value 10 ds) 2147483647 q.1))
+
+-- a numeral counts its number
+pub count_is_digits : (ds : List ℕ) (n : ℕ) → IsNumeral 10 ds → digits_value 10 ds ≡ n → n ≤ 2147483647 → digits_count ds [] ≡ Some n
+count_is_digits ds n h e l = rw (passes ds h (subst (λ m. m ≤ 2147483647) (sym e) l)) (ap (λ m. Some m) e)
 
 pub empty : (es : List ℕ) → length es ≡ 0 → es ≡ []
 empty [] e = refl

@@ -5,3 +5,14 @@ pub mod Digits
 pub mod Parts
 pub mod Texts
 pub mod Appends
+pub mod Joins
+pub mod JsonTexts
+pub mod Numerals
+pub mod Members
+pub mod Scaled
+pub mod Backs
+pub mod WrittenTypes
+pub mod ReadBack
+pub mod Answered
+pub mod Nesting
+pub mod Stable

@@ -1,4 +1,4 @@
--- The attributes of a schema that is a JSON object (Avro 1.12, "Schema Declaration").
+-- The attributes of a schema that is a JSON object (Avro 1.11, "Schema Declaration").
 use Rattle.std.specs.Prelude.{ℕ, List, [], ◌∷◌, ◌&&◌, nat_le, nat_lt, Option, Some, None, option_and_then, length, if◌then◌else◌}
 use Rattle.std.specs.Str.Parse.{digits_value}
 use Rattle.std.specs.Char.{is_digit}

@@ -4,3 +4,4 @@ pub mod Types
 pub mod Reading
 pub mod Gives
 pub mod Writing
+pub mod Writable

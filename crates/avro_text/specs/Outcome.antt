@@ -1,4 +1,4 @@
--- What a JSON value can be where a schema is asked for (Avro 1.12, "Schema Declaration").
+-- What a JSON value can be where a schema is asked for (Avro 1.11, "Schema Declaration").
 use Rattle.std.specs.Prelude.{List, [], ◌∷◌, Option, Some, None}
 
 pub data Outcome (A : Type 0) : Type 0 where

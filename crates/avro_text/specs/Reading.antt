@@ -1,4 +1,4 @@
--- Which bytes are the JSON text of an Avro schema, and why others are refused (Avro 1.12, "Schema Declaration").
+-- Which bytes are the JSON text of an Avro schema, and why others are refused (Avro 1.11, "Schema Declaration").
 use Rattle.std.specs.Prelude.{◌≡◌, ℕ, zero, suc, List, [], ◌∷◌, map, Option, Some, None, unwrap_or, codes}
 use Rattle.arrow_core.specs.declared.error.Error.{Error}
 use Rattle.arrow_core.specs.declared.error.Error.TheVariants.{ExternalFormat, NotYetImplemented, LimitExceeded, OutOfMemory}

@@ -1,4 +1,4 @@
--- The types of Avro by the names that schemas give them (Avro 1.12, "Primitive Types", "Complex Types" and "Logical Types").
+-- The types of Avro by the names that schemas give them (Avro 1.11, "Primitive Types", "Complex Types" and "Logical Types"; of nanoseconds, Avro 1.12).
 use Rattle.std.specs.Prelude.{ℕ, List, [], ◌∷◌, ◌&&◌, ◌==◌, nat_le, Option, Some, None, option_and_then, unwrap_or, codes, if◌then◌else◌}
 use Rattle.std.specs.Str.{bytes_eq}
 use Rattle.json_tree.specs.Tree.{Json}

@@ -1,6 +1,6 @@
--- The JSON text that is written for an Avro schema (Avro 1.12, "Schema Declaration"): one text without spaces, with the attributes in
+-- The JSON text that is written for an Avro schema (Avro 1.11, "Schema Declaration"): one text without spaces, with the attributes in
 -- one fixed order.
-use Rattle.std.specs.Prelude.{ℕ, List, [], ◌∷◌, ◌++◌, Option, Some, None, codes, decimal}
+use Rattle.std.specs.Prelude.{ℕ, List, [], ◌∷◌, ◌++◌, map, flat_map, Option, Some, None, codes, decimal}
 use Rattle.arrow_base.specs.WrittenString.{json_string}
 use Rattle.avro_schema.specs.declared.schema.Schema.{Schema, Schema-F, fold-Schema}
 use Rattle.avro_schema.specs.declared.schema.Schema.TheOpen as layer
@@ -19,19 +19,10 @@ use Rattle.avro_schema.specs.declared.schema.StringLogical.TheVariants as string
 use Rattle.avro_schema.specs.declared.schema.FixedLogical.{FixedLogical}
 use Rattle.avro_schema.specs.declared.schema.FixedLogical.TheVariants as fixed
 
--- texts one after another: this before the first, and a comma before each of the others
-abbrev pub led : List ℕ → List (List ℕ) → List ℕ
-led before [] = []
-led before (text ∷ texts) = before ++ (text ++ led (codes ",") texts)
-
 -- with a comma between each two
 abbrev pub joined : List (List ℕ) → List ℕ
-joined texts = led [] texts
-
--- JSON strings, with a comma between each two
-abbrev pub strings : List ℕ → List (List ℕ) → List ℕ
-strings before [] = []
-strings before (value ∷ values) = before ++ (json_string value ++ strings (codes ",") values)
+joined [] = []
+joined (text ∷ texts) = text ++ flat_map (λ next. codes "," ++ next) texts
 
 -- an attribute that is written where it is given
 abbrev pub given : List ℕ → Option (List ℕ) → List ℕ
@@ -87,7 +78,7 @@ fixed_logical_text (Some fixed.Duration) = codes ",\"logicalType\":\"duration\""
 abbrev pub enum_text : Enum → List ℕ
 enum_text e =
     codes "{\"type\":\"enum\",\"name\":" ++ json_string e.name ++ given (codes ",\"namespace\":") e.namespace ++ given (codes ",\"doc\":") e.doc
-    ++ codes ",\"symbols\":[" ++ strings [] e.symbols ++ codes "]}"
+    ++ codes ",\"symbols\":[" ++ joined (map json_string e.symbols) ++ codes "]}"
 
 -- "Fixed"
 abbrev pub fixed_text : Fixed → List ℕ

@@ -1,4 +1,4 @@
-//! Avro schemas as JSON texts, both ways (Avro 1.12, "Schema Declaration").
+//! Avro schemas as JSON texts, both ways (Avro 1.11, "Schema Declaration").
 #![tactic(auto)]
 
 mod attributes;
@@ -11,5 +11,5 @@ mod write;
 mod write_parts;
 
 pub use fault::Fault;
-pub use laws::one_text_one_schema;
+pub use laws::{depth_is_enough, one_text_one_schema, written_text_is_read};
 pub use text::{read_schema_text, record_text, schema_text};

@@ -17,7 +17,7 @@ use std::alloc::Global;
 /// is read has at most 128 brackets open at once.
 const MOST_DEPTH: usize = 129;
 
-/// The schema that a JSON text declares (Avro 1.12, "Schema Declaration"), and the only one.
+/// The schema that a JSON text declares (Avro 1.11, "Schema Declaration"), and the only one.
 ///
 /// The name of a primitive type is that type, an array is a union, and an object is the type that its
 /// attribute `type` names, or the schema that this attribute is. Attributes that the type doesn't have
@@ -40,7 +40,7 @@ pub fn read_schema_text(alloc: Global, bytes: &[u8]) -> Result<AvroSchema, Fault
     }
 }
 
-/// The JSON text of a schema (Avro 1.12, "Schema Declaration"): without spaces, with the attributes of a
+/// The JSON text of a schema (Avro 1.11, "Schema Declaration"): without spaces, with the attributes of a
 /// type in the order name, namespace, doc and what else it has, and namespace and doc only where they
 /// are given. `OutOfMemory` is the only error.
 pub fn schema_text(alloc: Global, schema: &AvroSchema) -> Result<Bytes, Error>

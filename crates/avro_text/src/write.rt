@@ -55,6 +55,7 @@ fn push_union(text: &mut Vec<u8>, members: &[AvroSchema]) -> Result<()>
 }
 
 #[cycle(write)]
+#[tactic(auto, using(crate::proofs::Joins::led_joined))]
 fn push_members(text: &mut Vec<u8>, members: &[AvroSchema]) -> Result<()>
     ensures appended { OnOk result (text.new.items ≡ text.old.items ++ joined (map schema_text_of members.now)) }
     ensures memory { OnlyOutOfMemory result }
@@ -83,6 +84,7 @@ pub(crate) fn push_record(text: &mut Vec<u8>, record: &Record) -> Result<()>
 }
 
 #[cycle(write)]
+#[tactic(auto, using(crate::proofs::Joins::led_joined))]
 fn push_fields(text: &mut Vec<u8>, fields: &[AvroField]) -> Result<()>
     ensures appended { OnOk result (text.new.items ≡ text.old.items ++ joined (map field_text_of fields.now)) }
     ensures memory { OnlyOutOfMemory result }

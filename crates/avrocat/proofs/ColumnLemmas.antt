@@ -1,5 +1,5 @@
 -- The columns that are made from a record have the types of its fields, and each carried field has one.
-use Rattle.std.proofs.Common.{◌≡◌, ◌∙◌, ◌⊎◌, inl, inr, ℕ, suc, Option, Some, None, Bool, true, List, [], ◌∷◌, All, refl, sym, subst, arith}
+use Rattle.std.proofs.Common.{◌≡◌, ◌∙◌, ◌⊎◌, inl, inr, ℕ, suc, Option, Some, None, Bool, false, true, List, [], ◌∷◌, map, All, refl, sym, subst, arith}
 use Rattle.std.specs.Prelude.{IsTrue, ◌&&◌}
 use Rattle.std.proofs.lemmas.Option.{none-some, same_Some}
 use Rattle.arrow_types.specs.declared.types.DataType.{DataType}
@@ -10,15 +10,20 @@ use Rattle.avro_schema.specs.declared.schema.Schema.{Schema, Null, Record, Array
 use Rattle.avro_grammar.specs.AndThen.{◌>>=◌}
 use Rattle.avro_grammar.specs.Carried.{IsNoUnion, Carried, CarriedRecord, CarriedItem, CarriedUnion, CarriedFields, CarriedList}
 use Rattle.avro_grammar.specs.Encodes.{IsNull, is_null}
-use Rattle.avro_grammar.specs.Inferred.{column_field, inferred, is_item, columns_of, IsNullable, HasMapOrUnion, RecordHasMapOrUnion, ItemHasMapOrUnion, AnyHasMapOrUnion, FieldHasMapOrUnion}
+use Rattle.avro_grammar.specs.Inferred.{own_doc, column_field, inferred, is_item, columns_of, IsNullable, HasMapOrUnion, RecordHasMapOrUnion, ItemHasMapOrUnion, AnyHasMapOrUnion, FieldHasMapOrUnion}
 use Rattle.avro_grammar.proofs.Basics.{null_told}
 use Rattle.avro_grammar.proofs.ByLists.{row_fields, fields_are}
 use Rattle.avro_grammar.proofs.InferredLemmas.{inferred_is_typed}
 use Rattle.avro_infer.specs.Columns.{AllTyped}
+use Rattle.avro_infer.specs.Enlarged.{enlarged}
+use Rattle.avro_infer.proofs.Enlarging.{enlarged_fits}
+use Rattle.avro_grammar.specs.Types.{Fits}
+use Rattle.avro_grammar.proofs.TypeLemmas.{small_forms_fit}
+use Rattle.avrocat.specs.Blocks.{AreColumnsOf}
 
 -- ---- types
 
-pub columns_fit : (doc : AvroField → Option (List ℕ)) (xs : List AvroField) (fs : List Field) → columns_of doc xs ≡ Some fs → AllTyped fs xs
+columns_fit : (doc : AvroField → Option (List ℕ)) (xs : List AvroField) (fs : List Field) → columns_of doc xs ≡ Some fs → AllTyped fs xs
 columns_fit doc [] fs h = subst (λ gs. AllTyped gs []) (same_Some [] fs h) tt
 columns_fit doc (a ∷ xs) fs h = from (inferred a.schema) refl h (columns_fit doc xs)
   where
@@ -29,6 +34,22 @@ columns_fit doc (a ∷ xs) fs h = from (inferred a.schema) refl h (columns_fit d
     from : (o : Option DataType) → inferred a.schema ≡ o → (o >>= λ t. columns_of doc xs >>= λ gs. Some (column_field a.name (doc a) a.schema t ∷ gs)) ≡ Some fs → ((gs : List Field) → columns_of doc xs ≡ Some gs → AllTyped gs xs) → AllTyped fs (a ∷ xs)
     from None e k rest = absurd (none-some fs k)
     from (Some t) e k rest = inner t (columns_of doc xs) e refl k rest
+
+small_fit : (fs : List Field) (xs : List AvroField) → AllTyped fs xs → Fits fs xs
+small_fit [] [] h = tt
+small_fit [] (a ∷ xs) h = absurd h
+small_fit (f ∷ fs) [] h = absurd h
+small_fit (f ∷ fs) (a ∷ xs) h = (small_forms_fit a.schema f h.0, small_fit fs xs h.1)
+
+large_fit : (fs : List Field) (xs : List AvroField) → AllTyped fs xs → Fits (map enlarged fs) xs
+large_fit [] [] h = tt
+large_fit [] (a ∷ xs) h = absurd h
+large_fit (f ∷ fs) [] h = absurd h
+large_fit (f ∷ fs) (a ∷ xs) h = (enlarged_fits a.schema f h.0, large_fit fs xs h.1)
+
+pub forms_fit : (xs : List AvroField) (large : Bool) (fs : List Field) → AreColumnsOf xs large fs → Fits fs xs
+forms_fit xs false fs h = subst (λ (gs : List Field). Fits gs xs) (sym h.2) (small_fit h.0 xs (columns_fit own_doc xs h.0 h.1))
+forms_fit xs true fs h = subst (λ (gs : List Field). Fits gs xs) (sym h.2) (large_fit h.0 xs (columns_fit own_doc xs h.0 h.1))
 
 -- ---- carried schemas
 

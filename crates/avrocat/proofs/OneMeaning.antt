@@ -1,5 +1,5 @@
 -- Words stand for one command at most.
-use Rattle.std.proofs.Common.{◌≡◌, ℕ, suc, Bool, List, [], ◌∷◌, length, drop, refl, sym, ap, subst, ◌∙◌}
+use Rattle.std.proofs.Common.{◌≡◌, ℕ, suc, Bool, false, true, List, [], ◌∷◌, length, drop, refl, sym, ap, subst, ◌∙◌}
 use Rattle.avro_schema.specs.declared.schema.AvroField.{AvroField}
 use Rattle.field_words.specs.Names.{IsRows}
 use Rattle.field_words.proofs.OneMeaning.{one_field}
@@ -7,7 +7,7 @@ use Rattle.avrocat.specs.declared.command.BlockWords.{BlockWords}
 use Rattle.avrocat.specs.declared.command.Command.{Command}
 use Rattle.avrocat.specs.declared.command.Command.TheVariants.{Block}
 use Rattle.avrocat.specs.Commands.{Stands}
-use Rattle.avrocat.specs.Words.{AreFields, IsBlock}
+use Rattle.avrocat.specs.Words.{AreFields, block_word, IsBlock}
 use Rattle.avrocat.proofs.WordsLemmas.{words_head}
 
 one_fields : (words : List (List ℕ)) (ks ls : List Bool) (fs gs : List AvroField) → AreFields words ks fs → AreFields words ls gs → (ks ≡ ls) × (fs ≡ gs)
@@ -31,13 +31,20 @@ block_parts words block (rest, is, (w, ws, so, n, are)) =
     let at : drop 1 words ≡ w ∷ ws = ap (drop 1) is ∙ so in
     (subst (λ z. IsRows z block.rows) (sym (ap (words_head []) at)) n, subst (λ z. AreFields z block.projection block.avro_fields) (sym (ap (drop 2) is ∙ ap (drop 1) so)) are)
 
+same_word : (a b : Bool) → block_word a ≡ block_word b → a ≡ b
+same_word false false e = refl
+same_word false true e = absurd cc
+same_word true false e = absurd cc
+same_word true true e = refl
+
 pub one_block : (words : List (List ℕ)) (block other : BlockWords) → IsBlock words block → IsBlock words other → block ≡ other
 one_block words block other h d =
     let one = block_parts words block h in
     let two = block_parts words other d in
     let same = one_fields (drop 2 words) block.projection other.projection block.avro_fields other.avro_fields one.1 two.1 in
     let rows : block.rows ≡ other.rows = one.0.3 ∙ sym two.0.3 in
-    λ i. record { rows = rows i; avro_fields = same.1 i; projection = same.0 i }
+    let large = same_word block.large other.large (ap (words_head []) (sym h.1 ∙ d.1)) in
+    λ i. record { rows = rows i; avro_fields = same.1 i; projection = same.0 i; large = large i }
 
 pub one_command : (words : List (List ℕ)) (one other : Command) → Stands words one → Stands words other → one ≡ other
 one_command words (Block block) (Block other) h d = ap Block (one_block words block other h d)

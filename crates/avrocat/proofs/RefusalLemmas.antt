@@ -7,17 +7,16 @@ use Rattle.arrow_core.specs.declared.error.Error.TheVariants.{InvalidArgumentErr
 use Rattle.arrow_core.specs.declared.error.Reason.TheVariants as reason
 use Rattle.arrow_types.specs.declared.types.Field.{Field}
 use Rattle.avro_schema.specs.declared.schema.AvroField.{AvroField}
-use Rattle.avro_grammar.specs.Inferred.{own_doc, inferred_columns}
 use Rattle.avro_grammar.specs.Carried.{CarriedList}
-use Rattle.avro_infer.specs.Columns.{AllTyped}
+use Rattle.avro_grammar.specs.Types.{Fits}
 use Rattle.avro_decode.specs.Refusals.{BelongTogether, FieldsRefused, BytesRefused, BlockRefused}
 use Rattle.arrow_base.specs.Outside.{AppendsPrefix}
 use Rattle.avrocat.specs.declared.command.BlockWords.{BlockWords}
-use Rattle.avrocat.specs.Blocks.{ShowsBlock}
+use Rattle.avrocat.specs.Blocks.{AreColumnsOf, ShowsBlock}
 use Rattle.avrocat.specs.Changes.{Change, Failed}
 use Rattle.avrocat.specs.Input.{byte_limit, TakesAll, NotRead}
 use Rattle.avrocat.specs.Refusals.{IsWrong, CannotBeShown, BlockFails}
-use Rattle.avrocat.proofs.ColumnLemmas.{columns_fit}
+use Rattle.avrocat.proofs.ColumnLemmas.{forms_fit}
 
 zip_length : {A B : Type 0} (R : A → B → Type 0) (xs : List A) (ys : List B) → AllZip R xs ys → length xs ≡ length ys
 zip_length R [] [] h = refl
@@ -36,9 +35,9 @@ some_field (f ∷ fs) none = omega arith
 
 -- What `deserialize` tells of columns that the schemas have, in the words of a block.
 module _ (block : BlockWords) (fields : List Field) (bytes : List ℕ)
-    (same : length block.avro_fields ≡ length block.projection) (typed : inferred_columns block.avro_fields ≡ Some fields) (few : length bytes ≤ byte_limit) where
-  fit : AllTyped fields block.avro_fields
-  fit = columns_fit own_doc block.avro_fields fields typed
+    (same : length block.avro_fields ≡ length block.projection) (typed : AreColumnsOf block.avro_fields block.large fields) (few : length bytes ≤ byte_limit) where
+  fit : Fits fields block.avro_fields
+  fit = forms_fit block.avro_fields block.large fields typed
 
   each : length fields ≡ length block.avro_fields
   each = zip_length _ fields block.avro_fields fit
@@ -53,8 +52,8 @@ module _ (block : BlockWords) (fields : List Field) (bytes : List ℕ)
   by_fields OutOfMemory h = inl refl
   by_fields _ h = absurd h
 
-  by_bytes : (e : Error) → BelongTogether fields block.avro_fields block.projection → BytesRefused block.rows block.avro_fields block.projection bytes e → (e ≡ OutOfMemory) ⊎ IsWrong block bytes e
-  by_bytes Overflow b h = absurd (omega (arith, h, few))
+  by_bytes : (e : Error) → BelongTogether fields block.avro_fields block.projection → BytesRefused block.rows fields block.avro_fields block.projection bytes e → (e ≡ OutOfMemory) ⊎ IsWrong block bytes e
+  by_bytes Overflow b h = absurd (h (inl (omega (arith, few))))
   by_bytes (ExternalFormat reason.Rows) b h = inr (((omega (arith, b.some, each), b.carried), b.no_float, b.symbols), h.1)
   by_bytes (ExternalFormat reason.BlockBytes) b h = inr (((omega (arith, b.some, each), b.carried), b.no_float, b.symbols), h.0.1, h.1, h.2)
   by_bytes (OutOfSpec reason.NegativeSize) b h = inr (((omega (arith, b.some, each), b.carried), b.no_float, b.symbols), h.0.1, h.1)
@@ -76,11 +75,11 @@ no_column block now bytes e lent (inr h) =
 -- the same of lists that are those of the block
 pub of_block : {X : Type 0} (block : BlockWords) (fields : List AvroField) (keeps : List Bool) (bytes given : List ℕ) (answer : Result X Error)
     → fields ≡ block.avro_fields → keeps ≡ block.projection → given ≡ bytes
-    → IfErr answer (λ e. (e ≡ OutOfMemory) ⊎ IsWrong (record { rows = block.rows; avro_fields = fields; projection = keeps }) given e)
+    → IfErr answer (λ e. (e ≡ OutOfMemory) ⊎ IsWrong (record { rows = block.rows; avro_fields = fields; projection = keeps; large = block.large }) given e)
     → IfErr answer (λ e. (e ≡ OutOfMemory) ⊎ IsWrong block bytes e)
 of_block block fields keeps bytes given answer same_fields same_keeps same_bytes h =
     subst (λ (p : BlockWords × List ℕ). IfErr answer (λ e. (e ≡ OutOfMemory) ⊎ IsWrong p.0 p.1 e))
-    (λ i. (record { rows = block.rows; avro_fields = same_fields i; projection = same_keeps i }, same_bytes i)) h
+    (λ i. (record { rows = block.rows; avro_fields = same_fields i; projection = same_keeps i; large = block.large }, same_bytes i)) h
 
 module _ (block : BlockWords) (source sink : Change) where
   pub not_read : (e : Error) → Keeps sink.bytes sink.bytes_after → NotRead source e → BlockFails block source sink e

@@ -1,12 +1,12 @@
 -- Words of a block, one field after another.
-use Rattle.std.proofs.Common.{◌≡◌, ℕ, zero, suc, ◌+◌, ◌-◌, ◌<◌, List, [], ◌∷◌, ◌++◌, length, take, drop, codes, ◌⊎◌, inl, inr, sym, ap, ◌∙◌, arith, subst, Bool}
+use Rattle.std.proofs.Common.{◌≡◌, ℕ, zero, suc, ◌+◌, ◌-◌, ◌<◌, ◌≤◌, List, [], ◌∷◌, ◌++◌, length, take, drop, codes, ◌⊎◌, inl, inr, sym, ap, ◌∙◌, arith, subst, Bool, false, true}
 use Rattle.std.proofs.lemmas.List.{take_more, take_all, length-drop}
 use Rattle.std.specs.Prelude.{slice_index_or}
 use Rattle.avro_schema.specs.declared.schema.AvroField.{AvroField}
 use Rattle.field_words.specs.Fields.{IsField}
 use Rattle.field_words.specs.Names.{IsRows}
-use Rattle.avrocat.specs.Commands.{IsUsage}
-use Rattle.avrocat.specs.Words.{AreFields, IsRest}
+use Rattle.avrocat.specs.Commands.{Stands, IsUsage}
+use Rattle.avrocat.specs.Words.{AreFields, IsRest, block_word}
 use Rattle.avrocat.specs.declared.command.BlockWords.{BlockWords}
 use Rattle.avrocat.specs.declared.command.Command.TheVariants.{Block}
 
@@ -62,14 +62,30 @@ pub empty_rest : (words : List (List ℕ)) → length words < 1 → (block : Blo
 empty_rest [] low block (w, ws, is, n, are) = absurd (nil_cons is)
 empty_rest (w ∷ ws) low block h = absurd (omega (arith, low))
 
+-- words that are one at least are the first of them and the others
+pub begins : (words : List (List ℕ)) (word : List ℕ) → 1 ≤ length words → word ≡ slice_index_or words 0 word → words ≡ word ∷ take (length words - 1) (drop 1 words)
+begins [] word low at = absurd (omega (arith, low))
+begins (w ∷ ws) word low at =
+    let left : length (drop 1 (w ∷ ws)) ≡ length (w ∷ ws) - 1 = length-drop 1 (w ∷ ws) in
+    let whole : take (length (w ∷ ws) - 1) (drop 1 (w ∷ ws)) ≡ ws = take_all (length (w ∷ ws) - 1) (drop 1 (w ∷ ws)) (omega (arith, left)) in
+    (λ i. sym at i ∷ sym whole i)
+
+-- the first word and those after it stand for the block
+pub stands_for : (words : List (List ℕ)) (word : List ℕ) (rest : List (List ℕ)) (large : Bool) (block : BlockWords) → words ≡ word ∷ rest → word ≡ block_word large → block.large ≡ large → IsRest rest block → Stands words (Block block)
+stands_for words word rest large block is named same h = (rest, subst (λ z. words ≡ z ∷ rest) (named ∙ ap block_word (sym same)) is, h)
+
 pub no_block : (words : List (List ℕ)) → ((block : BlockWords) → IsRest (take (length words - 1) (drop 1 words)) block → ⊥) → IsUsage words
 no_block words none (Block block) (rest, is, h) =
     let left : length (drop 1 words) ≡ length words - 1 = length-drop 1 words in
     let whole : take (length words - 1) (drop 1 words) ≡ rest = take_all (length words - 1) (drop 1 words) (omega (arith, left)) ∙ ap (drop 1) is in
     none block (subst (λ z. IsRest z block) (sym whole) h)
 
-pub other_word : (words : List (List ℕ)) (word : List ℕ) (rest : List (List ℕ)) → words ≡ word ∷ rest → (word ≡ codes "block" → ⊥) → IsUsage words
-other_word words word rest e other (Block block) (ws, is, h) = other (ap (words_head word) (sym e ∙ is))
+pub other_word : (words : List (List ℕ)) (word : List ℕ) (rest : List (List ℕ)) → words ≡ word ∷ rest → (word ≡ codes "block" → ⊥) → (word ≡ codes "block-large" → ⊥) → IsUsage words
+other_word words word rest e other another (Block block) (ws, is, h) = from block.large (ap (words_head word) (sym e ∙ is))
+  where
+    from : (large : Bool) → word ≡ block_word large → ⊥
+    from false same = other same
+    from true same = another same
 
 pub no_words : (words : List (List ℕ)) → length words < 1 → IsUsage words
 no_words [] low (Block block) (ws, is, h) = absurd (nil_cons is)

@@ -1,20 +1,31 @@
 -- What is shown of a block.
-use Rattle.std.specs.Prelude.{◌≡◌, ℕ, List, map, Some}
+use Rattle.std.specs.Prelude.{◌≡◌, ℕ, Bool, false, true, List, map, Some}
 use Rattle.std.specs.Io.KnownBytes.{Appends}
 use Rattle.arrow_types.specs.declared.slot.Slot.{Slot}
 use Rattle.arrow_types.specs.declared.types.Field.{Field}
+use Rattle.avro_schema.specs.declared.schema.AvroField.{AvroField}
 use Rattle.avro_grammar.specs.Inferred.{inferred_columns}
 use Rattle.avro_grammar.specs.ValidBlock.{kept, ValidBlock}
+use Rattle.avro_infer.specs.Enlarged.{enlarged}
 use Rattle.avro_decode.specs.Columns.{AreColumns}
 use Rattle.avrocat.specs.declared.command.BlockWords.{BlockWords}
 use Rattle.avrocat.specs.Changes.{Change}
 use Rattle.avrocat.specs.Input.{TakesAll}
 use Rattle.avrocat.specs.Shown.{shown}
 
+-- the fields as they are, or in large forms
+abbrev pub AreForms : Bool → List Field → List Field → Type 0
+AreForms false columns fields = fields ≡ columns
+AreForms true columns fields = fields ≡ map enlarged columns
+
+-- the columns that are made from the schemas of fields, or these in large forms
+abbrev pub AreColumnsOf : List AvroField → Bool → List Field → Type 0
+AreColumnsOf avro_fields large fields = (columns : List Field) × (inferred_columns avro_fields ≡ Some columns) × AreForms large columns fields
+
 -- the bytes are valid for the rows and fields, under the types that the fields' schemas have
 pub record IsValid (block : BlockWords) (bytes : List ℕ) : Type 0 where
   pub fields : List Field
-  pub typed : inferred_columns block.avro_fields ≡ Some fields
+  pub typed : AreColumnsOf block.avro_fields block.large fields
   pub valid : ValidBlock block.rows bytes fields block.avro_fields block.projection
 
 -- and the text is the lines of the columns of the kept fields

@@ -1,9 +1,8 @@
-//! The command `block`: the columns of one Avro block as lines.
-ghost use Rattle.std.specs.Prelude.{◌≡◌, ◌≤◌, ◌⊎◌, Some, length, map, IfOk, IfErr, OnOk};
+//! The commands `block` and `block-large`: the columns of one Avro block as lines.
+ghost use Rattle.std.specs.Prelude.{◌≡◌, ◌≤◌, ◌⊎◌, length, map, IfOk, IfErr, OnOk};
 ghost use Rattle.arrow_core.specs.declared.error.Error.TheVariants.{OutOfMemory};
-ghost use Rattle.avro_grammar.specs.Inferred.{inferred_columns};
 ghost use Rattle.avro_grammar.specs.ValidBlock.{kept};
-ghost use Rattle.avrocat.specs.Blocks.{ShowsBlock, BlockDone};
+ghost use Rattle.avrocat.specs.Blocks.{AreColumnsOf, ShowsBlock, BlockDone};
 ghost use Rattle.avrocat.specs.Changes.{change_of};
 ghost use Rattle.avrocat.specs.Input.{byte_limit};
 ghost use Rattle.avrocat.specs.Refusals.{IsWrong, BlockFails};
@@ -58,6 +57,7 @@ fn block_lines(alloc: Global, words: BlockWords, bytes: Vec<u8>) -> Result<Lines
         rows,
         avro_fields,
         projection,
+        large,
     } = words;
     let record = Record {
         name: Text::try_from_str(alloc, ROW)?,
@@ -65,7 +65,7 @@ fn block_lines(alloc: Global, words: BlockWords, bytes: Vec<u8>) -> Result<Lines
         doc: None,
         fields: avro_fields,
     };
-    let fields = columns_of(alloc, &record)?;
+    let fields = columns_of(alloc, &record, large)?;
     let block = Block {
         number_of_rows: rows,
         bytes: Bytes::from_vec(bytes),
@@ -76,25 +76,28 @@ fn block_lines(alloc: Global, words: BlockWords, bytes: Vec<u8>) -> Result<Lines
         fields.as_slice(),
         record.fields.as_slice(),
         projection.as_slice(),
+        large,
     )
 }
 
-/// The lines of the kept fields of a block, under the names of the Avro fields.
+/// The lines of the kept fields of a block, under the names of the Avro fields. The columns have
+/// large forms where `large`.
 fn chunk_lines(
     alloc: Global,
     block: &Block,
     fields: &[Field],
     avro_fields: &[AvroField],
     projection: &[bool],
+    large: bool,
 ) -> Result<Lines>
     requires within { length block.now.bytes ≤ byte_limit }
     requires lengths { length avro_fields.now ≡ length projection.now }
-    requires typed { inferred_columns avro_fields.now ≡ Some fields.now }
+    requires typed { AreColumnsOf avro_fields.now large fields.now }
     ensures ok { IfOk result (λ lines. ShowsBlock
-        (record { rows = block.now.number_of_rows; avro_fields = avro_fields.now; projection = projection.now })
+        (record { rows = block.now.number_of_rows; avro_fields = avro_fields.now; projection = projection.now; large = large })
         block.now.bytes lines.text.items) }
     ensures err { IfErr result (λ e. (e ≡ OutOfMemory) ⊎ IsWrong
-        (record { rows = block.now.number_of_rows; avro_fields = avro_fields.now; projection = projection.now })
+        (record { rows = block.now.number_of_rows; avro_fields = avro_fields.now; projection = projection.now; large = large })
         block.now.bytes e) }
 {
     let chunk = deserialize(alloc, block, fields, avro_fields, projection)?;

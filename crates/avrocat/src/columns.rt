@@ -1,22 +1,35 @@
-//! The columns of a block's fields.
+//! The columns of a block's fields, in large forms where these are asked for.
 
-ghost use Rattle.std.specs.Prelude.{◌≡◌, ◌⊎◌, Some, IfOk, IfErr};
+ghost use Rattle.std.specs.Prelude.{◌≡◌, ◌⊎◌, map, Some, IfOk, IfErr};
 ghost use Rattle.arrow_core.specs.declared.error.Error.TheVariants.{NotYetImplemented, OutOfMemory};
 ghost use Rattle.arrow_core.specs.declared.error.Reason.TheVariants.{NotCarried};
 ghost use Rattle.avro_schema.specs.declared.schema.Record.{out-Record};
 ghost use Rattle.avro_grammar.specs.Carried.{CarriedList};
 ghost use Rattle.avro_grammar.specs.Inferred.{inferred_columns};
+ghost use Rattle.avro_infer.specs.Enlarged.{enlarged};
+ghost use Rattle.avrocat.specs.Blocks.{AreForms, AreColumnsOf};
 
 use arrow_base::{Error, Items, Reason, Result};
 use arrow_types::Field;
-use avro_read::infer_schema;
+use avro_read::{enlarge, infer_schema};
 use avro_schema::Record;
 use std::alloc::Global;
 
-/// The columns of a record's fields. `NotCarried` where a schema has no column: no such schema is
-/// carried.
-pub fn columns_of(alloc: Global, root: &Record) -> Result<Items<Field>>
-    ensures typed { IfOk result (λ fields. inferred_columns (out-Record root.now).fields ≡ Some fields) }
+/// The columns of a record's fields, in large forms where `large`. `NotCarried` where a schema has
+/// no column: no such schema is carried.
+pub fn columns_of(alloc: Global, root: &Record, large: bool) -> Result<Items<Field>>
+    ensures typed { IfOk result (AreColumnsOf (out-Record root.now).fields large) }
+    ensures err { IfErr result (λ e. (e ≡ OutOfMemory)
+        ⊎ ((e ≡ NotYetImplemented NotCarried) × (CarriedList (out-Record root.now).fields → ⊥))) }
+{
+    let fields = small_columns(alloc, root)?;
+    Ok(in_forms(alloc, fields, large)?)
+}
+
+/// The columns of a record's fields, in small forms.
+fn small_columns(alloc: Global, root: &Record) -> Result<Items<Field>>
+    ensures typed { IfOk result
+        (λ fields. inferred_columns (out-Record root.now).fields ≡ Some fields) }
     ensures err { IfErr result (λ e. (e ≡ OutOfMemory)
         ⊎ ((e ≡ NotYetImplemented NotCarried) × (CarriedList (out-Record root.now).fields → ⊥))) }
 {
@@ -27,4 +40,29 @@ pub fn columns_of(alloc: Global, root: &Record) -> Result<Items<Field>>
         }
         Err(error) => Err(error),
     }
+}
+
+/// The fields as they are, or in large forms where `large`.
+fn in_forms(alloc: Global, fields: Items<Field>, large: bool) -> Result<Items<Field>>
+    ensures forms { IfOk result (AreForms large fields) }
+    ensures memory { IfErr result (λ e. e ≡ OutOfMemory) }
+{
+    if large {
+        enlarge_all(alloc, fields.as_slice())
+    } else {
+        Ok(fields)
+    }
+}
+
+/// The fields in large forms.
+fn enlarge_all(alloc: Global, fields: &[Field]) -> Result<Items<Field>>
+    ensures ok { IfOk result (λ large. large ≡ map enlarged fields.now) }
+    ensures memory { IfErr result (λ e. e ≡ OutOfMemory) }
+{
+    let mut large = Vec::new(alloc);
+    for field in fields {
+        let field = enlarge(alloc, field)?;
+        large.push(field)?;
+    }
+    Ok(Items::from_vec(large))
 }

@@ -3,7 +3,7 @@
 use arrow_base::Items;
 use avro_schema::AvroField;
 
-/// A block's rows and fields, as `block ROWS FIELD..` names them.
+/// A block's rows and fields, as `block ROWS FIELD..` and `block-large ROWS FIELD..` name them.
 #[derive(Drop)]
 pub struct BlockWords {
     /// How many rows the block is said to have.
@@ -12,6 +12,8 @@ pub struct BlockWords {
     pub avro_fields: Items<AvroField>,
     /// Which of the fields are kept.
     pub projection: Items<bool>,
+    /// Whether the columns have large forms, as after `block-large`.
+    pub large: bool,
 }
 
 /// What the words ask for.

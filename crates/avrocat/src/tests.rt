@@ -80,7 +80,7 @@ const TWO_ROWS: &[u8] = b"\x02\x02\x04hi\x03\x00";
 
 #[test]
 fn valid_blocks_are_shown(rt: HostRuntime) {
-    let table: [(&str, &[u8], &str); 10] = [
+    let table: [(&str, &[u8], &str); 12] = [
         (
             "block 2 a=int b=string?",
             TWO_ROWS,
@@ -103,6 +103,16 @@ fn valid_blocks_are_shown(rt: HostRuntime) {
         ("block 1 ~a=boolean b=int", b"\x02\x02", "b:[1]\n"),
         ("block 1 ~a=string b=int", b"\x02\xff\x02", "b:[1]\n"),
         ("block 2 a=boolean!", b"\x00\x01\x02", "a:[true,null]\n"),
+        (
+            "block-large 2 a=int b=string?",
+            TWO_ROWS,
+            "a:[1,-2]\nb:[\"hi\",null]\n",
+        ),
+        (
+            "block-large 1 r={x=[<A,B>];y=bytes?}",
+            b"\x04\x02\x00\x00\x02\x02\x7f",
+            "r:[{[\"B\",\"A\"],0x7f}]\n",
+        ),
     ];
     for (line, bytes, output) in table {
         let answer = plain_answer(&rt, rt.alloc(), line, bytes);
@@ -291,6 +301,7 @@ fn words_that_are_no_command_are_usage(rt: HostRuntime) {
         "",
         "blok 1",
         "block x a=int",
+        "block-larger 1",
         "block 18446744073709551616",
         "block 1 =int",
         "block 1 a=decimal(2,3)",

@@ -23,15 +23,17 @@ pub fn read_words(alloc: Global, words: &[Text]) -> Result<Command, WordsFault>
         return Err(WordsFault::Usage);
     };
     match command.as_str() {
-        "block" => Ok(Command::Block(read_block(alloc, rest)?)),
+        "block" => Ok(Command::Block(read_block(alloc, rest, false)?)),
+        "block-large" => Ok(Command::Block(read_block(alloc, rest, true)?)),
         _ => Err(WordsFault::Usage),
     }
 }
 
-/// The rows and fields of `block`, after that word.
+/// The rows and fields of `block` or `block-large`, after that word.
 #[tactic(auto, using(crate::proofs::WordsLemmas::no_rest, crate::proofs::WordsLemmas::empty_rest))]
-fn read_block(alloc: Global, words: &[Text]) -> Result<BlockWords, WordsFault>
+fn read_block(alloc: Global, words: &[Text], large: bool) -> Result<BlockWords, WordsFault>
     ensures block { IfOk result (IsRest words.now) }
+    ensures large { IfOk result (λ block. block.large ≡ large) }
     ensures usage { result ≡ Err Usage → (block : TheBlock) → IsRest words.now block → ⊥ }
 {
     let [rows, fields @ ..] = words else {
@@ -45,6 +47,7 @@ fn read_block(alloc: Global, words: &[Text]) -> Result<BlockWords, WordsFault>
         rows,
         avro_fields: Items::from_vec(avro_fields),
         projection: Items::from_vec(projection),
+        large,
     })
 }
 

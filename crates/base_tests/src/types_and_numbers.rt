@@ -69,8 +69,8 @@ fn nullable_field(rt: &impl Abort, alloc: Global) -> Field {
     field
 }
 
-fn schema(rt: &impl Abort, alloc: Global) -> Schema {
-    let fields = vec![in alloc; plain_field(rt, alloc, "a")].expect(rt, "memory");
+fn schema(rt: &impl Abort, alloc: Global, name: &str) -> Schema {
+    let fields = vec![in alloc; plain_field(rt, alloc, name)].expect(rt, "memory");
     Schema {
         fields: Items::from_vec(fields),
         metadata: Metadata::new(alloc),
@@ -89,15 +89,19 @@ fn type_is_copied(rt: &impl Abort, alloc: Global, data_type: DataType) -> bool {
     data_type.try_clone(alloc).expect(rt, "memory") == data_type
 }
 
+fn are_equal_schemas(left: Schema, right: Schema) -> bool {
+    left == right
+}
+
 fn schema_is_copied(rt: &impl Abort, alloc: Global, schema: Schema) -> bool {
-    schema.try_clone(alloc).expect(rt, "memory") == schema
+    are_equal_schemas(schema.try_clone(alloc).expect(rt, "memory"), schema)
 }
 
 #[test]
 fn a_copy_is_the_same(rt: HostRuntime) {
     assert!(rt; type_is_copied(&rt, rt.alloc(), list(&rt, rt.alloc())));
     assert!(rt; field_is_copied(&rt, rt.alloc(), nested_field(&rt, rt.alloc())));
-    assert!(rt; schema_is_copied(&rt, rt.alloc(), schema(&rt, rt.alloc())));
+    assert!(rt; schema_is_copied(&rt, rt.alloc(), schema(&rt, rt.alloc(), "a")));
 }
 
 #[test]
@@ -107,6 +111,12 @@ fn fields_of_another_nullability_name_or_metadata_differ(rt: HostRuntime) {
     assert!(rt; !are_equal(plain_field(&rt, alloc, "a"), plain_field(&rt, alloc, "b")));
     assert!(rt; !are_equal(nested_field(&rt, alloc), plain_field(&rt, alloc, "a")));
     assert!(rt; DataType::Utf8 != DataType::LargeUtf8);
+}
+
+#[test]
+fn schemas_whose_fields_have_other_names_differ(rt: HostRuntime) {
+    let alloc = rt.alloc();
+    assert!(rt; !are_equal_schemas(schema(&rt, alloc, "a"), schema(&rt, alloc, "b")));
 }
 
 fn extension(rt: &impl Abort, alloc: Global) -> DataType {

@@ -28,7 +28,9 @@ fn without_a_zone_a_space_stands_between_date_and_time(rt: HostRuntime) {
             1_500_000,
             "\"1970-01-01 00:00:01.500\"",
         ),
+        (TimeUnit::Millisecond, -1, "\"1969-12-31 23:59:59.999\""),
         (TimeUnit::Microsecond, -1, "\"1969-12-31 23:59:59.999999\""),
+        (TimeUnit::Microsecond, -1_000, "\"1969-12-31 23:59:59.999\""),
         (
             TimeUnit::Nanosecond,
             1_000,

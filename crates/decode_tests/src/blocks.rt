@@ -2,13 +2,14 @@
 
 ghost use Rattle.std.specs.Prelude.{◌≡◌, length, map, All, OnOk, IfErr};
 ghost use Rattle.arrow_core.specs.declared.error.Error.TheVariants.{OutOfMemory};
+ghost use Rattle.arrow_builders.specs.Fits.{TypesFit};
 ghost use Rattle.arrow_builders.specs.Nodes.{IsEmpty, KeepsCapacity, Emptied, HasSpare};
 ghost use Rattle.arrow_builders.specs.MutableArrays.{builder_type};
 ghost use Rattle.arrow_builders.specs.Shapes.{shape};
 ghost use Rattle.arrow_builders.specs.Tight.{IsTight};
 ghost use Rattle.avro_grammar.specs.Carried.{CarriedList};
 ghost use Rattle.avro_grammar.specs.ValidBlock.{kept};
-ghost use Rattle.avro_infer.specs.Columns.{AllTyped};
+ghost use Rattle.avro_grammar.specs.Types.{Fits};
 ghost use Rattle.avro_decode.specs.Columns.{kept_types};
 ghost use Rattle.avro_decode.specs.Masks.{BytesPayForAll};
 ghost use Rattle.avro_decode.specs.Suits.{AllSuit};
@@ -130,9 +131,10 @@ fn read_rows(
 ) -> Result<Counts, Error>
     requires lengths { length avro_fields.now ≡ length projection.now }
     requires carried { CarriedList avro_fields.now }
-    requires typed { AllTyped fields.now avro_fields.now }
+    requires fits { Fits fields.now avro_fields.now }
     requires data_types { map builder_type builders.old ≡ kept_types fields.now projection.now }
     requires suits { AllSuit (kept avro_fields.now projection.now) builders.old }
+    requires types_fit { All (λ b. TypesFit (shape b)) builders.old }
     requires tight { All IsTight builders.old }
     requires empty { AtNodes IsEmpty builders.old }
     ensures data_types { map builder_type builders.new ≡ map builder_type builders.old }
@@ -242,9 +244,10 @@ fn read_twice(
 ) -> Result<Counts, Error>
     requires lengths { length avro_fields.now ≡ length projection.now }
     requires carried { CarriedList avro_fields.now }
-    requires typed { AllTyped fields.now avro_fields.now }
+    requires fits { Fits fields.now avro_fields.now }
     requires data_types { map builder_type builders.old ≡ kept_types fields.now projection.now }
     requires suits { AllSuit (kept avro_fields.now projection.now) builders.old }
+    requires types_fit { All (λ b. TypesFit (shape b)) builders.old }
     requires tight { All IsTight builders.old }
     requires empty { AtNodes IsEmpty builders.old }
     requires capacity { AtNodes (HasSpare 7) builders.old }
@@ -266,9 +269,10 @@ fn read_reserved(
 ) -> Result<Counts, Error>
     requires lengths { length avro_fields.now ≡ length projection.now }
     requires carried { CarriedList avro_fields.now }
-    requires typed { AllTyped fields.now avro_fields.now }
+    requires fits { Fits fields.now avro_fields.now }
     requires data_types { map builder_type builders.old ≡ kept_types fields.now projection.now }
     requires suits { AllSuit (kept avro_fields.now projection.now) builders.old }
+    requires types_fit { All (λ b. TypesFit (shape b)) builders.old }
     requires tight { All IsTight builders.old }
     requires empty { AtNodes IsEmpty builders.old }
 {

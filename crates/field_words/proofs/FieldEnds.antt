@@ -16,7 +16,7 @@ use Rattle.field_words.specs.Names.{name_byte, IsName, IsSize}
 use Rattle.field_words.specs.Types.{IsPlain, IsSized, IsDecimal, AreSymbols, IsEnum, IsNamed, AreNamed, AreFields, IsRecord, IsList, IsBase, IsNullFirst, IsNullSecond, IsType}
 use Rattle.field_words.proofs.Bytes.{Lacks, name_lacks, digits_lack}
 
--- the scan comes out behind the text at the level at which it came in
+-- the scan comes out after the text at the level at which it came in
 abbrev pub Passed : ℕ → List ℕ → Type 0
 Passed level text = (rest : List ℕ) → field_length level (text ++ rest) ≡ length text + field_length level rest
 
@@ -180,7 +180,7 @@ pub type_passed : (depth : ℕ) (word : List ℕ) (s : Schema) → IsType depth 
 type_passed zero word s h = absurd h
 type_passed (suc depth) word s h = marked_passed (IsType depth) (type_passed depth) word s h
 
--- ---- where the scan ends: behind the text, or at a semicolon in it
+-- ---- where the scan ends: after the text, or at a semicolon in it
 
 abbrev pub Ends : ℕ → List ℕ → Type 0
 Ends level text = (field_length level text ≡ length text) ⊎ ((field_length level text < length text) × (get_or text (field_length level text) 0 ≡ 59))

@@ -9,7 +9,7 @@ head_or : ℕ → List ℕ → ℕ
 head_or d [] = d
 head_or d (x ∷ xs) = x
 
--- two texts cut at the same byte, behind as many bytes
+-- two texts cut at the same byte, after as many bytes
 same_cut : (c : ℕ) (front other back more : List ℕ) → length front ≡ length other → front ++ (c ∷ back) ≡ other ++ (c ∷ more) → (front ≡ other) × (back ≡ more)
 unfolding head_or
 same_cut c [] [] back more n e = (refl, ap (drop 1) e)
@@ -24,7 +24,7 @@ same_cut c (x ∷ xs) (y ∷ ys) back more n e =
 abbrev pub Whole : List ℕ → Type 0
 Whole text = field_length 0 text ≡ length text
 
--- the first field and what is behind its semicolon
+-- the first field and what follows its semicolon
 abbrev pub Split : List ℕ → List ℕ → List ℕ → Type 0
 Split text one back = (text ≡ one ++ (59 ∷ back)) × (length one ≡ field_length 0 text)
 
@@ -50,7 +50,7 @@ module _ (depth : ℕ) where
   field_first text one back f [] at named h = absurd h
   field_first text one back f (m ∷ ms) at named h = (one, back, named, at, h)
 
-  -- where the scan finds an end, a field is before it and fields are behind it
+  -- where the scan finds an end, a field is before it and fields are after it
   pub field_rest : (text one back : List ℕ) (all : List AvroField) → Split text one back → AreNamed (IsType depth) text all
       → ((f : AvroField) × IsNamed (IsType depth) one f) × ((more : List AvroField) × AreNamed (IsType depth) back more)
   field_rest text one back [] split h = absurd h

@@ -14,7 +14,7 @@ pub symbol_first : (text symbol back : List ℕ) (more : List (List ℕ)) → te
 symbol_first text symbol back [] at name h = absurd h
 symbol_first text symbol back (m ∷ ms) at name h = (back, name, at, h)
 
--- where a symbol ends at a comma, symbols are behind it
+-- where a symbol ends at a comma, symbols follow it
 pub symbol_rest : (text symbol back : List ℕ) (all : List (List ℕ)) → text ≡ symbol ++ (44 ∷ back) → Lacks 44 symbol → AreSymbols text all → IsName symbol × ((more : List (List ℕ)) × AreSymbols back more)
 symbol_rest text symbol back [] at lacks h = absurd h
 symbol_rest text symbol back (s ∷ []) at lacks h = absurd (holds 44 symbol back (subst (Lacks 44) (sym h.1 ∙ at) (name_has_no_comma s h.0)))

@@ -28,7 +28,8 @@ pub struct FieldWord {
 /// `Usage` exactly where the word names no field; `Memory` at any time.
 pub fn read_field(alloc: Global, word: &str) -> Result<FieldWord, WordsFault>
     ensures field { IfOk result (λ read. IsField word.now read.is_kept read.avro_field) }
-    ensures usage { result ≡ Err Usage → (is_kept : Bool) (field : TheField) → IsField word.now is_kept field → ⊥ }
+    ensures usage { result ≡ Err Usage
+        → (is_kept : Bool) (field : TheField) → IsField word.now is_kept field → ⊥ }
 {
     match word.strip_prefix('~') {
         Some(named) => Ok(FieldWord {

@@ -14,5 +14,6 @@ pub fn one_type()
 /// A word names one field at most.
 pub fn one_field()
     ensures { (word : List ℕ) (kept also_kept : Bool) (one other : TheField)
-        → IsField word kept one → IsField word also_kept other → (kept ≡ also_kept) × (one ≡ other) }
+        → IsField word kept one → IsField word also_kept other
+        → (kept ≡ also_kept) × (one ≡ other) }
 {}

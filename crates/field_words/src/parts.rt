@@ -7,8 +7,10 @@ ghost use Rattle.field_words.specs.FieldEnd.{field_length};
 pub fn inside_of(word: &str, opening: char, closing: char) -> Option<&str>
     requires opening { opening < 128 }
     requires closing { closing < 128 }
-    ensures inside { IfSome result (λ inside. word.now ≡ (opening ∷ []) ++ (inside.now ++ (closing ∷ []))) }
-    ensures none { result ≡ None → (inside : List ℕ) → word.now ≡ (opening ∷ []) ++ (inside ++ (closing ∷ [])) → ⊥ }
+    ensures inside { IfSome result
+        (λ inside. word.now ≡ (opening ∷ []) ++ (inside.now ++ (closing ∷ []))) }
+    ensures none { result ≡ None
+        → (inside : List ℕ) → word.now ≡ (opening ∷ []) ++ (inside ++ (closing ∷ [])) → ⊥ }
 {
     let Some(rest) = word.strip_prefix(opening) else {
         return None;

@@ -17,7 +17,8 @@ use std::alloc::Global;
 /// The type of `fixed(N)`, `decimal(P,S)` or `decimal(P,S,N)`, of its word without the last `)`.
 pub fn read_sized(alloc: Global, word: &str) -> Result<AvroSchema, WordsFault>
     ensures schema { IfOk result (IsSized (word.now ++ codes ")")) }
-    ensures usage { result ≡ Err Usage → (schema : Schema) → IsSized (word.now ++ codes ")") schema → ⊥ }
+    ensures usage { result ≡ Err Usage
+        → (schema : Schema) → IsSized (word.now ++ codes ")") schema → ⊥ }
 {
     let Some((kind, numbers)) = word.split_once('(') else {
         return Err(WordsFault::Usage);
@@ -56,9 +57,11 @@ fn read_decimal(alloc: Global, numbers: &str) -> Result<AvroSchema, WordsFault>
 
 /// A decimal over bytes.
 fn read_bytes_decimal(precision: &str, scale: &str) -> Result<AvroSchema, WordsFault>
-    ensures schema { IfOk result (λ schema. (p : ℕ) × (s : ℕ) × AreDigits precision.now scale.now p s
+    ensures schema { IfOk result
+        (λ schema. (p : ℕ) × (s : ℕ) × AreDigits precision.now scale.now p s
         × (schema ≡ Bytes (Some (bytes_logical.Decimal p s)))) }
-    ensures usage { result ≡ Err Usage → (p : ℕ) (s : ℕ) → AreDigits precision.now scale.now p s → ⊥ }
+    ensures usage { result ≡ Err Usage
+        → (p : ℕ) (s : ℕ) → AreDigits precision.now scale.now p s → ⊥ }
 {
     match read_digits(precision, scale) {
         Some((precision, scale)) => {
@@ -76,7 +79,8 @@ fn read_fixed_decimal(
     scale: &str,
     size: &str,
 ) -> Result<AvroSchema, WordsFault>
-    ensures schema { IfOk result (λ schema. (p : ℕ) × (s : ℕ) × (n : ℕ) × AreDigits precision.now scale.now p s
+    ensures schema { IfOk result
+        (λ schema. (p : ℕ) × (s : ℕ) × (n : ℕ) × AreDigits precision.now scale.now p s
         × IsSize size.now n × (schema ≡ fixed_of n (Some (fixed_logical.Decimal p s)))) }
     ensures usage { result ≡ Err Usage
         → (p : ℕ) (s : ℕ) (n : ℕ) → AreDigits precision.now scale.now p s → IsSize size.now n → ⊥ }

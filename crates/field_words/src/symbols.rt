@@ -14,7 +14,8 @@ use std::alloc::Global;
 /// The symbols of `NAME,NAME`.
 pub fn read_symbols(alloc: Global, inside: &str) -> Result<Vec<Text>, WordsFault>
     ensures symbols { IfOk result (λ symbols. AreSymbols inside.now symbols.items) }
-    ensures usage { result ≡ Err Usage → (symbols : List (List ℕ)) → AreSymbols inside.now symbols → ⊥ }
+    ensures usage { result ≡ Err Usage
+        → (symbols : List (List ℕ)) → AreSymbols inside.now symbols → ⊥ }
 {
     let mut symbols = Vec::new(alloc);
     let mut rest = inside;

@@ -41,7 +41,8 @@ pub fn read_type(alloc: Global, word: &str, depth: usize) -> Result<AvroSchema, 
 #[cycle(types)]
 fn read_base(alloc: Global, word: &str, depth: usize) -> Result<AvroSchema, WordsFault>
     ensures schema { IfOk result (IsBase (IsType depth) word.now) }
-    ensures usage { result ≡ Err Usage → (schema : Schema) → IsBase (IsType depth) word.now schema → ⊥ }
+    ensures usage { result ≡ Err Usage
+        → (schema : Schema) → IsBase (IsType depth) word.now schema → ⊥ }
 {
     if let Some(inside) = inside_of(word, '[', ']') {
         let item = read_type(alloc, inside, depth)?;
@@ -99,7 +100,8 @@ fn read_named_fields(
 #[cycle(types)]
 pub fn read_named(alloc: Global, word: &str, depth: usize) -> Result<AvroField, WordsFault>
     ensures field { IfOk result (IsNamed (IsType depth) word.now) }
-    ensures usage { result ≡ Err Usage → (field : TheField) → IsNamed (IsType depth) word.now field → ⊥ }
+    ensures usage { result ≡ Err Usage
+        → (field : TheField) → IsNamed (IsType depth) word.now field → ⊥ }
 {
     let Some((name, type_name)) = word.split_once('=') else {
         return Err(WordsFault::Usage);

@@ -1,16 +1,11 @@
 //! Blocks of files, read.
 
-use crate::files::{BLOCK, MARKER, cut, empty_block, failing, source};
+use crate::files::{BLOCK, MARKER, cut, empty_block, failing, is_block, source};
 use crate::samples::TWO_BLOCKS;
 use arrow_base::{Error, Reason, Result, Source};
 use avro_container::BlockReader;
-use avro_schema::Block;
 use std::alloc::Global;
 use std::process::Abort;
-
-fn is_block(block: &Block, rows: usize, bytes: &[u8]) -> bool {
-    block.number_of_rows == rows && block.bytes.as_slice() == bytes
-}
 
 /// The first answer of a reader, and the second.
 fn two<S: Source + Drop>(
@@ -79,6 +74,18 @@ fn each_fault_has_its_reason(rt: HostRuntime) {
     );
     assert!(rt; first(&rt, alloc, BLOCK, 20) == Ok(true));
     assert!(rt; first(&rt, alloc, BLOCK, 19) == Err(Error::LimitExceeded));
+}
+
+#[test]
+fn a_size_that_no_bytes_back_takes_no_memory(rt: HostRuntime) {
+    // Two to the power of 62, less one.
+    let answer = first(
+        &rt,
+        rt.alloc(),
+        b"\x02\xfe\xff\xff\xff\xff\xff\xff\xff\x7f",
+        100,
+    );
+    assert!(rt; answer == Err(Error::ExternalFormat(Reason::Container)));
 }
 
 #[test]

@@ -17,6 +17,13 @@ pub static HEADER: &[u8] =
 pub static BLOCK: &[u8] =
     b"\x04\x04\x02\x03\x01\x01\x01\x01\x01\x01\x01\x01\x01\x01\x01\x01\x01\x01\x01\x01";
 
+/// That header with the size of its entry, 79 bytes, and with a size of one byte less.
+pub static SIZED_HEADER: &[u8] =
+    b"Obj\x01\x01\x9e\x01\x16avro.schema\x82\x01{\"type\":\"record\",\"name\":\"t\",\"fields\":[{\"name\":\"a\",\"type\":\"int\"}]}\x00\x01\x01\x01\x01\x01\x01\x01\x01\x01\x01\x01\x01\x01\x01\x01\x01";
+
+pub static SHORT_HEADER: &[u8] =
+    b"Obj\x01\x01\x9c\x01\x16avro.schema\x82\x01{\"type\":\"record\",\"name\":\"t\",\"fields\":[{\"name\":\"a\",\"type\":\"int\"}]}\x00\x01\x01\x01\x01\x01\x01\x01\x01\x01\x01\x01\x01\x01\x01\x01\x01";
+
 pub static MARKER: [u8; 16] = [1; 16];
 
 /// A source of bytes that gives one byte a read.
@@ -41,4 +48,8 @@ pub fn empty_block(alloc: Global) -> Block {
         number_of_rows: 0,
         bytes: Bytes::new(alloc),
     }
+}
+
+pub fn is_block(block: &Block, rows: usize, bytes: &[u8]) -> bool {
+    block.number_of_rows == rows && block.bytes.as_slice() == bytes
 }

@@ -1,8 +1,8 @@
 //! Headers of files, read.
 
-use crate::files::{HEADER, MARKER, SCHEMA, cut, failing, source};
+use crate::files::{HEADER, MARKER, SCHEMA, source};
 use crate::samples::{DEFLATED, NO_BLOCKS, TWO_BLOCKS};
-use arrow_base::{Error, Reason, Source};
+use arrow_base::{Error, Reason};
 use avro_container::read_header;
 use std::alloc::Global;
 use std::process::Abort;
@@ -16,16 +16,12 @@ fn is_read(rt: &impl Abort, alloc: Global, bytes: &[u8], schema: &[u8], length: 
     }
 }
 
-/// The error that a source's header is refused with.
-fn refusal<S: Source + Drop>(alloc: Global, mut source: S, byte_limit: u64) -> Option<Error> {
-    match read_header(alloc, &mut source, byte_limit) {
+fn header_fault(rt: &impl Abort, alloc: Global, bytes: &[u8]) -> Option<Error> {
+    let mut source = source(rt, alloc, bytes);
+    match read_header(alloc, &mut source, 1000) {
         Ok(_) => None,
         Err(error) => Some(error),
     }
-}
-
-fn header_fault(rt: &impl Abort, alloc: Global, bytes: &[u8]) -> Option<Error> {
-    refusal(alloc, source(rt, alloc, bytes), 1000)
 }
 
 #[test]
@@ -35,31 +31,6 @@ fn a_header_is_read(rt: HostRuntime) {
     let mut source = source(&rt, alloc, HEADER);
     let (header, _) = read_header(alloc, &mut source, 101).expect(&rt, "a header");
     assert!(rt; header.marker.as_slice() == MARKER.as_slice());
-}
-
-#[test]
-fn a_header_that_is_cut_is_refused(rt: HostRuntime) {
-    for k in 0..101usize {
-        let reason = if k < 4 { Reason::Magic } else { Reason::Header };
-        let fault = header_fault(&rt, rt.alloc(), cut(HEADER, k));
-        assert!(rt; fault == Some(Error::ExternalFormat(reason)), "{k}");
-    }
-}
-
-#[test]
-fn each_failing_read_is_told(rt: HostRuntime) {
-    let alloc = rt.alloc();
-    for number in 1..102u64 {
-        let fault = refusal(alloc, failing(&rt, alloc, HEADER, number), 101);
-        assert!(rt; fault == Some(Error::ReadFault { line: None }), "{number}");
-    }
-    assert!(rt; refusal(alloc, failing(&rt, alloc, HEADER, 102), 101) == None);
-}
-
-#[test]
-fn the_limit_is_the_last_byte_that_may_be_taken(rt: HostRuntime) {
-    let source = source(&rt, rt.alloc(), HEADER);
-    assert!(rt; refusal(rt.alloc(), source, 100) == Some(Error::LimitExceeded));
 }
 
 #[test]
@@ -81,6 +52,13 @@ fn what_the_entries_say_counts(rt: HostRuntime) {
     assert!(rt; is_read(&rt, alloc, twice, b"b", 50));
     let none = header_fault(&rt, alloc, b"Obj\x01\x000123456789abcdef");
     assert!(rt; none == Some(Error::ExternalFormat(Reason::Header)));
+    // A key of two to the power of 62 bytes, less one.
+    let long = header_fault(
+        &rt,
+        alloc,
+        b"Obj\x01\x02\xfe\xff\xff\xff\xff\xff\xff\xff\x7f",
+    );
+    assert!(rt; long == Some(Error::ExternalFormat(Reason::Header)));
     let other = header_fault(&rt, alloc, b"Obj\x02");
     assert!(rt; other == Some(Error::ExternalFormat(Reason::Magic)));
 }

@@ -4,6 +4,8 @@
 #[cfg(test)]
 mod blocks;
 #[cfg(test)]
+mod cards;
+#[cfg(test)]
 mod files;
 #[cfg(test)]
 mod headers;

@@ -1,8 +1,8 @@
 //! The metadata of files, read and written.
 
-use crate::files::{BLOCK, HEADER, MARKER, cut, source};
+use crate::files::{BLOCK, HEADER, MARKER, SHORT_HEADER, SIZED_HEADER, cut, failing, source};
 use crate::samples::{DEFLATED, TWO_BLOCKS};
-use arrow_base::{Bytes, Error, Items, MemorySink, Reason};
+use arrow_base::{Bytes, Error, Items, MemorySink, Reason, Source};
 use avro_container::write_header;
 use avro_file::{Block, Record, read_metadata, write_block, write_metadata};
 use std::alloc::Global;
@@ -53,13 +53,60 @@ fn a_root_that_another_program_wrote_is_read(rt: HostRuntime) {
     assert!(rt; is_record(&metadata.root, "r", 3, "a"));
 }
 
-/// The error that a file's metadata is refused with.
-fn refusal(rt: &impl Abort, alloc: Global, file: &[u8]) -> Option<Error> {
-    let mut source = source(rt, alloc, file);
-    match read_metadata(alloc, &mut source, 1000) {
+/// The error that the metadata of a source is refused with.
+fn fault<S: Source + Drop>(alloc: Global, mut source: S, byte_limit: u64) -> Option<Error> {
+    match read_metadata(alloc, &mut source, byte_limit) {
         Ok(_) => None,
         Err(error) => Some(error),
     }
+}
+
+/// The error that a file's metadata is refused with.
+fn refusal(rt: &impl Abort, alloc: Global, file: &[u8]) -> Option<Error> {
+    fault(alloc, source(rt, alloc, file), 1000)
+}
+
+#[test]
+fn a_file_that_is_cut_in_its_header_is_refused(rt: HostRuntime) {
+    let mut file = Vec::new(rt.alloc());
+    file.extend_from_slice(HEADER).expect(&rt, "memory");
+    file.extend_from_slice(BLOCK).expect(&rt, "memory");
+    for k in 0..122usize {
+        let wanted = match k {
+            0..=3 => Some(Error::ExternalFormat(Reason::Magic)),
+            4..=100 => Some(Error::ExternalFormat(Reason::Header)),
+            _ => None,
+        };
+        assert!(rt; refusal(&rt, rt.alloc(), cut(&file, k)) == wanted, "{k}");
+    }
+}
+
+#[test]
+fn each_failing_read_is_told(rt: HostRuntime) {
+    let alloc = rt.alloc();
+    for number in 1..102u64 {
+        let fault = fault(alloc, failing(&rt, alloc, HEADER, number), 101);
+        assert!(rt; fault == Some(Error::ReadFault { line: None }), "{number}");
+    }
+    assert!(rt; fault(alloc, failing(&rt, alloc, HEADER, 102), 101) == None);
+}
+
+#[test]
+fn the_limit_is_the_last_byte_that_may_be_taken(rt: HostRuntime) {
+    let alloc = rt.alloc();
+    let limited = fault(alloc, source(&rt, alloc, HEADER), 100);
+    assert!(rt; limited == Some(Error::LimitExceeded));
+    assert!(rt; fault(alloc, source(&rt, alloc, HEADER), 101) == None);
+}
+
+#[test]
+fn a_stated_size_is_compared(rt: HostRuntime) {
+    let alloc = rt.alloc();
+    let mut source = source(&rt, alloc, SIZED_HEADER);
+    let (metadata, count) = read_metadata(alloc, &mut source, 103).expect(&rt, "metadata");
+    assert!(rt; count == 103 && is_record(&metadata.root, "t", 1, "a"));
+    let short = refusal(&rt, alloc, SHORT_HEADER);
+    assert!(rt; short == Some(Error::ExternalFormat(Reason::Header)));
 }
 
 /// The error that a file with this schema text is refused with.

@@ -3,7 +3,7 @@
 use crate::files::{BLOCK, HEADER, MARKER, SCHEMA};
 use arrow_base::{Bytes, Items, MemorySink};
 use avro_container::{write_block, write_header, zigzag_encode};
-use avro_schema::Block;
+use avro_schema::{Block, SliceCursor, zigzag_i64};
 use std::alloc::Global;
 use std::process::Abort;
 
@@ -37,4 +37,7 @@ fn numbers_have_their_shortest_encoding(rt: HostRuntime) {
     zigzag_encode(i64::MIN, &mut bytes).expect(&rt, "memory");
     let wanted = b"\x80\x01\xff\xff\xff\xff\xff\xff\xff\xff\xff\x01";
     assert!(rt; bytes.as_slice() == wanted.as_slice());
+    let mut cursor = SliceCursor::new(wanted.as_slice());
+    assert!(rt; zigzag_i64(&mut cursor) == Ok(64));
+    assert!(rt; zigzag_i64(&mut cursor) == Ok(i64::MIN));
 }

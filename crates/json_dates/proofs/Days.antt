@@ -1,9 +1,9 @@
 -- Days counted over years and months, the calendar of `jiff_core`, and the text of a day.
-use Rattle.std.proofs.Common.{◌≡◌, ℕ, zero, suc, inl, inr, ◌+◌, ◌-◌, ◌≤◌, ◌<◌, refl, ap, ◌∙◌, arith, rules, ℤ, pos, negsuc, neg_ℤ, ◌+ℤ◌, ◌<ℤ◌, ◌≤ℤ◌, unsigned_abs, IsTrue}
+use Rattle.std.proofs.Common.{◌≡◌, ℕ, zero, suc, inl, inr, ◌+◌, ◌-◌, ◌≤◌, ◌<◌, refl, sym, ap, ◌∙◌, arith, rules, ℤ, pos, negsuc, neg_ℤ, ◌+ℤ◌, ◌<ℤ◌, ◌≤ℤ◌, unsigned_abs, IsTrue}
 use Rattle.std.proofs.lemmas.Bool.Decides.{nat_tests}
 use Rattle.std.proofs.lemmas.Bool.{cases_lt}
 use Rattle.jiff_core.specs.Calendar.{days_of_months, day_count, days_from_civil, IsCivilDate}
-use Rattle.jiff_core.proofs.CalendarLemmas.{day_count-next_year, day_count-day_of_year, day_of_year_bound, days_from_civil-day_count, day_count-lt_year}
+use Rattle.jiff_core.proofs.CalendarLemmas.{days_of_months_all, day_count-next_year, day_count-day_of_year, day_of_year_bound, days_from_civil-day_count, day_count-lt_year}
 use Rattle.jiff_core.proofs.MarchLemmas.{day_count-early}
 use Rattle.jiff_core.proofs.SignedLemmas.{signed_arith, one_part}
 use Rattle.json_dates.specs.Civil.{year_length, month_length, year_month_day, count_months, count_years, is_printed_day, date_text}
@@ -47,7 +47,7 @@ pub before_month-next : (y m : ℕ) → before_month y (m + 1) ≡ before_month 
 unfolding before_month
 before_month-next y m = let e : m + 1 ≡ suc m = omega arith in rw e refl
 
-before_month-add : (y m k : ℕ) → before_month y m ≤ before_month y (k + m)
+pub before_month-add : (y m k : ℕ) → before_month y m ≤ before_month y (k + m)
 before_month-add y m zero = let e : 0 + m ≡ m = omega arith in rw e (omega arith)
 before_month-add y m (suc k) =
     let e : suc k + m ≡ k + m + 1 = omega arith in
@@ -119,6 +119,9 @@ pub months : (y n : ℕ) → days_of_months (pos y) n ≡ before_month y n
 unfolding before_month days_of_months
 months y zero = refl
 months y (suc n) = ap (λ (k : ℕ). k + month_length y (suc n)) (months y n)
+
+pub before_month-all : (y : ℕ) → before_month y 12 ≡ year_length y
+before_month-all y = sym (months y 12) ∙ days_of_months_all (pos y)
 
 pub count : (y m d : ℕ) → 1 ≤ d → day_count (pos y) m d ≡ before_year y + before_month y (m - 1) + (d - 1) + 3652425
 count y m d h = omega (arith, day_count-day_of_year (pos y) m d h, months y (m - 1), count-year y)

@@ -28,6 +28,13 @@ abbrev pub year_month_day : ℕ → ℕ → ℕ → List ℕ
 year_month_day year month day =
     two_digits (year / 100) ++ two_digits year ++ 45 ∷ two_digits month ++ 45 ∷ two_digits day
 
+-- the date after this one: the next day of the month, or the first of the next month, or of the next year
+abbrev pub next_date_text : ℕ → ℕ → ℕ → List ℕ
+next_date_text year month day =
+    if nat_lt day (month_length year month) then year_month_day year month (day + 1)
+    else if nat_lt month 12 then year_month_day year (month + 1) 1
+    else year_month_day (year + 1) 1 1
+
 -- The day that comes so many days after the first of this month: it lies in this month, or is counted on from the first of the next. `more` bounds how many months are looked at.
 unfoldable pub count_months : ℕ → ℕ → ℕ → ℕ → List ℕ
 count_months zero year month days = []

@@ -15,7 +15,7 @@ quoted text = 34 ∷ (text ++ 34 ∷ [])
 unfoldable pub date_json : ℤ → List ℕ
 date_json day = if is_printed_day day then quoted (date_text day) else codes "null"
 
--- the day on which so many milliseconds after 1970 have passed; `int_div_euclid` rounds down
+-- the day in which the moment lies that is so many milliseconds after 1970-01-01 00:00:00; `int_div_euclid` rounds down
 unfoldable pub day_of_milliseconds : ℤ → ℤ
 day_of_milliseconds value = int_div_euclid value (pos 86400000)
 

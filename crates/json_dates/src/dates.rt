@@ -23,7 +23,8 @@ pub fn is_printed_day(day: i64) -> bool
     FIRST_DAY <= day && day <= LAST_DAY
 }
 
-/// The day, counted from 1970-01-01, of so many milliseconds since its begin.
+/// The day, counted from 1970-01-01, in which the moment lies that is so many milliseconds after
+/// 1970-01-01 00:00:00, or before it where they are negative.
 #[inline]
 #[tactic(auto, unfolding(crate::specs::Times::day_of_milliseconds))]
 pub fn day_of_milliseconds(value: i64) -> i64

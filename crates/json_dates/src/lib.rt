@@ -1,4 +1,5 @@
-//! The JSON text of dates and timestamps, in the forms of RFC 3339, section 5.6.
+//! The JSON text of dates and timestamps: `full-date` of RFC 3339, section 5.6, and with an offset
+//! `date-time` of that section; without an offset the date, a space and the time of day.
 #![tactic(auto)]
 
 mod dates;

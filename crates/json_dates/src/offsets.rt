@@ -2,9 +2,10 @@
 ghost use Rattle.std.specs.Prelude.{◌≡◌, ◌<◌, pos, option_map, IfSome};
 ghost use Rattle.json_dates.specs.Times.{offset_of, clock_minutes, number_below};
 
-/// The minutes east of UTC that the text of a zone names: none for `UTC`, or those of `HH:MM` with
-/// or without `+` or `-` before it, hours from 00 to 23 and minutes from 00 to 59
-/// (`time-numoffset` of RFC 3339, section 5.6). `None` for any other text, as the name of a zone.
+/// The minutes east of UTC that the text of a zone names: 0 for `UTC`, or those of `HH:MM` with or
+/// without `+` or `-` before it, hours from 00 to 23 and minutes from 00 to 59 (`time-numoffset` of
+/// RFC 3339, section 5.6, whose sign may be missing here). `None` for any other text, as the name
+/// of a zone.
 #[tactic(auto, unfolding(crate::specs::Times::offset_of))]
 pub fn parse_offset(zone: &str) -> Option<i16>
     ensures { result ≡ offset_of zone.now }

@@ -25,12 +25,12 @@ pub fn is_printed_timestamp(unit: TimeUnit, offset: Option<i16>, value: i64) -> 
 /// Appends the JSON text of a timestamp, or `null` where it isn't printed. `value` counts units
 /// from 1970-01-01 00:00:00 UTC.
 ///
-/// With an offset, in minutes east of UTC, the text is `date-time` of RFC 3339, section 5.6, on the
-/// clock of that offset: `"YYYY-MM-DDTHH:MM:SS"`, a fraction, sign and `HH:MM`. With none, it is
-/// `"YYYY-MM-DD HH:MM:SS"` and a fraction. A fraction has the least of 3, 6 or 9 digits that is
-/// exact, and stands only where it isn't zero. An offset is less than a day, as
-/// [`parse_offset`](crate::parse_offset) gives it; of the hours of a greater one the last two
-/// digits are printed. `OutOfMemory` at any time; nothing was appended then.
+/// Between quotation marks stand, with an offset in minutes east of UTC, `YYYY-MM-DDTHH:MM:SS` on
+/// the clock of that offset, a fraction, and the offset as sign and `HH:MM` (`date-time` of
+/// RFC 3339, section 5.6); without one, `YYYY-MM-DD HH:MM:SS` and a fraction. A fraction has the
+/// least of 3, 6 or 9 digits that is exact, and stands only where it isn't zero. An offset is less
+/// than a day, as [`parse_offset`](crate::parse_offset) gives it; of the hours of a greater one the
+/// last two digits are printed. `OutOfMemory` at any time; nothing was appended then.
 #[tactic(auto, unfolding(crate::specs::Times::is_printed_timestamp, crate::specs::Times::timestamp_json))]
 pub fn push_timestamp(
     out: &mut Vec<u8>,

@@ -1,6 +1,6 @@
 //! Which arrays have no JSON text, and why.
 
-use crate::samples::{days, hidden_day, longs, numbers, timestamp};
+use crate::samples::{days, hidden_day, list_of_days, longs, numbers, timestamp};
 use arrow_columns::Array;
 use arrow_core::{Error, Reason, Result};
 use arrow_types::{DataType, TimeUnit};
@@ -34,4 +34,12 @@ fn a_date_that_is_shown_has_four_digits_of_year(rt: HostRuntime) {
     assert!(rt; outcome(days(&rt, alloc, 2932897)) == refused);
     assert!(rt; outcome(days(&rt, alloc, 2932896)) == Ok(()));
     assert!(rt; outcome(hidden_day(&rt, alloc)) == Ok(()));
+}
+
+#[test]
+fn dates_of_a_list_are_those_between_its_offsets(rt: HostRuntime) {
+    let alloc = rt.alloc();
+    let refused = Err(Error::InvalidArgumentError(Reason::DateRange));
+    assert!(rt; outcome(list_of_days(&rt, alloc, &[0, 2])) == refused);
+    assert!(rt; outcome(list_of_days(&rt, alloc, &[1, 2])) == Ok(()));
 }

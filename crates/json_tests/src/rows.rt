@@ -41,7 +41,7 @@ fn rows_are_written_as_an_array(rt: HostRuntime) {
     let none = Items::from_vec(Vec::new(alloc));
     let mut sink = MemorySink::with_room(alloc, 64, 3, none).expect(&rt, "memory");
     assert!(rt; write(&mut sink, rows(&rt, alloc, &chunk)) == Ok(()));
-    assert!(rt; sink.held() == b"[{\"a\\\"\":true},{\"a\\\"\":null}]".as_slice());
+    assert!(rt; sink.held() == b"[{\"a\\\"\":true},{\"a\\\"\":null},{\"a\\\"\":false}]".as_slice());
 }
 
 /// Why the array makes no rows, if it makes none.
@@ -65,13 +65,29 @@ fn an_array_without_a_text_makes_no_rows(rt: HostRuntime) {
     assert!(rt; outcome(&rt, alloc, days(&rt, alloc, 2932897)) == refused);
 }
 
+/// Why no array under one field, or one array under none, makes no rows.
+fn unequal(rt: &impl Abort, alloc: Global, arrays: usize) -> Result<()> {
+    let (chunk, schema) = if arrays == 0 {
+        let chunk = Chunk::try_new(Vec::new(alloc)).expect(rt, "no arrays");
+        (chunk, schema(rt, alloc, "a"))
+    } else {
+        let fields = Items::from_vec(Vec::new(alloc));
+        let metadata = Metadata::new(alloc);
+        (
+            chunk(rt, alloc, longs(rt, alloc, &[1])),
+            Schema { fields, metadata },
+        )
+    };
+    match RecordSerializer::new(alloc, schema, &chunk, Vec::new(alloc)) {
+        Ok(_) => Ok(()),
+        Err(error) => Err(error),
+    }
+}
+
 #[test]
 fn fields_are_as_many_as_arrays(rt: HostRuntime) {
     let alloc = rt.alloc();
-    let chunk = Chunk::try_new(Vec::new(alloc)).expect(&rt, "no arrays");
-    let made = RecordSerializer::new(alloc, schema(&rt, alloc, "a"), &chunk, Vec::new(alloc));
-    match made {
-        Ok(_) => assert!(rt; false),
-        Err(error) => assert!(rt; error == Error::InvalidArgumentError(Reason::Lengths)),
-    }
+    let refused = Err(Error::InvalidArgumentError(Reason::Lengths));
+    assert!(rt; unequal(&rt, alloc, 0) == refused);
+    assert!(rt; unequal(&rt, alloc, 1) == refused);
 }

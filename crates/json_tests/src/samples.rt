@@ -22,7 +22,7 @@ pub fn slot_is(rt: &impl Abort, alloc: Global, array: Array, i: usize, text: &st
     out.as_slice() == text.as_bytes()
 }
 
-/// A bitmap that says so of two slots.
+/// A bitmap that says so of each slot.
 pub fn bitmap(rt: &impl Abort, alloc: Global, valid: &[bool]) -> Bitmap {
     Bitmap::try_from_slice(alloc, valid).expect(rt, "memory")
 }
@@ -31,10 +31,10 @@ pub fn nulls(rt: &impl Abort, alloc: Global) -> Array {
     Array::Null(NullArray::try_new(alloc, DataType::Null, 1).expect(rt, "nulls"))
 }
 
-/// True, and a null over true.
+/// True, a null over true, and false.
 pub fn booleans(rt: &impl Abort, alloc: Global) -> Array {
-    let values = copied(rt, alloc, &[true, true]);
-    let validity = Some(bitmap(rt, alloc, &[true, false]));
+    let values = copied(rt, alloc, &[true, true, false]);
+    let validity = Some(bitmap(rt, alloc, &[true, false, true]));
     let array = BooleanArray::try_new(alloc, DataType::Boolean, values, validity);
     Array::Boolean(array.expect(rt, "booleans"))
 }
@@ -84,6 +84,14 @@ pub fn string(rt: &impl Abort, alloc: Global, value: &str) -> Array {
     Array::LargeUtf8(array.expect(rt, "a string"))
 }
 
+/// The one string `x`, with offsets of 32 bits.
+pub fn short_string(rt: &impl Abort, alloc: Global) -> Array {
+    let values = copied(rt, alloc, b"x");
+    let offsets = copied(rt, alloc, &[0i32, 1]);
+    let array = Utf8Array::try_new(alloc, DataType::Utf8, offsets, values, None);
+    Array::Utf8(array.expect(rt, "a string"))
+}
+
 pub fn field(rt: &impl Abort, alloc: Global, name: &str, data_type: DataType) -> Field {
     let name = Text::try_from_str(alloc, name).expect(rt, "memory");
     Field::new(alloc, name, data_type, true)
@@ -91,6 +99,16 @@ pub fn field(rt: &impl Abort, alloc: Global, name: &str, data_type: DataType) ->
 
 fn item(rt: &impl Abort, alloc: Global) -> Box<Field> {
     Box::new(alloc, field(rt, alloc, "item", DataType::Int64)).expect(rt, "memory")
+}
+
+/// The list between these offsets into a day of the year 10000 and 1970-01-01.
+pub fn list_of_days(rt: &impl Abort, alloc: Global, offsets: &[i32]) -> Array {
+    let item = Box::new(alloc, field(rt, alloc, "item", DataType::Date32));
+    let data_type = DataType::List(item.expect(rt, "memory"));
+    let offsets = copied(rt, alloc, offsets);
+    let values = Array::Int32(numbers(rt, alloc, DataType::Date32, &[2932897i32, 0]));
+    let array = ListArray::try_new(alloc, data_type, offsets, values, None);
+    Array::List(array.expect(rt, "a list"))
 }
 
 /// The lists between these offsets into 1, 2, 3; the second is null.

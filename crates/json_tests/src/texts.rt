@@ -3,7 +3,7 @@
 
 use crate::samples::{
     booleans, days, dictionary, large_list, list_with_a_null, lists, longs, nulls, numbers, pairs,
-    slot_is, string, structs, timestamp,
+    short_string, slot_is, string, structs, timestamp,
 };
 use arrow_columns::Array;
 use arrow_types::DataType;
@@ -14,6 +14,7 @@ fn nulls_and_booleans_are_words(rt: HostRuntime) {
     assert!(rt; slot_is(&rt, alloc, nulls(&rt, alloc), 0, "null"));
     assert!(rt; slot_is(&rt, alloc, booleans(&rt, alloc), 0, "true"));
     assert!(rt; slot_is(&rt, alloc, booleans(&rt, alloc), 1, "null"));
+    assert!(rt; slot_is(&rt, alloc, booleans(&rt, alloc), 2, "false"));
 }
 
 #[test]
@@ -46,6 +47,7 @@ fn unsigned_integers_are_decimal(rt: HostRuntime) {
 fn strings_are_escaped(rt: HostRuntime) {
     let alloc = rt.alloc();
     assert!(rt; slot_is(&rt, alloc, string(&rt, alloc, "plain"), 0, "\"plain\""));
+    assert!(rt; slot_is(&rt, alloc, short_string(&rt, alloc), 0, "\"x\""));
     let array = string(
         &rt,
         alloc,
@@ -94,6 +96,8 @@ fn dates_and_timestamps_are_strings(rt: HostRuntime) {
     assert!(rt; slot_is(&rt, alloc, array, 0, "\"1969-12-31\""));
     let array = timestamp(&rt, alloc, "", 1500000);
     assert!(rt; slot_is(&rt, alloc, array, 0, "\"1970-01-01 00:00:01.500\""));
-    let array = timestamp(&rt, alloc, "+05:30", 0);
+    let array = timestamp(&rt, alloc, "05:30", 0);
     assert!(rt; slot_is(&rt, alloc, array, 0, "\"1970-01-01T05:30:00+05:30\""));
+    let array = timestamp(&rt, alloc, "UTC", -1);
+    assert!(rt; slot_is(&rt, alloc, array, 0, "\"1969-12-31T23:59:59.999999+00:00\""));
 }

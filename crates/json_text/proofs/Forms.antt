@@ -1,7 +1,6 @@
 -- How slots of each type are written.
 use Rattle.std.proofs.Common.{◌≡◌, ◌++◌, ℕ, Bool, true, false, ℤ, List, [], ◌∷◌, map, refl, sym, ap, ◌∙◌, if◌then◌else◌, IsTrue, Result, Ok, Err, OnOk}
 use Rattle.std.specs.Fmt.{signed_decimal}
-use Rattle.arrow_core.specs.declared.error.Error.{Error}
 use Rattle.arrow_types.specs.declared.slot.Slot.{Slot, Null, Boolean, Integer, String, Binary, List', Struct', items_hidden-the_row-Slot-0}
 use Rattle.arrow_types.specs.declared.slot.Slot.TheVariants as slot
 use Rattle.arrow_types.specs.declared.types.DataType.{DataType}
@@ -17,7 +16,7 @@ use Rattle.arrow_array.specs.Lists.{list_type, IsListOf}
 use Rattle.arrow_array.specs.Dictionaries.{IsDictionaryOf}
 use Rattle.arrow_array.specs.Parts.{IsPlain}
 use Rattle.arrow_array.specs.Slots.{is_held}
-use Rattle.json_text.specs.JsonText.{Form, form, text, slot_text, null, of_integers, of_lists, member_texts, members, member, array, object}
+use Rattle.json_text.specs.JsonText.{Form, form, text, slot_text, null, of_integers, of_lists, member_texts, field_members, member, array, object}
 
 -- a slot that is null or holds this
 pub if_held : (t : DataType) (x y : Slot) (v : Bool) (held : List ℕ) → v ≡ is_held x → (IsTrue (is_held x) → x ≡ y) → held ≡ text t y → (if v then held else null) ≡ text t x
@@ -30,7 +29,7 @@ if_held t (List' m row) y v held e h k = rw e (k ∙ ap (text t) (sym (h refl)))
 if_held t (Struct' m row) y v held e h k = rw e (k ∙ ap (text t) (sym (h refl)))
 
 -- the same, after it was appended
-pub appended : {A : Type 0} (r : Result A Error) (old new : List ℕ) (t : DataType) (x y : Slot) (v : Bool) (held : List ℕ)
+pub appended : {A E : Type 0} (r : Result A E) (old new : List ℕ) (t : DataType) (x y : Slot) (v : Bool) (held : List ℕ)
     → v ≡ is_held x → (IsTrue (is_held x) → x ≡ y) → held ≡ text t y → OnOk r (new ≡ old ++ (if v then held else null)) → OnOk r (new ≡ old ++ text t x)
 appended (Ok a) old new t x y v held e h k d = d ∙ ap (λ z. old ++ z) (if_held t x y v held e h k)
 appended (Err b) old new t x y v held e h k d = tt
@@ -45,7 +44,7 @@ if_null t (Binary s) y h k = k ∙ ap (text t) (sym (h refl))
 if_null t (List' m row) y h k = k ∙ ap (text t) (sym (h refl))
 if_null t (Struct' m row) y h k = k ∙ ap (text t) (sym (h refl))
 
-pub appended_null : {A : Type 0} (r : Result A Error) (old new : List ℕ) (t : DataType) (x y : Slot)
+pub appended_null : {A E : Type 0} (r : Result A E) (old new : List ℕ) (t : DataType) (x y : Slot)
     → (IsTrue (is_held x) → x ≡ y) → null ≡ text t y → OnOk r (new ≡ old ++ null) → OnOk r (new ≡ old ++ text t x)
 appended_null (Ok a) old new t x y h k d = d ∙ ap (λ z. old ++ z) (if_null t x y h k)
 appended_null (Err b) old new t x y h k d = tt
@@ -69,14 +68,14 @@ dictionary_form : (key : IntegerType) (value : DataType) (b : Bool) → form (ty
 unfolding shape-the_row-DataType-2 hidden-the_row-DataType-2 denote.Hole.Carrier.hidden
 dictionary_form key value b = refl
 
-member_row : (fs : List Field) (xs : List Slot) → member_texts (hidden-the_row-Field-1 fs) xs ≡ members fs xs
+member_row : (fs : List Field) (xs : List Slot) → member_texts (hidden-the_row-Field-1 fs) xs ≡ field_members fs xs
 unfolding shape-the_row-Field-1 hidden-the_row-Field-1 denote.Hole.Carrier.hidden
 member_row [] [] = refl
 member_row [] (x ∷ xs) = refl
 member_row (f ∷ fs) [] = refl
 member_row (f ∷ fs) (x ∷ xs) = ap (λ z. member f.name (text f.data_type x) ∷ z) (member_row fs xs)
 
-struct_members : (fs : List Field) (xs : List Slot) → (form (types.Struct fs)).struct xs ≡ object (members fs xs)
+struct_members : (fs : List Field) (xs : List Slot) → (form (types.Struct fs)).struct xs ≡ object (field_members fs xs)
 unfolding shape-the_row-Field-1 hidden-the_row-Field-1 denote.Hole.Carrier.hidden
 struct_members fs xs = ap object (member_row fs xs)
 
@@ -90,7 +89,7 @@ fixed_list_is t item xs h =
     sym (in_list (form t) xs ∙ ap (λ w. w.list xs) (ap form h.1 ∙ fixed_form h.0 (list_size t)) ∙ ap (λ u. array (map (text u) xs)) h.2)
 
 -- the text of a struct
-pub struct_is : (t : DataType) (fs : List Field) (xs : List Slot) → t ≡ types.Struct fs → object (members fs xs) ≡ text t (slot.Struct xs)
+pub struct_is : (t : DataType) (fs : List Field) (xs : List Slot) → t ≡ types.Struct fs → object (field_members fs xs) ≡ text t (slot.Struct xs)
 struct_is t fs xs e = sym (in_struct (form t) xs ∙ ap (λ u. (form u).struct xs) e ∙ struct_members fs xs)
 
 -- the text of a dictionary's value

@@ -12,7 +12,7 @@ use Rattle.arrow_types.specs.declared.types.DataType.{DataType, out-DataType}
 use Rattle.arrow_types.specs.declared.types.DataType.TheOpen as open_type
 use Rattle.arrow_types.specs.declared.types.DataType.TheVariants as types
 use Rattle.arrow_types.specs.declared.types.DataType.TheViews.{outs-Struct}
-use Rattle.json_text.specs.JsonText.{text, members, member}
+use Rattle.json_text.specs.JsonText.{text, field_members, member}
 use Rattle.json_text.specs.Refusals.{in_range, all_in_range}
 use Rattle.std.proofs.Math.Seq.{take-length}
 
@@ -33,14 +33,14 @@ child_at n (g ∷ fs) [] k f c h l d e = absurd h
 child_at n (g ∷ fs) (b ∷ cs) zero f c h l d e = (ap (λ (z : Field). z.data_type) d ∙ h.0.0 ∙ ap array_type (sym e), ap (λ z. length (array_slots z)) e ∙ h.0.1)
 child_at n (g ∷ fs) (b ∷ cs) (suc k) f c h l d e = child_at n fs cs k f c h.1 (omega (arith, l)) d e
 
-pub members_length : (n : ℕ) (fs : List Field) (cs : List Array) (i : ℕ) → AreChildren n fs cs → length (members fs (fields_at cs i)) ≡ length cs
+pub members_length : (n : ℕ) (fs : List Field) (cs : List Array) (i : ℕ) → AreChildren n fs cs → length (field_members fs (fields_at cs i)) ≡ length cs
 members_length n [] [] i h = refl
 members_length n [] (c ∷ cs) i h = absurd h
 members_length n (f ∷ fs) [] i h = absurd h
 members_length n (f ∷ fs) (c ∷ cs) i h = ap suc (members_length n fs cs i h.1)
 
 pub member_at : (n : ℕ) (fs : List Field) (cs : List Array) (i k : ℕ) (f : Field) (c : Array) → AreChildren n fs cs → k < length cs → f ≡ get_or fs k f → c ≡ get_or cs k c
-    → get_or (members fs (fields_at cs i)) k [] ≡ member f.name (text (array_type c) (slot_at (array_slots c) i))
+    → get_or (field_members fs (fields_at cs i)) k [] ≡ member f.name (text (array_type c) (slot_at (array_slots c) i))
 member_at n [] [] i k f c h l d e = absurd (omega (arith, l))
 member_at n [] (b ∷ cs) i k f c h l d e = absurd h
 member_at n (g ∷ fs) [] i k f c h l d e = absurd h

@@ -90,11 +90,11 @@ abbrev mutual
   value_form end_of-DataType = of_integers signed_decimal
   value_form (more_of-DataType t rest) = form t
 
--- the JSON text of a slot of a type
+-- the JSON text of a slot of a type that has one
 abbrev pub text : DataType → Slot → List ℕ
 text data_type = slot_text (form data_type)
 
 -- the members of the fields, in order
-abbrev pub members : List Field → List Slot → List (List ℕ)
-members (field ∷ fields) (slot ∷ slots) = member field.name (text field.data_type slot) ∷ members fields slots
-members _ _ = []
+abbrev pub field_members : List Field → List Slot → List (List ℕ)
+field_members (field ∷ fields) (slot ∷ slots) = member field.name (text field.data_type slot) ∷ field_members fields slots
+field_members _ _ = []

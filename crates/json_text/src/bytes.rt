@@ -1,22 +1,24 @@
 //! Text that grows in memory.
-ghost use Rattle.std.specs.Prelude.{◌≡◌, ◌++◌, ◌==◌, [], pos, codes, flat_map, OnOk, IfErr, if◌then◌else◌};
+ghost use Rattle.std.specs.Prelude.{◌≡◌, ◌++◌, ◌==◌, [], pos, codes, flat_map, OnOk, if◌then◌else◌};
 ghost use Rattle.std.specs.Bool.{OnFalse};
 ghost use Rattle.std.specs.Fmt.{signed_decimal};
-ghost use Rattle.arrow_core.specs.declared.error.Error.TheVariants.{OutOfMemory};
 ghost use Rattle.arrow_base.specs.WrittenString.{escaped, json_string};
 ghost use Rattle.json_text.specs.JsonText.{null};
 
 use arrow_base::utf8::write_str;
-use arrow_core::{Error, Result};
 use itoa::{Buffer, Integer};
+use std::alloc::AllocError;
+
+/// What appending a text answers: nothing, or that there is no memory. The wider error of calls
+/// would go through memory at each value.
+pub type Appended = std::result::Result<(), AllocError>;
 
 /// Appends the bytes.
 ///
-/// `OutOfMemory` alone.
+/// `AllocError` where there is no memory.
 #[inline]
-pub fn push(out: &mut Vec<u8>, bytes: &[u8]) -> Result<()>
+pub fn push(out: &mut Vec<u8>, bytes: &[u8]) -> Appended
     ensures ok { OnOk result (out.new.items ≡ out.old.items ++ bytes.now) }
-    ensures memory { IfErr result (λ e. e ≡ OutOfMemory) }
 {
     out.extend_from_slice(bytes)?;
     Ok(())
@@ -24,12 +26,11 @@ pub fn push(out: &mut Vec<u8>, bytes: &[u8]) -> Result<()>
 
 /// Appends a comma before each item but the first.
 ///
-/// `OutOfMemory` alone.
+/// `AllocError` where there is no memory.
 #[inline]
-pub fn push_comma(out: &mut Vec<u8>, index: usize) -> Result<()>
+pub fn push_comma(out: &mut Vec<u8>, index: usize) -> Appended
     ensures ok { OnOk result
         (out.new.items ≡ out.old.items ++ (if index == 0 then [] else codes ",")) }
-    ensures memory { IfErr result (λ e. e ≡ OutOfMemory) }
 {
     if index == 0 {
         return Ok(());
@@ -51,11 +52,10 @@ fn has_escape(string: &[u8]) -> bool
 
 /// Appends the JSON string of a string (RFC 8259, section 7).
 ///
-/// `OutOfMemory` alone.
+/// `AllocError` where there is no memory.
 #[inline]
-pub fn push_string(out: &mut Vec<u8>, string: &str) -> Result<()>
+pub fn push_string(out: &mut Vec<u8>, string: &str) -> Appended
     ensures ok { OnOk result (out.new.items ≡ out.old.items ++ json_string string.now) }
-    ensures memory { IfErr result (λ e. e ≡ OutOfMemory) }
 {
     if has_escape(string.as_bytes()) {
         return push_escaped(out, string);
@@ -66,30 +66,27 @@ pub fn push_string(out: &mut Vec<u8>, string: &str) -> Result<()>
     Ok(())
 }
 
-fn push_escaped(out: &mut Vec<u8>, string: &str) -> Result<()>
+fn push_escaped(out: &mut Vec<u8>, string: &str) -> Appended
     ensures ok { OnOk result (out.new.items ≡ out.old.items ++ json_string string.now) }
-    ensures memory { IfErr result (λ e. e ≡ OutOfMemory) }
 {
     match write_str(out, string) {
         Ok(()) => Ok(()),
-        Err(_) => Err(Error::OutOfMemory),
+        Err(_) => Err(AllocError),
     }
 }
 
 #[inline]
-pub(crate) fn push_null(out: &mut Vec<u8>) -> Result<()>
+pub(crate) fn push_null(out: &mut Vec<u8>) -> Appended
     ensures ok { OnOk result (out.new.items ≡ out.old.items ++ null) }
-    ensures memory { IfErr result (λ e. e ≡ OutOfMemory) }
 {
     push(out, b"null")
 }
 
 /// Appends the JSON string, or `null` where there is none.
 #[inline]
-pub(crate) fn push_string_if(out: &mut Vec<u8>, is_valid: bool, string: &str) -> Result<()>
+pub(crate) fn push_string_if(out: &mut Vec<u8>, is_valid: bool, string: &str) -> Appended
     ensures ok { OnOk result
         (out.new.items ≡ out.old.items ++ (if is_valid then json_string string.now else null)) }
-    ensures memory { IfErr result (λ e. e ≡ OutOfMemory) }
 {
     if is_valid {
         push_string(out, string)
@@ -100,10 +97,9 @@ pub(crate) fn push_string_if(out: &mut Vec<u8>, is_valid: bool, string: &str) ->
 
 /// Appends an integer in decimal, or `null` where there is none.
 #[inline]
-fn push_integer_if<I: Integer>(out: &mut Vec<u8>, is_valid: bool, integer: I) -> Result<()>
+fn push_integer_if<I: Integer>(out: &mut Vec<u8>, is_valid: bool, integer: I) -> Appended
     ensures ok { OnOk result
         (out.new.items ≡ out.old.items ++ (if is_valid then I.text integer else null)) }
-    ensures memory { IfErr result (λ e. e ≡ OutOfMemory) }
 {
     if is_valid {
         push(out, Buffer::new().format(integer).as_bytes())
@@ -112,44 +108,40 @@ fn push_integer_if<I: Integer>(out: &mut Vec<u8>, is_valid: bool, integer: I) ->
     }
 }
 
-/// The same of a signed integer.
+/// The same for a signed integer.
 #[inline]
-pub(crate) fn push_signed_if(out: &mut Vec<u8>, is_valid: bool, integer: i64) -> Result<()>
+pub(crate) fn push_signed_if(out: &mut Vec<u8>, is_valid: bool, integer: i64) -> Appended
     ensures ok { OnOk result
         (out.new.items ≡ out.old.items ++ (if is_valid then signed_decimal integer else null)) }
-    ensures memory { IfErr result (λ e. e ≡ OutOfMemory) }
 {
     push_integer_if(out, is_valid, integer)
 }
 
-/// The same of an unsigned integer.
+/// The same for an unsigned integer.
 #[inline]
-pub(crate) fn push_unsigned_if(out: &mut Vec<u8>, is_valid: bool, integer: u64) -> Result<()>
+pub(crate) fn push_unsigned_if(out: &mut Vec<u8>, is_valid: bool, integer: u64) -> Appended
     ensures ok { OnOk result
         (out.new.items ≡ out.old.items ++ (if is_valid then signed_decimal (pos integer) else null)) }
-    ensures memory { IfErr result (λ e. e ≡ OutOfMemory) }
 {
     push_integer_if(out, is_valid, integer)
 }
 
-/// The same of an integer of 128 bits.
+/// The same for an integer of 128 bits.
 #[inline]
-pub(crate) fn push_wide_if(out: &mut Vec<u8>, is_valid: bool, integer: i128) -> Result<()>
+pub(crate) fn push_wide_if(out: &mut Vec<u8>, is_valid: bool, integer: i128) -> Appended
     ensures ok { OnOk result
         (out.new.items ≡ out.old.items ++ (if is_valid then signed_decimal integer else null)) }
-    ensures memory { IfErr result (λ e. e ≡ OutOfMemory) }
 {
     push_integer_if(out, is_valid, integer)
 }
 
 /// Appends a boolean, or `null` where there is none.
 #[inline]
-pub(crate) fn push_boolean_if(out: &mut Vec<u8>, is_valid: bool, boolean: bool) -> Result<()>
+pub(crate) fn push_boolean_if(out: &mut Vec<u8>, is_valid: bool, boolean: bool) -> Appended
     ensures ok { OnOk result
         (out.new.items
         ≡ out.old.items
         ++ (if is_valid then (if boolean then codes "true" else codes "false") else null)) }
-    ensures memory { IfErr result (λ e. e ≡ OutOfMemory) }
 {
     if !is_valid {
         push_null(out)

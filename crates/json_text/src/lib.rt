@@ -8,6 +8,7 @@ mod range;
 mod slots;
 mod types;
 
-pub use bytes::{push, push_comma, push_string};
+pub use bytes::{Appended, push, push_comma, push_string};
 pub use checks::check;
 pub use slots::push_slot;
+pub use types::has_text;

@@ -1,21 +1,19 @@
 //! The text of one slot of an array.
-ghost use Rattle.std.specs.Prelude.{◌≡◌, ◌+◌, ◌<◌, ◌++◌, length, map, OnOk, IfErr, if◌then◌else◌};
-ghost use Rattle.arrow_core.specs.declared.error.Error.TheVariants.{OutOfMemory};
+ghost use Rattle.std.specs.Prelude.{◌≡◌, ◌+◌, ◌<◌, ◌++◌, length, map, OnOk, if◌then◌else◌};
 ghost use Rattle.arrow_types.specs.declared.types.DataType.TheVariants.{Struct as StructType};
 ghost use Rattle.arrow_array.specs.Arrays.{array_type, array_slots};
 ghost use Rattle.arrow_array.specs.Kinds.{IsStructType};
 ghost use Rattle.arrow_array.specs.Lent.{IsPart, part_slots};
 ghost use Rattle.arrow_array.specs.Slots.{slot_at};
 ghost use Rattle.arrow_array.specs.Structs.{AreChildren, HaveSlots};
-ghost use Rattle.json_text.specs.JsonText.{text, array, object, members, null};
+ghost use Rattle.json_text.specs.JsonText.{text, array, object, field_members, null};
 
 use crate::bytes::{
-    push, push_boolean_if, push_comma, push_null, push_signed_if, push_string, push_string_if,
-    push_unsigned_if, push_wide_if,
+    Appended, push, push_boolean_if, push_comma, push_null, push_signed_if, push_string,
+    push_string_if, push_unsigned_if, push_wide_if,
 };
 use crate::integers::push_number_if;
 use arrow_array::{Array, Part};
-use arrow_core::Result;
 use arrow_types::{DataType, Field};
 
 /// Appends the JSON text of slot `i` of the array, by its type. Meant for arrays that `check`
@@ -23,14 +21,13 @@ use arrow_types::{DataType, Field};
 /// and timestamps outside the years 0 to 9999; integers of any other type are decimal, a decimal's
 /// without its point; and a zone that is no offset counts as none.
 ///
-/// `OutOfMemory` alone.
+/// `AllocError` where there is no memory.
 #[cycle(slots)]
-pub fn push_slot(out: &mut Vec<u8>, array: &Array, i: usize) -> Result<()>
+pub fn push_slot(out: &mut Vec<u8>, array: &Array, i: usize) -> Appended
     requires { i < length (array_slots array.now) }
     ensures ok { OnOk result
         (out.new.items
         ≡ out.old.items ++ text (array_type array.now) (slot_at (array_slots array.now) i)) }
-    ensures memory { IfErr result (λ e. e ≡ OutOfMemory) }
 {
     match array {
         Array::Null(array) => {
@@ -124,13 +121,12 @@ pub(crate) fn fields_of(data_type: &DataType) -> &[Field]
 
 /// Appends the text of a list, or `null` where there is none.
 #[cycle(slots)]
-fn push_list(out: &mut Vec<u8>, is_valid: bool, part: &Part<'_>) -> Result<()>
+fn push_list(out: &mut Vec<u8>, is_valid: bool, part: &Part<'_>) -> Appended
     requires { IsPart part.now }
     ensures ok { OnOk result
         (out.new.items
         ≡ out.old.items
         ++ (if is_valid then array (map (text (array_type part.now.array.now)) (part_slots part.now)) else null)) }
-    ensures memory { IfErr result (λ e. e ≡ OutOfMemory) }
 {
     if !is_valid {
         return push_null(out);
@@ -152,14 +148,13 @@ fn push_struct(
     fields: &[Field],
     children: &[Array],
     i: usize,
-) -> Result<()>
+) -> Appended
     requires children { (n : _) × AreChildren n fields.now children.now }
     requires slots { HaveSlots (i + 1) children.now }
     ensures ok { OnOk result
         (out.new.items
         ≡ out.old.items
-        ++ (if is_valid then object (members fields.now (map (λ slots. slot_at slots i) (map array_slots children.now))) else null)) }
-    ensures memory { IfErr result (λ e. e ≡ OutOfMemory) }
+        ++ (if is_valid then object (field_members fields.now (map (λ slots. slot_at slots i) (map array_slots children.now))) else null)) }
 {
     if !is_valid {
         return push_null(out);

@@ -18,7 +18,7 @@ fn is_string_type(data_type: &DataType) -> bool
 
 /// Whether the slots of the type have a JSON text.
 #[cycle(texts)]
-pub(crate) fn has_text(data_type: &DataType) -> bool
+pub fn has_text(data_type: &DataType) -> bool
     ensures { result ≡ has_text data_type.now }
 {
     match data_type {

@@ -8,7 +8,7 @@ use Rattle.json_tree.specs.Tree.{Json}
 use Rattle.json_tree.specs.Keys.{keys_of, first_keys, value_of, Gathers}
 use Rattle.json_tree.specs.Layout.{meets, distinct, put}
 use Rattle.json_tree.specs.Reading.{put_all, put_together}
-use Rattle.json_tree.proofs.Places.{keys-append}
+use Rattle.json_tree.proofs.KeyIndices.{keys-append}
 
 same : (x y : List ℕ) → bytes_eq x y ≡ true → x ≡ y
 same x y e = (bytes_eq-Decides x y).0 e

@@ -4,7 +4,7 @@ pub mod Scalars
 pub mod ValueLaws
 pub mod Deep
 pub mod Turns
-pub mod Places
+pub mod KeyIndices
 pub mod Gathering
 pub mod TextLaws
 pub mod Answering

@@ -21,16 +21,16 @@ abbrev pub distinct : List (List ℕ) → Bool
 distinct [] = true
 distinct (k ∷ ks) = not (meets k ks) && distinct ks
 
--- the place of a key, or the length
-abbrev pub place : List ℕ → List (List ℕ) → ℕ
-place key [] = 0
-place key (k ∷ ks) = cond (bytes_eq k key) 0 (suc (place key ks))
+-- the index of a key, or the length
+abbrev pub key_index : List ℕ → List (List ℕ) → ℕ
+key_index key [] = 0
+key_index key (k ∷ ks) = cond (bytes_eq k key) 0 (suc (key_index key ks))
 
--- the place of a key, counted from n
-abbrev pub place_from : ℕ → List ℕ → List (List ℕ) → Option ℕ
-place_from n key [] = None
-place_from n key (k ∷ ks) = cond (bytes_eq k key) (Some n) (place_from (suc n) key ks)
+-- the index of a key, counted from n
+abbrev pub key_index_from : ℕ → List ℕ → List (List ℕ) → Option ℕ
+key_index_from n key [] = None
+key_index_from n key (k ∷ ks) = cond (bytes_eq k key) (Some n) (key_index_from (suc n) key ks)
 
--- the map gives each of the keys its place, where 16 others stand before them, and nothing else
+-- the map gives each of the keys its index, where 16 others stand before them, and nothing else
 abbrev pub Indexed : BTreeMap (String Global) ℕ → List (List ℕ) → Type 0
-Indexed places keys = (key : List ℕ) → get_by_text places key ≡ place_from 16 key keys
+Indexed indices keys = (key : List ℕ) → get_by_text indices key ≡ key_index_from 16 key keys

@@ -9,7 +9,8 @@ use crate::value::Value;
 
 /// A JSON text stands for one value.
 pub fn one_value()
-    ensures { (bytes : List ℕ) (one other : Value) → IsJsonText one bytes → IsJsonText other bytes → one ≡ other }
+    ensures { (bytes : List ℕ) (one other : Value)
+        → IsJsonText one bytes → IsJsonText other bytes → one ≡ other }
 {}
 
 /// A JSON text in which at most 128 brackets are open at once has no prefix that holds too many. So

@@ -5,7 +5,7 @@
 ghost use Rattle.std.specs.Prelude.{◌≡◌, ◌≤◌, ◌<◌, ◌+◌, ◌-◌, ◌++◌, ◌∷◌, ℕ, List, [], OnOk, OnErr, IfOk, IfErr, MatchResult, true, Some, None, MatchOption, length, drop};
 ghost use Rattle.std.specs.Str.{bytes_eq};
 ghost use Rattle.json_tree.specs.Keys.{value_of, keys_of};
-ghost use Rattle.json_tree.specs.Layout.{put, place, distinct, Indexed};
+ghost use Rattle.json_tree.specs.Layout.{put, key_index, distinct, Indexed};
 
 use crate::value::{Blank, JsonFault};
 use arrow_core::Text;
@@ -16,15 +16,15 @@ use std::marker::Model;
 /// How many members are found by a scan.
 const SCANNED: usize = 16;
 
-/// For how many members an object has room once it has one, so that few objects grow.
-const FIRST_ROOM: usize = 8;
+/// The capacity of an object that has a member, so that few objects grow.
+const FIRST_CAPACITY: usize = 8;
 
-/// Members in the order of their keys' first places, each key once.
+/// Members in the order of their keys' first indices, each key once.
 #[derive(Drop)]
 pub(crate) struct Members<V> {
     pub(crate) pairs: Vec<(Text, V)>,
-    // the places of the keys after the first SCANNED
-    places: BTreeMap<String, usize>,
+    // the indices of the keys after the first SCANNED
+    indices: BTreeMap<String, usize>,
 }
 
 impl<V> Model for Members<V> {
@@ -39,10 +39,10 @@ impl<V> Model for Members<V> {
 
     ghost view = { λ m. m.pairs.items };
 
-    ghost invariant = { λ m. (distinct (keys_of m.pairs.items) ≡ true) × Indexed m.places (drop 16 (keys_of m.pairs.items)) };
+    ghost invariant = { λ m. (distinct (keys_of m.pairs.items) ≡ true) × Indexed m.indices (drop 16 (keys_of m.pairs.items)) };
 }
 
-// Whether two texts of one length are the same, after a call, since they seldom begin alike.
+// Whether two texts of the same length are the same, after a call, since they seldom begin alike.
 #[inline(never)]
 fn are_equal(one: &str, other: &str) -> bool
     ensures { result ≡ bytes_eq one.now other.now }
@@ -64,11 +64,13 @@ fn are_same(one: &str, other: &str) -> bool
     }
 }
 
-// The place of a key among the first SCANNED members.
+// The index of a key among the first SCANNED members.
 fn scan<V>(pairs: &[(Text, V)], key: &str) -> Option<usize>
     ensures { MatchOption result
-        (place key.now (keys_of pairs.now) ≡ (length pairs.now - (length pairs.now - 16)) + place key.now (keys_of (drop 16 pairs.now)))
-        (λ i. (i ≡ place key.now (keys_of pairs.now)) × (i < length pairs.now)) }
+        (key_index key.now (keys_of pairs.now)
+        ≡ (length pairs.now - (length pairs.now - 16))
+        + key_index key.now (keys_of (drop 16 pairs.now)))
+        (λ i. (i ≡ key_index key.now (keys_of pairs.now)) × (i < length pairs.now)) }
 {
     let mut i = 0;
     while i < pairs.len() && i < SCANNED {
@@ -80,46 +82,50 @@ fn scan<V>(pairs: &[(Text, V)], key: &str) -> Option<usize>
     None
 }
 
-// The next key comes at the place `at`, after those that are scanned, and gets an entry.
+// The next key comes at the index `at`, after those that are scanned, and gets an entry.
 #[cold]
 #[inline(never)]
-fn index_place(
+fn index_key(
     alloc: Global,
-    places: &mut BTreeMap<String, usize>,
+    indices: &mut BTreeMap<String, usize>,
     key: &str,
     at: usize,
 ) -> Result<(), JsonFault>
     requires { 16 ≤ at }
-    ensures added { OnOk result ((ks : List (List ℕ)) → at ≡ length ks → length ks ≤ place key.now ks
-        → Indexed places.old (drop 16 ks) → Indexed places.new (drop 16 (ks ++ key.now ∷ []))) }
-    ensures stays { OnErr result ((ks : List (List ℕ)) → Indexed places.old ks → Indexed places.new ks) }
+    ensures added { OnOk result
+        ((ks : List (List ℕ)) → at ≡ length ks → length ks ≤ key_index key.now ks
+        → Indexed indices.old (drop 16 ks) → Indexed indices.new (drop 16 (ks ++ key.now ∷ []))) }
+    ensures stays { OnErr result
+        ((ks : List (List ℕ)) → Indexed indices.old ks → Indexed indices.new ks) }
     ensures memory { IfErr result (λ e. e ≡ JsonFault.Memory) }
 {
     match String::from_str(alloc, key) {
         Err(_) => Err(JsonFault::Memory),
-        Ok(owned) => match places.insert(owned, at) {
+        Ok(owned) => match indices.insert(owned, at) {
             Ok(_) => Ok(()),
             Err(_) => Err(JsonFault::Memory),
         },
     }
 }
 
-// The next key comes at the place `at`. It gets an entry where it isn't scanned.
-fn add_place(
+// The next key comes at the index `at`. It gets an entry where it isn't scanned.
+fn add_index(
     alloc: Global,
-    places: &mut BTreeMap<String, usize>,
+    indices: &mut BTreeMap<String, usize>,
     key: &str,
     at: usize,
 ) -> Result<(), JsonFault>
-    ensures added { OnOk result ((ks : List (List ℕ)) → at ≡ length ks → length ks ≤ place key.now ks
-        → Indexed places.old (drop 16 ks) → Indexed places.new (drop 16 (ks ++ key.now ∷ []))) }
-    ensures stays { OnErr result ((ks : List (List ℕ)) → Indexed places.old ks → Indexed places.new ks) }
+    ensures added { OnOk result
+        ((ks : List (List ℕ)) → at ≡ length ks → length ks ≤ key_index key.now ks
+        → Indexed indices.old (drop 16 ks) → Indexed indices.new (drop 16 (ks ++ key.now ∷ []))) }
+    ensures stays { OnErr result
+        ((ks : List (List ℕ)) → Indexed indices.old ks → Indexed indices.new ks) }
     ensures memory { IfErr result (λ e. e ≡ JsonFault.Memory) }
 {
     if at < SCANNED {
         return Ok(());
     }
-    index_place(alloc, places, key, at)
+    index_key(alloc, indices, key, at)
 }
 
 impl<V: Drop> Members<V> {
@@ -128,18 +134,18 @@ impl<V: Drop> Members<V> {
     {
         Members {
             pairs: Vec::new(alloc),
-            places: BTreeMap::new(alloc),
+            indices: BTreeMap::new(alloc),
         }
     }
 
-    /// No members yet, and room for a few.
-    pub(crate) fn with_room(alloc: Global) -> Result<Members<V>, JsonFault>
+    /// No members yet, and capacity for a few.
+    pub(crate) fn with_capacity(alloc: Global) -> Result<Members<V>, JsonFault>
         ensures { MatchResult result (λ members. members ≡ []) (λ e. e ≡ JsonFault.Memory) }
     {
-        match Vec::with_capacity(alloc, FIRST_ROOM) {
+        match Vec::with_capacity(alloc, FIRST_CAPACITY) {
             Ok(pairs) => Ok(Members {
                 pairs,
-                places: BTreeMap::new(alloc),
+                indices: BTreeMap::new(alloc),
             }),
             Err(_) => Err(JsonFault::Memory),
         }
@@ -152,14 +158,14 @@ impl<V: Drop> Members<V> {
         self.pairs.as_slice()
     }
 
-    // The place of a key.
+    // The index of a key.
     fn find(&self, key: &str) -> Option<usize>
-        ensures { MatchOption result (length self.now ≤ place key.now (keys_of self.now))
-            (λ i. (i ≡ place key.now (keys_of self.now)) × (i < length self.now)) }
+        ensures { MatchOption result (length self.now ≤ key_index key.now (keys_of self.now))
+            (λ i. (i ≡ key_index key.now (keys_of self.now)) × (i < length self.now)) }
     {
         match scan(&self.pairs, key) {
             Some(at) => Some(at),
-            None => self.places.get(key).copied(),
+            None => self.indices.get(key).copied(),
         }
     }
 
@@ -175,11 +181,11 @@ impl<V: Drop> Members<V> {
 }
 
 impl<V: Blank> Members<V> {
-    // One more member, with a key that no member has, and its place. There may be no room, or the key
-    // may need an entry.
+    // One more member, with a key that no member has, and its index. The members may have to grow,
+    // or the key may need an entry.
     #[inline(never)]
     fn add_growing(&mut self, alloc: Global, key: Text) -> Result<usize, JsonFault>
-        requires { length self.old ≤ place key (keys_of self.old) }
+        requires { length self.old ≤ key_index key (keys_of self.old) }
         ensures added { OnOk result ((value : V) × (self.new ≡ self.old ++ (key, value) ∷ [])) }
         ensures last { IfOk result (λ at. at ≡ length self.old) }
         ensures memory { IfErr result (λ e. e ≡ JsonFault.Memory) }
@@ -188,14 +194,14 @@ impl<V: Blank> Members<V> {
         if self.pairs.reserve(1).is_err() {
             return Err(JsonFault::Memory);
         }
-        add_place(alloc, &mut self.places, key.as_str(), at)?;
+        add_index(alloc, &mut self.indices, key.as_str(), at)?;
         self.pairs.push_reserved((key, V::blank()));
         Ok(at)
     }
 
-    // The same. Where nothing has to grow, nothing can fail, and the member is made in its place.
+    // The same. Where nothing has to grow, nothing can fail, and the member is made where it stays.
     fn add(&mut self, alloc: Global, key: Text) -> Result<usize, JsonFault>
-        requires { length self.old ≤ place key (keys_of self.old) }
+        requires { length self.old ≤ key_index key (keys_of self.old) }
         ensures added { OnOk result ((value : V) × (self.new ≡ self.old ++ (key, value) ∷ [])) }
         ensures last { IfOk result (λ at. at ≡ length self.old) }
         ensures memory { IfErr result (λ e. e ≡ JsonFault.Memory) }
@@ -208,11 +214,12 @@ impl<V: Blank> Members<V> {
         self.add_growing(alloc, key)
     }
 
-    /// Gives a key a blank value, and tells the key's place, in which the caller writes another value. A
-    /// key that is there keeps its place.
+    /// Gives a key a blank value, and tells the key's index, at which the caller writes another
+    /// value. A key that is there stays at its index.
     pub(crate) fn put(&mut self, alloc: Global, key: Text) -> Result<usize, JsonFault>
         ensures put { OnOk result ((value : V) × (self.new ≡ put self.old (key, value))) }
-        ensures place { IfOk result (λ at. (at ≡ place key (keys_of self.new)) × (at < length self.new)) }
+        ensures key_index { IfOk result
+            (λ at. (at ≡ key_index key (keys_of self.new)) × (at < length self.new)) }
         ensures memory { IfErr result (λ e. e ≡ JsonFault.Memory) }
     {
         match self.find(key.as_str()) {

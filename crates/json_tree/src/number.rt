@@ -119,8 +119,8 @@ fn encoded_exponent(alloc: Global, bytes: &[u8]) -> Result<Text, JsonFault>
     owned(alloc, unsafe { std::str::from_utf8_unchecked(bytes) })
 }
 
-// The text of an exponent, or of none. The empty text is made first, so that the compiler sees that it
-// takes no memory.
+// The text of an exponent, or of none. The empty text is made first, so that the compiler sees that
+// it takes no memory.
 #[inline(always)]
 fn exponent_text(alloc: Global, bytes: &[u8]) -> Result<Text, JsonFault>
     requires { IsUtf8 bytes.now }
@@ -134,7 +134,7 @@ fn exponent_text(alloc: Global, bytes: &[u8]) -> Result<Text, JsonFault>
 }
 
 // All but the first of the first n bytes.
-fn behind_first(bytes: &[u8], n: usize) -> &[u8]
+fn after_first(bytes: &[u8], n: usize) -> &[u8]
     requires { n ≤ length bytes.now }
     ensures { result.now ≡ drop 1 (take n bytes.now) }
 {
@@ -145,7 +145,7 @@ fn behind_first(bytes: &[u8], n: usize) -> &[u8]
     }
 }
 
-/// A number, read as far as it goes. Behind a leading 0, digits are left ahead.
+/// A number, read as far as it goes. After a leading 0, digits are left ahead.
 #[inline(never)]
 pub(crate) fn number<'a>(
     alloc: Global,
@@ -164,8 +164,8 @@ pub(crate) fn number<'a>(
     let mantissa = &start[..start.len() - tail.len()];
     exponent_part(reader)?;
     let left = reader.rest();
-    let behind = behind_first(tail, tail.len() - left.len());
-    let exponent = exponent_text(alloc, behind)?;
+    let following = after_first(tail, tail.len() - left.len());
+    let exponent = exponent_text(alloc, following)?;
     let mantissa = mantissa_text(alloc, mantissa)?;
     if tail.len() < whole.len() {
         out.fill(Value::Number(Number::Float(mantissa, exponent)));

@@ -10,14 +10,14 @@ use std::alloc::Global;
 use std::marker::Model;
 
 /// How many bytes the end of a text may have.
-const END_ROOM: usize = 128;
+const END_CAPACITY: usize = 128;
 
-/// A text, which pieces are added to. Its end lies in the value itself, so that a short text takes no
-/// memory before it is whole.
+/// A text, which pieces are added to. Its end lies in the value itself, so that a short text takes
+/// no memory before it is whole.
 #[derive(Drop)]
 pub(crate) struct Pieces {
     prefix: String,
-    end: ArrayString<END_ROOM>,
+    end: ArrayString<END_CAPACITY>,
 }
 
 impl Model for Pieces {
@@ -28,11 +28,16 @@ impl Model for Pieces {
     ghost view = { λ p. string_bytes p.prefix ++ p.end.bytes };
 }
 
-// The end of a text goes to its prefix, and then a piece, for which the end has no room.
+// The end of a text goes to its prefix, and then a piece, for which the end has no capacity left.
 #[cold]
 #[inline(never)]
-fn spill(prefix: &mut String, end: &mut ArrayString<END_ROOM>, piece: &str) -> Result<(), JsonFault>
-    ensures prefix { OnOk result (string_bytes prefix.new ≡ string_bytes prefix.old ++ (end.old.bytes ++ piece.now)) }
+fn spill(
+    prefix: &mut String,
+    end: &mut ArrayString<END_CAPACITY>,
+    piece: &str,
+) -> Result<(), JsonFault>
+    ensures prefix { OnOk result
+        (string_bytes prefix.new ≡ string_bytes prefix.old ++ (end.old.bytes ++ piece.now)) }
     ensures end { OnOk result (end.new.bytes ≡ []) }
     ensures memory { IfErr result (λ e. e ≡ JsonFault.Memory) }
 {
@@ -68,7 +73,8 @@ impl Pieces {
         spill(&mut self.prefix, &mut self.end, piece)
     }
 
-    // Adds an ASCII character. Its length is known to the compiler, which then copies it with no call.
+    // Adds an ASCII character. Its length is known to the compiler, which then copies it with no
+    // call.
     #[inline(always)]
     fn push_ascii(&mut self, byte: u8) -> Result<(), JsonFault>
         requires { byte < 128 }
@@ -92,7 +98,7 @@ impl Pieces {
         self.push_str(c.encode_utf8(&mut buffer))
     }
 
-    /// The text, of no more room than it needs. These pieces are done with.
+    /// The text, of no more capacity than it needs. These pieces are done with.
     pub(crate) fn to_text(&mut self, alloc: Global) -> Result<Text, JsonFault>
         ensures { MatchResult result (λ t. t ≡ self.old) (λ e. e ≡ JsonFault.Memory) }
     {

@@ -70,7 +70,8 @@ impl<'a> Reader<'a> {
     /// The next byte, which is passed.
     #[tactic(auto, using(crate::proofs::InTexts::in_tail))]
     pub(crate) fn next(&mut self) -> Option<u8>
-        ensures { MatchOption result ((self.old ≡ []) × (self.new ≡ [])) (λ x. self.old ≡ x ∷ self.new) }
+        ensures { MatchOption result
+            ((self.old ≡ []) × (self.new ≡ [])) (λ x. self.old ≡ x ∷ self.new) }
     {
         let (first, rest) = self.bytes.split_first()?;
         self.bytes = rest;
@@ -109,7 +110,8 @@ impl<'a> Reader<'a> {
         }
     }
 
-    /// Passes this byte where it is next, and tells whether it was. What follows an ASCII byte is UTF-8.
+    /// Passes this byte where it is next, and tells whether it was. What follows an ASCII byte is
+    /// UTF-8.
     #[tactic(auto, using(crate::proofs::InTexts::in_tail))]
     pub(crate) fn takes(&mut self, byte: u8) -> bool
         ensures taken { MatchBool result (self.old ≡ byte ∷ self.new)
@@ -153,8 +155,8 @@ impl<'a> Reader<'a> {
         self.bytes = &self.bytes[n..];
     }
 
-    /// Passes a string without escapes where it is next, and lends what stands between its quotation
-    /// marks. Else nothing is passed.
+    /// Passes a string without escapes where it is next, and lends what stands between its
+    /// quotation marks. Else nothing is passed.
     pub(crate) fn plain_string(&mut self) -> Option<&'a str>
         ensures found { MatchOption result (self.new ≡ self.old)
             (λ run. Each is_unescaped run.now × (self.old ≡ 34 ∷ (run.now ++ 34 ∷ self.new))) }
@@ -165,11 +167,11 @@ impl<'a> Reader<'a> {
         }
         let n = unescaped_len(rest);
         let (run, tail) = rest.split_at(n);
-        let (last, behind) = tail.split_first()?;
+        let (last, following) = tail.split_first()?;
         if *last != b'"' {
             return None;
         }
-        self.bytes = behind;
+        self.bytes = following;
         Some(unsafe { std::str::from_utf8_unchecked(run) })
     }
 

@@ -67,14 +67,16 @@ fn code_unit<'a>(reader: &mut Reader<'a>) -> Result<u32, JsonFault>
 
 fn is_high_surrogate(unit: u32) -> bool
     ensures value { result ≡ is_high_surrogate unit }
-    ensures range { MatchBool result ((0xd800 ≤ unit) × (unit < 0xdc00)) ((unit < 0xd800) ⊎ (0xdc00 ≤ unit)) }
+    ensures range { MatchBool result
+        ((0xd800 ≤ unit) × (unit < 0xdc00)) ((unit < 0xd800) ⊎ (0xdc00 ≤ unit)) }
 {
     (0xd800 <= unit) & (unit < 0xdc00)
 }
 
 fn is_low_surrogate(unit: u32) -> bool
     ensures value { result ≡ is_low_surrogate unit }
-    ensures range { MatchBool result ((0xdc00 ≤ unit) × (unit < 0xe000)) ((unit < 0xdc00) ⊎ (0xe000 ≤ unit)) }
+    ensures range { MatchBool result
+        ((0xdc00 ≤ unit) × (unit < 0xe000)) ((unit < 0xdc00) ⊎ (0xe000 ≤ unit)) }
 {
     (0xdc00 <= unit) & (unit < 0xe000)
 }
@@ -163,7 +165,7 @@ fn escape<'a>(reader: &mut Reader<'a>) -> Result<char, JsonFault>
     }
 }
 
-// A text of its own, of no more room than it needs.
+// A text of its own, of no more capacity than it needs.
 pub(crate) fn owned(alloc: Global, text: &str) -> Result<Text, JsonFault>
     ensures { MatchResult result (λ t. t ≡ text.now) (λ e. e ≡ JsonFault.Memory) }
 {

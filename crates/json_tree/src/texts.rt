@@ -43,8 +43,8 @@ fn fault_of_prefix<'a>(alloc: Global, prefix: &'a [u8]) -> JsonFault
 ///
 /// White space may stand around each token. Strings are UTF-8; `\u` escapes of a high and a low
 /// surrogate join to one character, and a surrogate without its partner is refused. A byte order
-/// mark is refused. A key that stands twice in an object keeps its first place and takes its last
-/// value. A text may have 128 brackets open at once.
+/// mark is refused. A key that stands twice in an object stays at its first index and takes its
+/// last value. A text may have 128 brackets open at once.
 ///
 /// `Depth` comes exactly where some prefix of the bytes is a prefix of a JSON text, but of none in
 /// which at most 128 brackets are open at once (section 9 lets a reader set such a limit). Else

@@ -36,8 +36,8 @@ pub enum Value {
 }
 
 /// The members of a JSON object (RFC 8259, section 4), in the order in which their keys first
-/// stand. Each key stands once: where a text names a key again, the key keeps its first place and
-/// takes its last value.
+/// stand. Each key stands once: where a text names a key again, the key stays at its first index
+/// and takes its last value.
 #[cycle(types)]
 #[derive(Drop)]
 pub struct Object {
@@ -55,7 +55,7 @@ pub enum JsonFault {
     Memory,
 }
 
-/// A type with a value that holds nothing. It keeps a place in which a value is read.
+/// A type with a value that holds nothing. Another value is then read over it.
 pub(crate) trait Blank: Drop {
     fn blank() -> Self;
 }
@@ -76,8 +76,8 @@ impl Value {
         *self = Value::Null;
     }
 
-    /// Becomes this value. What stood here is mostly `Null`, which owns nothing and needs no drop. A drop
-    /// would look for the kind of the old value each time.
+    /// Becomes this value. What stood here is mostly `Null`, which owns nothing and needs no drop.
+    /// A drop would look for the kind of the old value each time.
     #[inline(always)]
     pub(crate) fn fill(&mut self, value: Value)
         ensures { self.new ≡ value }

@@ -13,10 +13,10 @@ use crate::value::{Blank, JsonFault, Object, Value};
 use arrow_core::Items;
 use std::alloc::Global;
 
-/// For how many items an array has room once it has one.
-const FIRST_ROOM: usize = 4;
+/// The capacity of an array that has an item.
+const FIRST_CAPACITY: usize = 4;
 
-// One more item, for which there may be no room.
+// One more item, for which the array may have to grow.
 #[inline(never)]
 fn push_growing<T: Blank>(items: &mut Vec<T>) -> Result<(), JsonFault>
     ensures pushed { OnOk result ((item : T) × (items.new.items ≡ items.old.items ++ item ∷ [])) }
@@ -29,7 +29,7 @@ fn push_growing<T: Blank>(items: &mut Vec<T>) -> Result<(), JsonFault>
     Ok(())
 }
 
-// One more item, which is blank. Where there is room, it is made in its place.
+// One more item, which is blank. Where there is spare capacity, it is made where it stays.
 fn push_blank<T: Blank>(items: &mut Vec<T>) -> Result<(), JsonFault>
     ensures pushed { OnOk result ((item : T) × (items.new.items ≡ items.old.items ++ item ∷ [])) }
     ensures memory { IfErr result (λ e. e ≡ JsonFault.Memory) }
@@ -41,11 +41,11 @@ fn push_blank<T: Blank>(items: &mut Vec<T>) -> Result<(), JsonFault>
     push_growing(items)
 }
 
-// No items yet, and room for a few.
-fn item_room<T: Drop>(alloc: Global) -> Result<Vec<T>, JsonFault>
+// No items yet, and capacity for a few.
+fn reserved_items<T: Drop>(alloc: Global) -> Result<Vec<T>, JsonFault>
     ensures { MatchResult result (λ items. items.items ≡ []) (λ e. e ≡ JsonFault.Memory) }
 {
-    match Vec::with_capacity(alloc, FIRST_ROOM) {
+    match Vec::with_capacity(alloc, FIRST_CAPACITY) {
         Ok(items) => Ok(items),
         Err(_) => Err(JsonFault::Memory),
     }
@@ -66,7 +66,8 @@ fn goes_on<'a>(reader: &mut Reader<'a>, close: u8) -> Result<bool, JsonFault>
     ensures forward { length reader.new ≤ length reader.old }
     ensures shorter { OnOk result (length reader.new < length reader.old) }
     ensures found { MatchResult result
-        (λ b. MatchBool b (skip reader.old ≡ 44 ∷ reader.new) ((skip reader.old ≡ close ∷ reader.new) × (close ≢ 44)))
+        (λ b. MatchBool b (skip reader.old ≡ 44 ∷ reader.new)
+        ((skip reader.old ≡ close ∷ reader.new) × (close ≢ 44)))
         (λ e. (e ≡ JsonFault.Text) × First (λ x t. (x ≢ 44) × (x ≢ close)) (skip reader.old)) }
 {
     reader.skip_spaces();
@@ -100,7 +101,8 @@ fn literal<'a>(reader: &mut Reader<'a>, word: &[u8]) -> Result<(), JsonFault>
 
 #[inline(never)]
 fn null_value<'a>(reader: &mut Reader<'a>, out: &mut Value) -> Result<(), JsonFault>
-    ensures reads { Gives (λ _. out.new) result reader.new (bind (strip text_null reader.old) (λ _ r. found null r)) }
+    ensures reads { Gives (λ _. out.new) result reader.new
+        (bind (strip text_null reader.old) (λ _ r. found null r)) }
     ensures forward { length reader.new ≤ length reader.old }
 {
     literal(reader, b"null")?;
@@ -116,7 +118,8 @@ fn boolean_value<'a>(
     value: bool,
     out: &mut Value,
 ) -> Result<(), JsonFault>
-    ensures reads { Gives (λ _. out.new) result reader.new (bind (strip word.now reader.old) (λ _ r. found (boolean value) r)) }
+    ensures reads { Gives (λ _. out.new) result reader.new
+        (bind (strip word.now reader.old) (λ _ r. found (boolean value) r)) }
     ensures forward { length reader.new ≤ length reader.old }
 {
     literal(reader, word)?;
@@ -141,7 +144,8 @@ fn escaped_value<'a>(
     reader: &mut Reader<'a>,
     out: &mut Value,
 ) -> Result<(), JsonFault>
-    ensures reads { Gives (λ _. out.new) result reader.new (bind (string_at reader.old) (λ s r. found (string s) r)) }
+    ensures reads { Gives (λ _. out.new) result reader.new
+        (bind (string_at reader.old) (λ s r. found (string s) r)) }
     ensures forward { length reader.new ≤ length reader.old }
 {
     let text = escaped_string(alloc, reader)?;
@@ -155,7 +159,8 @@ fn string_value<'a>(
     reader: &mut Reader<'a>,
     out: &mut Value,
 ) -> Result<(), JsonFault>
-    ensures reads { Gives (λ _. out.new) result reader.new (bind (string_at reader.old) (λ s r. found (string s) r)) }
+    ensures reads { Gives (λ _. out.new) result reader.new
+        (bind (string_at reader.old) (λ s r. found (string s) r)) }
     ensures forward { length reader.new ≤ length reader.old }
 {
     if let Some(run) = reader.plain_string() {
@@ -188,9 +193,9 @@ fn scalar<'a>(alloc: Global, reader: &mut Reader<'a>, out: &mut Value) -> Result
     number(alloc, reader, out)
 }
 
-/// A value in which at most `depth` brackets are open at once. It is written to `out`, as by each of
-/// these functions, so that it isn't moved through the places of nested calls. After a fault `out`
-/// has any value.
+/// A value in which at most `depth` brackets are open at once. It is written to `out`, as by each
+/// of these functions, so that it isn't moved through the results of nested calls. After a fault
+/// `out` has any value.
 #[cycle(value)]
 #[tactic(auto, unfolding(crate::specs::Reading::value_at))]
 #[inline(always)]
@@ -223,7 +228,7 @@ pub(crate) fn value<'a>(
     scalar(alloc, reader, out)
 }
 
-// What follows the opening bracket of an array. An item gets its place first and is read into it.
+// What follows the opening bracket of an array. An item is made blank first and is read into.
 #[cycle(value)]
 #[inline(never)]
 fn array<'a>(
@@ -239,7 +244,7 @@ fn array<'a>(
         out.fill(Value::Array(Items::from_vec(Vec::new(alloc))));
         return Ok(());
     }
-    let mut items = item_room(alloc)?;
+    let mut items = reserved_items(alloc)?;
     loop {
         reader.skip_spaces();
         push_blank(&mut items)?;
@@ -267,7 +272,7 @@ fn name_separator<'a>(reader: &mut Reader<'a>) -> Result<(), JsonFault>
     }
 }
 
-// What follows the opening bracket of an object. A member gets its place first and is read into it.
+// What follows the opening bracket of an object. A member is made blank first and is read into.
 #[cycle(value)]
 #[inline(never)]
 fn object<'a>(
@@ -284,7 +289,7 @@ fn object<'a>(
         out.fill(Value::Object(Object { members }));
         return Ok(());
     }
-    let mut members = Members::with_room(alloc)?;
+    let mut members = Members::with_capacity(alloc)?;
     loop {
         reader.skip_spaces();
         let key = string(alloc, reader)?;

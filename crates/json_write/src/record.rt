@@ -106,9 +106,9 @@ impl<'a> FallibleStreamingIterator for RecordSerializer<'a> {
                 self.is_valid = true;
                 Ok(())
             }
-            Err(error) => {
+            Err(_) => {
                 self.at = self.count;
-                Err(error)
+                Err(Error::OutOfMemory)
             }
         }
     }

@@ -7,7 +7,7 @@ use Rattle.arrow_core.specs.declared.error.Error.{Error}
 use Rattle.arrow_core.specs.declared.error.Error.TheVariants.{WriteFault}
 use Rattle.lending.specs.Lending.{ShowsItem, Shows, ShowsAll, ShowsThenErr, TakesOff}
 
--- an item, after the separator but for the first
+-- an item, after the separator but for the first; private contracts alone cite it
 abbrev pub piece : ℕ → Bool → List ℕ → List ℕ
 piece separator is_first item = cond is_first item (separator ∷ item)
 
@@ -30,6 +30,8 @@ module _ {S : Type 0} (step : S → Result (Unit {0}) Error → S → Type 0) (s
       ((error ≡ WriteFault) × RoseOrFull faults_before faults_after
       × ((items : List (List ℕ)) × (after : S) × Shows step shown before items after × AppendsPrefix old new (join_with_byte separator items)))
       ⊎ ((items : List (List ℕ)) × ShowsThenErr step shown before items error × Appends old new (join_with_byte separator items))
+
+  -- ---- What follows is cited by private contracts alone; none of it has to be read to believe a public one.
 
   -- the next item was written
   pub record Wrote (items : S → List (List ℕ) → Type 0) (to_come : S → ℕ) (separator : ℕ) (is_first : Bool) (before after : S) (old new : Option (List ℕ)) : Type 0 where

@@ -12,8 +12,8 @@ use arrow_core::{Error, Result};
 /// Writes the items that the lender shows, with the separator between each two. The lender may be
 /// asked for items.
 ///
-/// `WriteFault` where a write failed; the sink then took a prefix of some of the items. The lender's
-/// own error as it came; the sink then took the items before it.
+/// `WriteFault` where a write failed; the sink then took a prefix of some of the items. The
+/// lender's own error as it came; the sink then took the items before it.
 pub fn write_joined<K: Sink, I: FallibleStreamingIterator<Error = Error>>(
     sink: &mut K,
     separator: u8,

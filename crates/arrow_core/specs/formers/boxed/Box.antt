@@ -1,5 +1,5 @@
 -- Where a `Box` keeps its value, for types that hold a `Box` of themselves: after the pointer of
--- the box of std that is its one field. Contracts see the value alone.
+-- the box of std that is its one field. Contracts see the value alone; nothing here has to be read to believe one.
 use Rattle.std.specs.declared.alloc.Global.{Global}
 use Rattle.std.specs.declared.boxed.Box as declared
 use Rattle.std.specs.contracts.alloc.Global as heap
@@ -31,7 +31,7 @@ the_former value = value
 abbrev pub the_weighed : {value : Former {0}} → Weighed value → Weighed (the_former value)
 the_weighed weight = weight
 
--- the box of std with another value, at the same place
+-- the box of std with another value, at the same pointer
 abbrev replaced : {X Y : Type 0} → declared.Box X Global → Y → declared.Box Y Global
 replaced b y = record { ptr = b.ptr; alloc = b.alloc; value = y }
 

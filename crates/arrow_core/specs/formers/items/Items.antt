@@ -1,5 +1,5 @@
 -- Where an `Items` keeps its items, for types that hold an `Items` of themselves: in the vector
--- that is its one field, and in the order in which contracts see them.
+-- that is its one field, and in the order in which contracts see them. Nothing here has to be read to believe a contract.
 use Rattle.std.specs.declared.alloc.Global.{Global}
 use Rattle.std.specs.contracts.alloc.Global as heap
 use Rattle.std.specs.contracts.impls.GlobalAllocator.TheImpl.{ghosts}

@@ -8,7 +8,7 @@ use Rattle.avro_schema.proofs.schema.AvroField.TheLaws.{the_size as field_size}
 use Rattle.avro_schema.proofs.schema.Schema.TheLaws.{the_size}
 use Rattle.avro_decode.proofs.Fields.{shapes_length, two_of}
 use Rattle.avro_decode.proofs.Going.{grows_behind}
-use Rattle.avro_decode.proofs.Members.{has_kind, members_size, same_at, list_kind, record_kind, union_suits, union_reach, union_grows, union_spare, union_gives, union_size, record_suits, record_is_tight, record_reaches, record_grown, record_spare_below, record_given}
+use Rattle.avro_decode.proofs.Members.{has_kind, has_flat_kind, no_list, members_size, same_at, record_kind, union_suits, union_reach, union_grows, union_spare, union_gives, union_size, record_suits, record_is_tight, record_reaches, record_grown, record_spare_below, record_given}
 use Rattle.avro_schema.specs.declared.schema.Schema.TheViews.{the_lemmas}
 use Rattle.arrow_builders.specs.declared.array.MutableArray.TheViews.{the_lemmas as builder_lemmas}
 use Rattle.std.proofs.lemmas.List.{length-map}
@@ -21,14 +21,13 @@ use Rattle.arrow_builders.specs.Shapes.{shape}
 use Rattle.arrow_builders.specs.declared.array.MutableArray.{MutableArray, Struct}
 use Rattle.avro_reference.specs.Read.{push_one, read}
 use Rattle.avro_decode.specs.Masks.{mask}
-use Rattle.avro_decode.specs.Growth.{Grows, AllReach, HaveSpare, ChildrenGrow}
+use Rattle.avro_decode.specs.Growth.{Grows, AllOffsetsReach, HaveSpare, ChildrenGrow}
 use Rattle.avro_decode.specs.Suits.{Suits}
 use Rattle.arrow_builders.specs.Tight.{IsTight}
 use Rattle.avro_skip.proofs.Counting.{not_longer, forward_more, forward_none, moves_within, kept_then, kept_none, number_costs, number_first}
 use Rattle.avro_decode.proofs.Fields.{suit_length, suit_at, suit_same, part_at, part_next, part_all, children_none, children_then, children_set, reach_at, children_reach, spare_at, children_spare, record_reach, record_spare, record_grows, fields_begun, field_step, field_fault, fields_ended, push_length, record_fails}
-use Rattle.avro_decode.proofs.Going.{few_slots}
-use Rattle.avro_decode.proofs.Going.{grows_on, grows_then, grows_first, reach_on, reach_then, spare_on, list_suits, list_reach, list_spare, list_grows, array_fails, list_order, list_gives}
-use Rattle.avro_decode.proofs.Nodes.{grows_wider, reach_less, spare_less, grows_fewer, spare_fewer}
+use Rattle.avro_decode.proofs.Going.{grows_on, grows_then, grows_first, offsets_on, offsets_then, offsets_less, spare_on, list_suits, large_list_suits, item_reach, large_item_reach, items_counted, large_items_counted, list_spare, list_grows, array_fails, list_order, list_gives}
+use Rattle.avro_decode.proofs.Nodes.{grows_wider, spare_less, grows_fewer, spare_fewer}
 use Rattle.avro_decode.proofs.Members.{null_gives, other_pair, no_index, suits_first, suits_second, second_gives, shorter_by, null_tight, record_tight, pushed_tight, record_gives}
 use Rattle.avro_skip.specs.Costs.{passed}
 use Rattle.avro_flat.proofs.Pushes.{takes_none}
@@ -36,6 +35,7 @@ use Rattle.avro_flat.proofs.Items.{items-done, items-next, items-err}
 use Rattle.avro_decode.proofs.Reading.{blocks-next, blocks-end, blocks-no_count, blocks-bad}
 use Rattle.arrow_builders.proofs.Rows.{shape_same}
 use Rattle.avro_decode.proofs.Suited.{mask_fewer, null_grows, null_fits}
+use Rattle.avro_decode.proofs.Pairs.{pair_gives, pair_bad, first_no_union, second_no_union}
 use Rattle.avro_decode.proofs.decode.+decode.Goals as goal
 
 -- ---- arrays
@@ -44,7 +44,7 @@ pub decode_array-decode_blocks-requires : goal.decode_array-decode_blocks-requir
 decode_array-decode_blocks-requires g t c κs within =
     let v = c.mut_values.ensures.value in
     let d = c.decreases in
-    (omega arith, (within.0, (within.1, (rw v (list_suits c.args.item.now c.args.lists.now c.requires.suits), (rw v c.requires.tight.1, rw v (list_reach c.args.item.now _ (lists_node c.args.lists.now.lists) _ c.requires.offsets))))))
+    (omega arith, (within.0, (within.1, (rw v (list_suits c.args.item.now c.args.lists.now c.requires.suits), (rw v c.requires.tight.1, rw v (item_reach c.args.item.now _ (lists_node c.args.lists.now.lists) c.args.lists.now.values.value c.requires.offsets))))))
 
 pub decode_array-returns-in_err-decode_blocks-clause-grows : goal.decode_array-returns-in_err-decode_blocks-clause-grows
 decode_array-returns-in_err-decode_blocks-clause-grows g t c =
@@ -67,9 +67,7 @@ decode_array-pushed_list-requires-clause-order g t c =
 pub decode_array-pushed_list-requires-clause-reach : goal.decode_array-pushed_list-requires-clause-reach
 decode_array-pushed_list-requires-clause-reach g t c =
     let e = c.in_ok-decode_blocks.ensures in
-    let i = c.args.item.now in
-    let r = reach_on i _ _ _ _ e.moves.forward (rw c.mut_values.ensures.value at e.grows) (list_reach i _ (lists_node c.args.lists.now.lists) _ c.requires.offsets) in
-    few_slots (mask true i) c.decode_blocks.new.child (reach_less (mask true i) _ 0 _ (omega arith) r)
+    items_counted false c.args.item.now _ _ c.args.lists.now.values.value c.decode_blocks.new.child (lists_node c.args.lists.now.lists) e.moves.forward (rw c.mut_values.ensures.value at e.grows) c.requires.offsets
 
 pub decode_array-returns-clause-grows : goal.decode_array-returns-clause-grows
 decode_array-returns-clause-grows g t c =
@@ -81,6 +79,48 @@ decode_array-returns-clause-grows g t c =
 pub decode_array-returns-clause-reads : goal.decode_array-returns-clause-reads
 decode_array-returns-clause-reads g t c =
     list_gives c.pushed_list.result c.args.item.now (builder_slots c.args.lists.now.values.value) (builder_slots c.decode_blocks.new.child) _ _ _ c.args.lists.now.lists.lens _ _ c.requires.tight.0 (rw c.mut_values.ensures.value at c.in_ok-decode_blocks.ensures.reads) refl refl c.pushed_list.ensures.ok c.pushed_list.ensures.err
+
+-- ---- arrays of large lists
+
+pub decode_large_array-decode_blocks-requires : goal.decode_large_array-decode_blocks-requires
+decode_large_array-decode_blocks-requires g t c κs within =
+    let v = c.mut_values.ensures.value in
+    let d = c.decreases in
+    (omega arith, (within.0, (within.1, (rw v (large_list_suits c.args.item.now c.args.lists.now c.requires.suits), (rw v c.requires.tight.1, rw v (large_item_reach c.args.item.now _ (lists_node c.args.lists.now.lists) c.args.lists.now.values.value c.requires.offsets))))))
+
+pub decode_large_array-returns-in_err-decode_blocks-clause-grows : goal.decode_large_array-returns-in_err-decode_blocks-clause-grows
+decode_large_array-returns-in_err-decode_blocks-clause-grows g t c =
+    list_grows c.args.item.now 0 _ _ _ _ _ (takes_none 0 0 _) (omega arith) (rw c.mut_values.ensures.value at c.in_err-decode_blocks.ensures.grows)
+
+pub decode_large_array-returns-in_err-decode_blocks-clause-has_capacity : goal.decode_large_array-returns-in_err-decode_blocks-clause-has_capacity
+decode_large_array-returns-in_err-decode_blocks-clause-has_capacity g t c = λ h.
+    let p = err_from_is_err_and c.from_residual.result c.from_residual.ensures.1 in
+    rw (p.1, p.2) (c.in_err-decode_blocks.ensures.has_capacity (rw c.mut_values.ensures.value (list_spare c.args.item.now _ _ _ h).1))
+
+pub decode_large_array-returns-in_err-decode_blocks-clause-reads : goal.decode_large_array-returns-in_err-decode_blocks-clause-reads
+decode_large_array-returns-in_err-decode_blocks-clause-reads g t c =
+    let p = err_from_is_err_and c.from_residual.result c.from_residual.ensures.1 in
+    rw (p.1, p.2) (array_fails _ c.args.item.now _ _ _ c.in_err-decode_blocks.ensures.reads)
+
+pub decode_large_array-pushed_large_list-requires-clause-order : goal.decode_large_array-pushed_large_list-requires-clause-order
+decode_large_array-pushed_large_list-requires-clause-order g t c =
+    list_order _ (builder_slots c.args.lists.now.values.value) _ _ _ _ c.requires.tight.0 (rw c.mut_values.ensures.value at c.in_ok-decode_blocks.ensures.reads)
+
+pub decode_large_array-pushed_large_list-requires-clause-reach : goal.decode_large_array-pushed_large_list-requires-clause-reach
+decode_large_array-pushed_large_list-requires-clause-reach g t c =
+    let e = c.in_ok-decode_blocks.ensures in
+    large_items_counted c.args.item.now _ _ c.args.lists.now.values.value c.decode_blocks.new.child (lists_node c.args.lists.now.lists) e.moves.forward (rw c.mut_values.ensures.value at e.grows) c.requires.offsets
+
+pub decode_large_array-returns-clause-grows : goal.decode_large_array-returns-clause-grows
+decode_large_array-returns-clause-grows g t c =
+    let e = c.in_ok-decode_blocks.ensures in
+    let s = e.shorter in
+    list_grows c.args.item.now 1 _ _ _ _ _ c.pushed_large_list.ensures.takes (omega (arith, s))
+    (subst (λ (b : MutableArray). Grows (mask false c.args.item.now) (passed (g.C.Ahead.rest c.args.cursor.now) (g.C.Ahead.rest c.decode_blocks.new.cursor)) (nodes c.args.lists.now.values.value) (nodes b)) (sym (ap (λ v. v.value) c.pushed_large_list.ensures.values)) (rw c.mut_values.ensures.value at e.grows))
+
+pub decode_large_array-returns-clause-reads : goal.decode_large_array-returns-clause-reads
+decode_large_array-returns-clause-reads g t c =
+    list_gives c.pushed_large_list.result c.args.item.now (builder_slots c.args.lists.now.values.value) (builder_slots c.decode_blocks.new.child) _ _ _ c.args.lists.now.lists.lens _ _ c.requires.tight.0 (rw c.mut_values.ensures.value at c.in_ok-decode_blocks.ensures.reads) refl refl c.pushed_large_list.ensures.ok c.pushed_large_list.ensures.err
 
 -- ---- blocks
 
@@ -142,7 +182,7 @@ decode_blocks-decode_block_items-requires g t c κs within =
     let d = c.decreases in
     let i = c.args.item.now in
     let s : SFits w64 c.in-Some.count = search rules in
-    (omega arith, (within.0, (within.1, (not_as c.in-Some.count (pos 0) s c.if-count-eq0.false, (subst (Suits i) (sym inv.shape) c.requires.suits, (inv.tight, reach_then i _ _ _ _ _ inv.forward c.in-Some.ensures.moves.forward inv.grows c.requires.offsets))))))
+    (omega arith, (within.0, (within.1, (not_as c.in-Some.count (pos 0) s c.if-count-eq0.false, (subst (Suits i) (sym inv.shape) c.requires.suits, (inv.tight, offsets_then i _ _ _ c.args.child.now c.loop-count.child inv.shape inv.forward c.in-Some.ensures.moves.forward inv.grows c.requires.offsets))))))
 
 pub decode_blocks-loop-count-preserved : goal.decode_blocks-loop-count-preserved
 decode_blocks-loop-count-preserved g t c =
@@ -229,7 +269,7 @@ decode_fields-decode_value-requires g t c κs within =
     let d = c.decreases in
     let suits = subst (λ (x : MutableArray). Suits (get_or fs i f).schema (shape x)) (sym v) (suit_at fs bs i f b lt us) in
     let tight = subst IsTight (sym v) (part_at _ i bs b inv.tight (omega (arith, n, lt))).1 in
-    let reach = subst (λ (x : MutableArray). AllReach (mask true (get_or fs i f).schema) (length (g.C.Ahead.rest c.loop-i.cursor)) (nodes x)) (sym v) (reach_at _ fs bs i f b n lt (children_reach _ _ fs _ bs inv.forward inv.grows.each c.requires.offsets)) in
+    let reach = subst (λ (x : MutableArray). AllOffsetsReach (mask true (get_or fs i f).schema) (length (g.C.Ahead.rest c.loop-i.cursor)) x) (sym v) (reach_at _ fs bs i f b n lt (children_reach _ _ fs _ bs inv.shapes inv.forward inv.grows.each c.requires.offsets)) in
     (omega arith, (within.0, (within.1, (has_kind (get_or fs i f).schema b suits, (suits, (tight, reach))))))
 
 pub decode_fields-returns-in_err-decode_value-clause-shapes : goal.decode_fields-returns-in_err-decode_value-clause-shapes
@@ -341,38 +381,38 @@ decode_fields-returns-clause-reads g t c =
 
 -- ---- items
 
-pub decode_items-decode_value-requires : goal.decode_items-decode_value-requires
-decode_items-decode_value-requires g t c κs within =
+pub decode_nested_items-decode_value-requires : goal.decode_nested_items-decode_value-requires
+decode_nested_items-decode_value-requires g t c κs within =
     let inv = c.loop.invariant in
     let d = c.decreases in
     let i = c.args.item.now in
-    (omega arith, (within.0, (within.1, (has_kind i c.loop.child (subst (Suits i) (sym inv.shape) c.requires.suits), (subst (Suits i) (sym inv.shape) c.requires.suits, (inv.tight, reach_on i _ _ _ _ inv.forward inv.grows c.requires.offsets))))))
+    (omega arith, (within.0, (within.1, (has_kind i c.loop.child (subst (Suits i) (sym inv.shape) c.requires.suits), (subst (Suits i) (sym inv.shape) c.requires.suits, (inv.tight, offsets_on i _ _ c.args.child.now c.loop.child inv.shape inv.forward inv.grows c.requires.offsets))))))
 
-pub decode_items-returns-in_err-decode_value-clause-grows : goal.decode_items-returns-in_err-decode_value-clause-grows
-decode_items-returns-in_err-decode_value-clause-grows g t c =
+pub decode_nested_items-returns-in_err-decode_value-clause-grows : goal.decode_nested_items-returns-in_err-decode_value-clause-grows
+decode_nested_items-returns-in_err-decode_value-clause-grows g t c =
     let inv = c.loop.invariant in
     let e = c.in_err-decode_value.ensures in
     grows_then _ _ _ _ _ _ _ inv.forward e.moves.forward inv.grows e.grows
 
-pub decode_items-returns-in_err-decode_value-clause-has_capacity : goal.decode_items-returns-in_err-decode_value-clause-has_capacity
-decode_items-returns-in_err-decode_value-clause-has_capacity g t c = λ h.
+pub decode_nested_items-returns-in_err-decode_value-clause-has_capacity : goal.decode_nested_items-returns-in_err-decode_value-clause-has_capacity
+decode_nested_items-returns-in_err-decode_value-clause-has_capacity g t c = λ h.
     let inv = c.loop.invariant in
     let p = err_from_is_err_and c.from_residual.result c.from_residual.ensures.1 in
     rw (p.1, p.2) (c.in_err-decode_value.ensures.has_capacity (spare_on _ _ _ _ _ _ inv.forward (forward_none _) inv.grows h))
 
-pub decode_items-returns-in_err-decode_value-clause-moves : goal.decode_items-returns-in_err-decode_value-clause-moves
-decode_items-returns-in_err-decode_value-clause-moves g t c =
+pub decode_nested_items-returns-in_err-decode_value-clause-moves : goal.decode_nested_items-returns-in_err-decode_value-clause-moves
+decode_nested_items-returns-in_err-decode_value-clause-moves g t c =
     let inv = c.loop.invariant in
     moves_within _ _ _ _ _ _ _ _ inv.costs inv.forward c.in_err-decode_value.ensures.moves
 
-pub decode_items-returns-in_err-decode_value-clause-reads : goal.decode_items-returns-in_err-decode_value-clause-reads
-decode_items-returns-in_err-decode_value-clause-reads g t c =
+pub decode_nested_items-returns-in_err-decode_value-clause-reads : goal.decode_nested_items-returns-in_err-decode_value-clause-reads
+decode_nested_items-returns-in_err-decode_value-clause-reads g t c =
     let p = err_from_is_err_and c.from_residual.result c.from_residual.ensures.1 in
     let s : c.args.count - c.loop.counter ≡ suc (c.args.count - (c.loop.counter + 1)) = omega arith in
     rw (p.1, p.2) (items-err _ _ _ _ _ _ _ s c.in_err-decode_value.ensures.reads c.loop.invariant.reads)
 
-pub decode_items-loop-preserved : goal.decode_items-loop-preserved
-decode_items-loop-preserved g t c =
+pub decode_nested_items-loop-preserved : goal.decode_nested_items-loop-preserved
+decode_nested_items-loop-preserved g t c =
     let inv = c.loop.invariant in
     let e = c.in_ok-decode_value.ensures in
     let s : c.args.count - c.loop.counter ≡ suc (c.args.count - (c.loop.counter + 1)) = omega arith in
@@ -386,16 +426,16 @@ decode_items-loop-preserved g t c =
       reads = items-next _ _ _ _ _ _ _ _ s e.reads inv.reads;
     }
 
-pub decode_items-returns-clause-reads : goal.decode_items-returns-clause-reads
-decode_items-returns-clause-reads g t c =
+pub decode_nested_items-returns-clause-reads : goal.decode_nested_items-returns-clause-reads
+decode_nested_items-returns-clause-reads g t c =
     items-done _ (c.args.count - c.loop.counter) _ _ _ (omega arith) c.loop.invariant.reads
 
 -- ---- members
 
-pub decode_member-decode_value-requires : goal.decode_member-decode_value-requires
-decode_member-decode_value-requires g t c κs within =
+pub decode_member-decode_no_union-requires : goal.decode_member-decode_no_union-requires
+decode_member-decode_no_union-requires g t c κs within =
     let d = c.decreases in
-    (omega arith, (within.0, (within.1, (has_kind c.args.schema.now c.args.builder.now c.requires.suits, (c.requires.suits, (c.requires.tight, reach_less _ _ _ _ (omega arith) c.requires.offsets))))))
+    (omega arith, (within.0, (within.1, (c.requires.no_union, (has_kind c.args.schema.now c.args.builder.now c.requires.suits, (c.requires.suits, (c.requires.tight, offsets_less _ _ _ c.args.builder.now (omega arith) c.requires.offsets)))))))
 
 pub decode_member-returns-then-null-clause-tight : goal.decode_member-returns-then-null-clause-tight
 decode_member-returns-then-null-clause-tight g t c =
@@ -416,16 +456,20 @@ decode_member-returns-then-null-clause-reads g t c =
 pub decode_member-returns-else-null-clause-grows : goal.decode_member-returns-else-null-clause-grows
 decode_member-returns-else-null-clause-grows g t c =
     let s = c.args.schema.now in
-    grows_wider _ _ _ _ _ (grows_fewer (mask true s) (mask false s) _ _ _ (mask_fewer s) c.decode_value.ensures.grows) (omega arith)
+    grows_wider _ _ _ _ _ (grows_fewer (mask true s) (mask false s) _ _ _ (mask_fewer s) c.decode_no_union.ensures.grows) (omega arith)
 
 pub decode_member-returns-else-null-clause-has_capacity : goal.decode_member-returns-else-null-clause-has_capacity
 decode_member-returns-else-null-clause-has_capacity g t c = λ h.
     let s = c.args.schema.now in
-    c.decode_value.ensures.has_capacity (spare_fewer (mask true s) (mask false s) _ _ _ (mask_fewer s) (omega arith) h)
+    c.decode_no_union.ensures.has_capacity (spare_fewer (mask true s) (mask false s) _ _ _ (mask_fewer s) (omega arith) h)
 
-pub decode_pair-returns-else-index-eq1-clause-reads : goal.decode_pair-returns-else-index-eq1-clause-reads
-decode_pair-returns-else-index-eq1-clause-reads g t c =
-    other_pair _ c.args.index _ _ _ (not_is c.args.index (pos 0) c.if-index-eq0.false) (not_is c.args.index (pos 1) c.if-index-eq1.false)
+pub decode_pair-returns-in-Some-clause-reads : goal.decode_pair-returns-in-Some-clause-reads
+decode_pair-returns-in-Some-clause-reads g t c =
+    pair_gives _ c.decode_member.result _ c.args.index c.args.null_first c.in-Some.null c.args.schema.now _ (sym (rw (to_z-of_z w64 c.args.index c.ranges.index) at c.in-Some.ensures)) c.decode_member.ensures.reads
+
+pub decode_pair-returns-in-None-clause-reads : goal.decode_pair-returns-in-None-clause-reads
+decode_pair-returns-in-None-clause-reads g t c =
+    pair_bad _ c.args.index c.args.null_first c.args.schema.now _ (sym (rw (to_z-of_z w64 c.args.index c.ranges.index) at c.in-None.ensures))
 
 -- ---- records
 
@@ -491,7 +535,7 @@ decode_record-returns-clause-reads g t c =
 pub decode_sized-decode_items-requires : goal.decode_sized-decode_items-requires
 decode_sized-decode_items-requires g t c κs within =
     let d = c.decreases in
-    (omega arith, (within.0, (within.1, (c.requires.suits, (c.requires.tight, reach_less _ _ _ _ (not_longer _ _ c.in-Some.ensures.moves.forward) c.requires.offsets)))))
+    (omega arith, (within.0, (within.1, (c.requires.suits, (c.requires.tight, offsets_less _ _ _ c.args.child.now (not_longer _ _ c.in-Some.ensures.moves.forward) c.requires.offsets)))))
 
 pub decode_sized-returns-in_err-decode_items-clause-grows : goal.decode_sized-returns-in_err-decode_items-clause-grows
 decode_sized-returns-in_err-decode_items-clause-grows g t c =
@@ -544,8 +588,8 @@ decode_union-decode_pair-requires g t c κs within =
     let d = c.decreases in
     let m = members_size ms a b two in
     let n = c.in-Some.ensures.costs.shorter in
-    let r : AllReach (mask true b) (length (g.C.Ahead.rest c.args.cursor.now)) (nodes c.args.builder.now) = subst (λ (xs : List Bool). AllReach xs (length (g.C.Ahead.rest c.args.cursor.now)) (nodes c.args.builder.now)) s.1 c.requires.offsets in
-    (omega arith, (within.0, (within.1, (s.0, (c.requires.tight, reach_less (mask true b) _ _ _ (omega (arith, n)) r)))))
+    let r : AllOffsetsReach (mask true b) (length (g.C.Ahead.rest c.args.cursor.now)) c.args.builder.now = subst (λ (xs : List Bool). AllOffsetsReach xs (length (g.C.Ahead.rest c.args.cursor.now)) c.args.builder.now) s.1 c.requires.offsets in
+    (omega arith, (within.0, (within.1, (second_no_union ms a b _ two (c.is_null.ensures.0 c.if-is_null.true) c.requires.suits, (s.0, (c.requires.tight, offsets_less (mask true b) _ _ c.args.builder.now (omega (arith, n)) r))))))
 
 pub decode_union-decode_pair-requires-else-is_null : goal.decode_union-decode_pair-requires-else-is_null
 decode_union-decode_pair-requires-else-is_null g t c κs within =
@@ -557,8 +601,8 @@ decode_union-decode_pair-requires-else-is_null g t c κs within =
     let d = c.decreases in
     let m = members_size ms a b two in
     let n = c.in-Some.ensures.costs.shorter in
-    let r : AllReach (mask true a) (length (g.C.Ahead.rest c.args.cursor.now)) (nodes c.args.builder.now) = subst (λ (xs : List Bool). AllReach xs (length (g.C.Ahead.rest c.args.cursor.now)) (nodes c.args.builder.now)) s.1 c.requires.offsets in
-    (omega arith, (within.0, (within.1, (s.0, (c.requires.tight, reach_less (mask true a) _ _ _ (omega (arith, n)) r)))))
+    let r : AllOffsetsReach (mask true a) (length (g.C.Ahead.rest c.args.cursor.now)) c.args.builder.now = subst (λ (xs : List Bool). AllOffsetsReach xs (length (g.C.Ahead.rest c.args.cursor.now)) c.args.builder.now) s.1 c.requires.offsets in
+    (omega arith, (within.0, (within.1, (first_no_union ms a b _ two (λ h. let q : true ≡ false = sym (c.is_null.ensures.1 h) ∙ c.if-is_null.false in absurd cc) c.requires.suits, (s.0, (c.requires.tight, offsets_less (mask true a) _ _ c.args.builder.now (omega (arith, n)) r))))))
 
 pub decode_union-returns-then-is_null-clause-grows : goal.decode_union-returns-then-is_null-clause-grows
 decode_union-returns-then-is_null-clause-grows g t c =
@@ -628,13 +672,7 @@ pub decode_value-decode_union-requires : goal.decode_value-decode_union-requires
 decode_value-decode_union-requires g t c κs within =
     let d = c.decreases in
     let z = union_size c.args.schema.now c.in-Union.members c.as_slice.result.now c.in-Union.is c.as_slice.ensures in
-    (omega arith, (within.0, (within.1, (union_suits c.args.schema.now c.in-Union.members c.as_slice.result.now c.in-Union.is c.as_slice.ensures _ c.requires.suits, (c.requires.tight, union_reach c.args.schema.now c.in-Union.members c.as_slice.result.now c.in-Union.is c.as_slice.ensures _ _ c.requires.offsets)))))
-
-pub decode_value-decode_record-requires : goal.decode_value-decode_record-requires
-decode_value-decode_record-requires g t c κs within =
-    let d = c.decreases in
-    let a = record_suits c.args.schema.now c.in-Record.record c.as_slice-in-Record.result.now c.args.builder.now c.in-Struct.records _ c.in-Record.is c.in-Struct.is c.in-Struct.records-is c.as_slice-in-Record.ensures c.requires.suits in
-    ((let e = ap the_size c.in-Record.is in let a = c.as_slice-in-Record.ensures in search (rules, the_lemmas)), (within.0, (within.1, (a.0, (a.1, (record_is_tight c.args.schema.now c.in-Record.record c.as_slice-in-Record.result.now c.args.builder.now c.in-Struct.records _ c.in-Record.is c.in-Struct.is c.in-Struct.records-is c.as_slice-in-Record.ensures c.requires.tight, record_reaches c.args.schema.now c.in-Record.record c.as_slice-in-Record.result.now c.args.builder.now c.in-Struct.records _ c.in-Record.is c.in-Struct.is c.in-Struct.records-is c.as_slice-in-Record.ensures _ c.requires.offsets))))))
+    (omega arith, (within.0, (within.1, (union_suits c.args.schema.now c.in-Union.members c.as_slice.result.now c.in-Union.is c.as_slice.ensures _ c.requires.suits, (c.requires.tight, union_reach c.args.schema.now c.in-Union.members c.as_slice.result.now c.in-Union.is c.as_slice.ensures _ c.args.builder.now c.requires.offsets)))))
 
 pub decode_value-returns-in-Union-clause-grows : goal.decode_value-returns-in-Union-clause-grows
 decode_value-returns-in-Union-clause-grows g t c = union_grows c.args.schema.now c.in-Union.members c.as_slice.result.now c.in-Union.is c.as_slice.ensures _ _ _ c.decode_union.ensures.grows
@@ -645,21 +683,29 @@ decode_value-returns-in-Union-clause-has_capacity g t c = λ h. c.decode_union.e
 pub decode_value-returns-in-Union-clause-reads : goal.decode_value-returns-in-Union-clause-reads
 decode_value-returns-in-Union-clause-reads g t c = union_gives c.args.schema.now c.in-Union.members c.as_slice.result.now c.in-Union.is c.as_slice.ensures _ c.decode_union.result _ _ c.decode_union.ensures.reads
 
-pub decode_value-returns-in-Struct-clause-grows : goal.decode_value-returns-in-Struct-clause-grows
-decode_value-returns-in-Struct-clause-grows g t c =
-    let k : Grows (mask false c.args.schema.now) (passed (g.C.Ahead.rest c.args.cursor.now) (g.C.Ahead.rest c.decode_record.new.cursor)) (nodes c.args.builder.now) (nodes (Struct c.decode_record.new.records)) = record_grown c.args.schema.now c.in-Record.record c.as_slice-in-Record.result.now c.args.builder.now c.in-Struct.records _ c.in-Record.is c.in-Struct.is c.in-Struct.records-is c.as_slice-in-Record.ensures _ _ c.decode_record.ensures.grows in
+-- ---- values that are no union
+
+pub decode_no_union-decode_record-requires : goal.decode_no_union-decode_record-requires
+decode_no_union-decode_record-requires g t c κs within =
+    let d = c.decreases in
+    let a = record_suits c.args.schema.now c.in-Record.record c.as_slice.result.now c.args.builder.now c.in-Struct.records _ c.in-Record.is c.in-Struct.is c.in-Struct.records-is c.as_slice.ensures c.requires.suits in
+    ((let e = ap the_size c.in-Record.is in let a = c.as_slice.ensures in search (rules, the_lemmas)), (within.0, (within.1, (a.0, (a.1, (record_is_tight c.args.schema.now c.in-Record.record c.as_slice.result.now c.args.builder.now c.in-Struct.records _ c.in-Record.is c.in-Struct.is c.in-Struct.records-is c.as_slice.ensures c.requires.tight, record_reaches c.args.schema.now c.in-Record.record c.as_slice.result.now c.args.builder.now c.in-Struct.records _ c.in-Record.is c.in-Struct.is c.in-Struct.records-is c.as_slice.ensures _ c.requires.offsets))))))
+
+pub decode_no_union-returns-in-Struct-clause-grows : goal.decode_no_union-returns-in-Struct-clause-grows
+decode_no_union-returns-in-Struct-clause-grows g t c =
+    let k : Grows (mask false c.args.schema.now) (passed (g.C.Ahead.rest c.args.cursor.now) (g.C.Ahead.rest c.decode_record.new.cursor)) (nodes c.args.builder.now) (nodes (Struct c.decode_record.new.records)) = record_grown c.args.schema.now c.in-Record.record c.as_slice.result.now c.args.builder.now c.in-Struct.records _ c.in-Record.is c.in-Struct.is c.in-Struct.records-is c.as_slice.ensures _ _ c.decode_record.ensures.grows in
     search rules
 
-pub decode_value-returns-in-Struct-clause-has_capacity : goal.decode_value-returns-in-Struct-clause-has_capacity
-decode_value-returns-in-Struct-clause-has_capacity g t c = λ h. c.decode_record.ensures.has_capacity (record_spare_below c.args.schema.now c.in-Record.record c.as_slice-in-Record.result.now c.args.builder.now c.in-Struct.records _ c.in-Record.is c.in-Struct.is c.in-Struct.records-is c.as_slice-in-Record.ensures _ h)
+pub decode_no_union-returns-in-Struct-clause-has_capacity : goal.decode_no_union-returns-in-Struct-clause-has_capacity
+decode_no_union-returns-in-Struct-clause-has_capacity g t c = λ h. c.decode_record.ensures.has_capacity (record_spare_below c.args.schema.now c.in-Record.record c.as_slice.result.now c.args.builder.now c.in-Struct.records _ c.in-Record.is c.in-Struct.is c.in-Struct.records-is c.as_slice.ensures _ h)
 
-pub decode_value-returns-in-Struct-clause-reads : goal.decode_value-returns-in-Struct-clause-reads
-decode_value-returns-in-Struct-clause-reads g t c =
-    let k = record_given c.args.schema.now c.in-Record.record c.as_slice-in-Record.result.now c.args.builder.now c.in-Struct.records _ c.in-Record.is c.in-Struct.is c.in-Struct.records-is c.as_slice-in-Record.ensures {X = Unit {0}} (λ _. (builder_slots (Struct c.decode_record.new.records), g.C.Ahead.rest c.decode_record.new.cursor)) c.decode_record.result _ c.decode_record.ensures.reads in
+pub decode_no_union-returns-in-Struct-clause-reads : goal.decode_no_union-returns-in-Struct-clause-reads
+decode_no_union-returns-in-Struct-clause-reads g t c =
+    let k = record_given c.args.schema.now c.in-Record.record c.as_slice.result.now c.args.builder.now c.in-Struct.records _ c.in-Record.is c.in-Struct.is c.in-Struct.records-is c.as_slice.ensures {X = Unit {0}} (λ _. (builder_slots (Struct c.decode_record.new.records), g.C.Ahead.rest c.decode_record.new.cursor)) c.decode_record.result _ c.decode_record.ensures.reads in
     search rules
 
-pub decode_value-returns-in_default : goal.decode_value-returns-in_default
-decode_value-returns-in_default g t c =
+pub decode_no_union-returns-in_default : goal.decode_no_union-returns-in_default
+decode_no_union-returns-in_default g t c =
     let e = c.decode_flat.ensures in
     record {
       shape = e.shape;
@@ -673,14 +719,20 @@ decode_value-returns-in_default g t c =
       reads = e.reads;
     }
 
-pub decode_value-unreachable-requires : goal.decode_value-unreachable-requires
-decode_value-unreachable-requires g t c =
-    let k = list_kind c.args.schema.now c.in-Array.item c.args.builder.now c.in-Array.is c.requires.suits in
-    let n = c.in_default-builder.not-List in
-    search (rules, builder_lemmas)
+pub decode_no_union-decode_flat-requires-clause-kind : goal.decode_no_union-decode_flat-requires-clause-kind
+decode_no_union-decode_flat-requires-clause-kind g t c = has_flat_kind c.args.schema.now c.args.builder.now c.requires.suits
 
-pub decode_value-unreachable-requires-in_default-builder-2 : goal.decode_value-unreachable-requires-in_default-builder-2
-decode_value-unreachable-requires-in_default-builder-2 g t c =
+pub decode_items-decode_flat_items-requires-clause-kind : goal.decode_items-decode_flat_items-requires-clause-kind
+decode_items-decode_flat_items-requires-clause-kind g t c = has_flat_kind c.args.item.now c.args.child.now c.requires.suits
+
+pub decode_no_union-unreachable-requires : goal.decode_no_union-unreachable-requires
+decode_no_union-unreachable-requires g t c =
+    no_list c.args.schema.now c.in-Array.item c.args.builder.now c.in-Array.is c.requires.suits
+    (λ k. let n = c.in_default-builder.not-List in search (rules, builder_lemmas))
+    (λ k. let n = c.in_default-builder.not-LargeList in search (rules, builder_lemmas))
+
+pub decode_no_union-unreachable-requires-in_default-builder-2 : goal.decode_no_union-unreachable-requires-in_default-builder-2
+decode_no_union-unreachable-requires-in_default-builder-2 g t c =
     let k = record_kind c.args.schema.now c.in-Record.record c.args.builder.now c.in-Record.is c.requires.suits in
     let n = c.in_default-builder-2.not-Struct in
     search (rules, builder_lemmas)

@@ -28,8 +28,8 @@ invariant-decode_blocks-loop-count g l = record {
 abbrev pub decreases-decode_blocks-loop-count : goal.decreases-decode_blocks-loop-count
 decreases-decode_blocks-loop-count g l = length (g.C.Ahead.rest l.cursor)
 
-abbrev pub invariant-decode_items-loop : goal.invariant-decode_items-loop
-invariant-decode_items-loop g l = record {
+abbrev pub invariant-decode_nested_items-loop : goal.invariant-decode_nested_items-loop
+invariant-decode_nested_items-loop g l = record {
   same : g.C.Ahead.whose l.cursor ≡ g.C.Ahead.whose l.fn.cursor;
   shape : shape l.child ≡ shape l.fn.child;
   tight : IsTight l.child;

@@ -1,21 +1,21 @@
 use Rattle.std.proofs.Common.{◌≡◌, ◌∙◌, ◌-◌, ◌+◌, suc, sym, subst, arith}
 use Rattle.std.proofs.lemmas.Result.{err_from_is_err_and}
-use Rattle.arrow_builders.proofs.Heads.{same_kind}
 use Rattle.avro_skip.proofs.Counting.{forward_more, forward_none, moves_within, kept_then}
 use Rattle.avro_flat.proofs.Items.{items-done, items-next, items-err}
 use Rattle.avro_decode.specs.Suits.{Suits}
-use Rattle.avro_decode.proofs.Going.{grows_then, reach_on, spare_on}
+use Rattle.avro_decode.proofs.Going.{grows_then, offsets_on, spare_on}
+use Rattle.avro_decode.proofs.Members.{has_flat_kind}
 use Rattle.avro_decode.proofs.items.decode_each.Goals as goal
 
 pub decode_flat-requires : goal.decode_flat-requires
 decode_flat-requires g c =
     let inv = c.loop.invariant in
-    let i = c.args.item.now in
+    let i = c.args.schema.now in
     record {
       flat = c.requires.flat;
-      kind = same_kind _ _ inv.shape ∙ c.requires.kind;
+      kind = has_flat_kind i c.loop.builder (subst (Suits i) (sym inv.shape) c.requires.suits);
       suits = subst (Suits i) (sym inv.shape) c.requires.suits;
-      offsets = reach_on i _ _ _ _ inv.forward inv.grows c.requires.offsets;
+      offsets = offsets_on i _ _ c.args.builder.now c.loop.builder inv.shape inv.forward inv.grows c.requires.offsets;
     }
 
 pub loop-preserved : goal.loop-preserved

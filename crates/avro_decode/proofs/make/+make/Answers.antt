@@ -16,7 +16,15 @@ pub make_builder-make_builder-requires : goal.make_builder-make_builder-requires
 make_builder-make_builder-requires t c =
     let s = c.args.schema.now in
     let of = c.args.data_type.now in
-    (let e = ap the_size c.in-Array.is in let a = ap the_size c.get.ensures in let d = c.decreases in search (rules, the_lemmas), (item_kept s of c.in-Array.item c.get.result.now c.in-Array.is c.get.ensures c.requires.kept, item_typed s of c.in-Array.item c.get.result.now c.in-Array.is c.get.ensures c.in-List.field c.get-in-Array.result.now c.in-List.is c.get-in-Array.ensures c.requires.typed))
+    (let e = ap the_size c.in-Array.is in let a = ap the_size c.get.ensures in let d = c.decreases in search (rules, the_lemmas), (item_kept s of c.in-Array.item c.get.result.now c.in-Array.is c.get.ensures c.requires.kept, item_typed s of c.in-Array.item c.get.result.now c.in-Array.is c.get.ensures false c.in-List.field c.get-in-List.result.now c.in-List.is c.get-in-List.ensures c.requires.typed))
+
+pub make_builder-make_builder-requires-in-LargeList : goal.make_builder-make_builder-requires-in-LargeList
+make_builder-make_builder-requires-in-LargeList t c =
+    let s = c.args.schema.now in
+    let of = c.args.data_type.now in
+    let i = c.get-in-LargeList in
+    let f = c.get-in-LargeList-2 in
+    (let e = ap the_size c.in-Array.is in let a = ap the_size i.ensures in let d = c.decreases in search (rules, the_lemmas), (item_kept s of c.in-Array.item i.result.now c.in-Array.is i.ensures c.requires.kept, item_typed s of c.in-Array.item i.result.now c.in-Array.is i.ensures true c.in-LargeList.field f.result.now c.in-LargeList.is f.ensures c.requires.typed))
 
 pub make_builder-make_children-requires : goal.make_builder-make_children-requires
 make_builder-make_children-requires t c =
@@ -29,11 +37,19 @@ make_builder-make_children-requires t c =
 pub make_builder-make_struct-requires : goal.make_builder-make_struct-requires
 make_builder-make_struct-requires t c = record { empty = made_empty _ _ _ c.in_ok-values-in-Record.ensures.made }
 
-pub make_builder-returns-in_ok-values-in-Array-clause-made : goal.make_builder-returns-in_ok-values-in-Array-clause-made
-make_builder-returns-in_ok-values-in-Array-clause-made t c =
+pub make_builder-returns-in_ok-values-in-List-clause-made : goal.make_builder-returns-in_ok-values-in-List-clause-made
+make_builder-returns-in_ok-values-in-List-clause-made t c =
     let s = c.args.schema.now in
     let of = c.args.data_type.now in
-    if_ok_both _ _ _ c.make_list.result (λ (b : MutableArray) sh n. new_list s of c.in-Array.item c.get.result.now c.in-Array.is c.get.ensures c.in-List.field c.get-in-Array.result.now c.in-List.is c.get-in-Array.ensures c.in_ok-values-in-Array.values b c.in_ok-values-in-Array.ensures.made sh n) c.make_list.ensures.shape c.make_list.ensures.empty
+    if_ok_both _ _ _ c.make_list.result (λ (b : MutableArray) sh n. new_list s of c.in-Array.item c.get.result.now c.in-Array.is c.get.ensures false c.in-List.field c.get-in-List.result.now c.in-List.is c.get-in-List.ensures c.in_ok-values-in-List.values b c.in_ok-values-in-List.ensures.made sh n) c.make_list.ensures.shape c.make_list.ensures.empty
+
+pub make_builder-returns-in_ok-values-in-LargeList-clause-made : goal.make_builder-returns-in_ok-values-in-LargeList-clause-made
+make_builder-returns-in_ok-values-in-LargeList-clause-made t c =
+    let s = c.args.schema.now in
+    let of = c.args.data_type.now in
+    let i = c.get-in-LargeList in
+    let f = c.get-in-LargeList-2 in
+    if_ok_both _ _ _ c.make_large_list.result (λ (b : MutableArray) sh n. new_list s of c.in-Array.item i.result.now c.in-Array.is i.ensures true c.in-LargeList.field f.result.now c.in-LargeList.is f.ensures c.in_ok-values-in-LargeList.values b c.in_ok-values-in-LargeList.ensures.made sh n) c.make_large_list.ensures.shape c.make_large_list.ensures.empty
 
 pub make_builder-returns-in_ok-values-in-Record-clause-made : goal.make_builder-returns-in_ok-values-in-Record-clause-made
 make_builder-returns-in_ok-values-in-Record-clause-made t c =
@@ -57,7 +73,7 @@ make_children-make_builder-requires t c =
     let q : the_size (get_or xs i a).schema ≤ field_size (get_or xs i a) = search (rules, the_lemmas) in
     let d = c.decreases in
     let less : i < length fs = omega (arith, as_many fs xs c.requires.typed, lt) in
-    (omega arith, (c.requires.kept i a lt, (zip_at (λ y x. HasColumnType false x.schema y) fs xs i f a c.requires.typed less).1))
+    (omega arith, (c.requires.kept i a lt, (zip_at (λ y x. HasColumnType true x.schema y) fs xs i f a c.requires.typed less).1))
 
 pub make_children-loop-i-preserved : goal.make_children-loop-i-preserved
 make_children-loop-i-preserved t c =

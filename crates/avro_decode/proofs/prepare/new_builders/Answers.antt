@@ -1,5 +1,5 @@
 use Rattle.std.proofs.Common.{arith}
-use Rattle.avro_decode.proofs.NewBuilders.{kept_pushed, kept_passed, kept_ended, some_of, field_is_kept, field_is_typed}
+use Rattle.avro_decode.proofs.NewBuilders.{kept_pushed, kept_passed, kept_ended, some_of, field_is_kept, field_fits}
 use Rattle.avro_decode.proofs.prepare.new_builders.Goals as goal
 use Rattle.avro_decode.proofs.prepare.new_builders.Goals.{then-projection-i+in_ok-builder+in_ok-push, else-projection-i}
 
@@ -10,7 +10,7 @@ make_builder-requires c =
     let a = c.index-avro_fields-i.result in
     record {
       kept = field_is_kept c.args.fields.now c.args.avro_fields.now c.args.projection.now b c.loop-i.i f a c.loop-i-test.true c.if-projection-i.true;
-      typed = field_is_typed c.args.fields.now c.args.avro_fields.now c.args.projection.now b c.loop-i.i f a c.loop-i-test.true c.if-projection-i.true;
+      typed = field_fits c.args.fields.now c.args.avro_fields.now c.args.projection.now b c.loop-i.i f a c.loop-i-test.true c.if-projection-i.true;
     }
 
 pub loop-i-preserved : goal.loop-i-preserved

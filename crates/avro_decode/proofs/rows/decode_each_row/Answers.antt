@@ -25,7 +25,7 @@ decode_row-requires g c =
       carried = c.requires.carried;
       suits = suit_same fs _ _ inv.shapes c.requires.suits;
       tight = inv.tight;
-      offsets = children_reach _ _ fs _ _ inv.forward inv.grows.each c.requires.offsets;
+      offsets = children_reach _ _ fs _ _ inv.shapes inv.forward inv.grows.each c.requires.offsets;
     }
 
 pub returns-in_err-decode_row-clause-reads : goal.returns-in_err-decode_row-clause-reads

@@ -36,7 +36,7 @@ decode_field-requires g c =
     let n = kept_here c.loop-i.i c.loop-i.column _ _ f c.loop-i-test.true c.requires.lengths c.index-avro_fields-i.is fs inv.left c.if-projection-i.true in
     let us = suit_same fs _ bs inv.shapes c.requires.suits in
     let l = suit_length fs bs us in
-    let r = children_reach _ _ fs _ bs inv.forward inv.grows.each c.requires.offsets in
+    let r = children_reach _ _ fs _ bs inv.shapes inv.forward inv.grows.each c.requires.offsets in
     record {
       suits = suits_here fs bs c.loop-i.column f b n.0 n.1 us;
       tight = all_here IsTight bs c.loop-i.column b (omega (arith, l, n.0)) inv.tight;

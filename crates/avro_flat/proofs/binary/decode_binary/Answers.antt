@@ -8,7 +8,7 @@ use Rattle.avro_flat.proofs.binary.decode_binary.Goals as goal
 pub push_binary-requires : goal.push_binary-requires
 push_binary-requires g c =
     let t = c.in-Some-take.ensures.read in
-    record { offsets = string_reach _ _ c.as_slice.result.now _ _ c.in-Some.ensures.costs.shorter (t.0, c.as_slice.ensures ∙ t.1, t.2) (content_node c.args.values.now) c.requires.offsets }
+    record { offsets = string_reach _ _ c.as_slice.result.now _ _ c.in-Some.ensures.costs.shorter (t.0, c.as_slice.ensures ∙ t.1, t.2) _ (content_node c.args.values.now) c.requires.offsets }
 
 pub returns-clause-reads : goal.returns-clause-reads
 returns-clause-reads g c =

@@ -8,7 +8,7 @@ use Rattle.avro_flat.proofs.strings.decode_string.Goals as goal
 pub push_string-requires : goal.push_string-requires
 push_string-requires g c =
     let t = c.in-Some-take.ensures.read in
-    record { offsets = string_reach _ _ c.as_slice.result.now _ _ c.in-Some.ensures.costs.shorter (t.0, c.as_slice.ensures ∙ t.1, t.2) (content_node c.args.values.now) c.requires.offsets }
+    record { offsets = string_reach _ _ c.as_slice.result.now _ _ c.in-Some.ensures.costs.shorter (t.0, c.as_slice.ensures ∙ t.1, t.2) _ (content_node c.args.values.now) c.requires.offsets }
 
 pub returns-clause-reads : goal.returns-clause-reads
 returns-clause-reads g c =

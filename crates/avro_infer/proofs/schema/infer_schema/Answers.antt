@@ -2,6 +2,7 @@ use Rattle.std.proofs.Common.{◌∙◌, arith}
 use Rattle.std.proofs.lemmas.Result.{err_from_is_err_and}
 use Rattle.avro_grammar.specs.Inferred.{own_doc}
 use Rattle.avro_infer.proofs.Inferring.{column_is, columns_next, columns_not, refused_map, some_in_root, none_in_fields}
+use Rattle.avro_infer.proofs.RootColumns.{memory_alone, typed_columns}
 use Rattle.avro_infer.proofs.schema.infer_schema.Goals as goal
 
 pub returns-in_err-data_type-clause-err : goal.returns-in_err-data_type-clause-err
@@ -22,3 +23,11 @@ pub returns-clause-ok : goal.returns-clause-ok
 returns-clause-ok c =
     let inv = c.loop-field.invariant in
     none_in_fields c.args.root.now _ c.loop-field.field-index _ (omega (arith, c.loop-field-test.false)) inv.1 inv.0
+
+pub returns-in_err-data_type-clause-carried : goal.returns-in_err-data_type-clause-carried
+returns-in_err-data_type-clause-carried c = memory_alone c.args.root.now _ (returns-in_err-data_type-clause-err c)
+
+pub returns-clause-typed : goal.returns-clause-typed
+returns-clause-typed c =
+    let inv = c.loop-field.invariant in
+    rw c.from_vec.ensures (typed_columns c.args.root.now _ c.loop-field.field-index _ (omega (arith, c.loop-field-test.false)) inv.1 inv.0)

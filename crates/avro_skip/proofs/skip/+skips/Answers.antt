@@ -16,37 +16,39 @@ use Rattle.avro_skip.proofs.skip.+skips.Goals as goal
 
 -- ---- a value's arms
 
-pub skip_value-skip_fields-requires : goal.skip_value-skip_fields-requires
-skip_value-skip_fields-requires g t c κs within =
-    let d = c.decreases in
-    ((let e = ap the_size c.in-Record.is in let a = c.as_slice.ensures in search (rules, the_lemmas)), (within.0, (within.1, (record_carried c.args.schema.now c.in-Record.record c.as_slice.result.now c.in-Record.is c.as_slice.ensures c.requires.carried).1)))
-
-pub skip_value-returns-in-Record-clause-shorter : goal.skip_value-returns-in-Record-clause-shorter
-skip_value-returns-in-Record-clause-shorter g t c =
-    let a = record_carried c.args.schema.now c.in-Record.record c.as_slice.result.now c.in-Record.is c.as_slice.ensures c.requires.carried in
-    record_shorter c.skip_fields.result _ _ _ a.0 c.skip_fields.ensures.shorter
-
-pub skip_value-returns-in-Record-clause-passes : goal.skip_value-returns-in-Record-clause-passes
-skip_value-returns-in-Record-clause-passes g t c =
-    record_passes c.args.schema.now c.in-Record.record c.as_slice.result.now c.in-Record.is c.as_slice.ensures g.A.Ahead.rest g.A.Ahead.shown g.A.Ahead.calls c.args.cursor.now c.skip_fields.new.cursor c.skip_fields.result (g.A.Ahead.rest c.args.cursor.now) c.skip_fields.ensures.passes
-
-pub skip_value-skip_blocks-requires : goal.skip_value-skip_blocks-requires
-skip_value-skip_blocks-requires g t c κs within =
-    let d = c.decreases in
-    ((let e = ap the_size c.in-Array.is in let a = c.get.ensures in search (rules, the_lemmas)), (within.0, (within.1, array_carried c.args.schema.now c.in-Array.item c.get.result.now c.in-Array.is c.get.ensures c.requires.carried)))
-
-pub skip_value-returns-in-Array-clause-passes : goal.skip_value-returns-in-Array-clause-passes
-skip_value-returns-in-Array-clause-passes g t c =
-    array_passes c.args.schema.now c.in-Array.item c.get.result.now c.in-Array.is c.get.ensures g.A.Ahead.rest g.A.Ahead.shown g.A.Ahead.calls c.args.cursor.now c.skip_blocks.new.cursor c.skip_blocks.result (g.A.Ahead.rest c.args.cursor.now) c.skip_blocks.ensures.passes
-
 pub skip_value-skip_union-requires : goal.skip_value-skip_union-requires
 skip_value-skip_union-requires g t c κs within =
     let d = c.decreases in
-    ((let e = ap the_size c.in-Union.is in let a = c.as_slice-in-Union.ensures in search (rules, the_lemmas)), (within.0, (within.1, union_carried c.args.schema.now c.in-Union.members c.as_slice-in-Union.result.now c.in-Union.is c.as_slice-in-Union.ensures c.requires.carried)))
+    ((let e = ap the_size c.in-Union.is in let a = c.as_slice.ensures in search (rules, the_lemmas)), (within.0, (within.1, union_carried c.args.schema.now c.in-Union.members c.as_slice.result.now c.in-Union.is c.as_slice.ensures c.requires.carried)))
 
 pub skip_value-returns-in-Union-clause-passes : goal.skip_value-returns-in-Union-clause-passes
 skip_value-returns-in-Union-clause-passes g t c =
-    union_passes c.args.schema.now c.in-Union.members c.as_slice-in-Union.result.now c.in-Union.is c.as_slice-in-Union.ensures g.A.Ahead.rest g.A.Ahead.shown g.A.Ahead.calls c.args.cursor.now c.skip_union.new.cursor c.skip_union.result (g.A.Ahead.rest c.args.cursor.now) c.skip_union.ensures.passes
+    union_passes c.args.schema.now c.in-Union.members c.as_slice.result.now c.in-Union.is c.as_slice.ensures g.A.Ahead.rest g.A.Ahead.shown g.A.Ahead.calls c.args.cursor.now c.skip_union.new.cursor c.skip_union.result (g.A.Ahead.rest c.args.cursor.now) c.skip_union.ensures.passes
+
+-- ---- a value that is no union
+
+pub skip_no_union-skip_fields-requires : goal.skip_no_union-skip_fields-requires
+skip_no_union-skip_fields-requires g t c κs within =
+    let d = c.decreases in
+    ((let e = ap the_size c.in-Record.is in let a = c.as_slice.ensures in search (rules, the_lemmas)), (within.0, (within.1, (record_carried c.args.schema.now c.in-Record.record c.as_slice.result.now c.in-Record.is c.as_slice.ensures c.requires.carried).1)))
+
+pub skip_no_union-returns-in-Record-clause-shorter : goal.skip_no_union-returns-in-Record-clause-shorter
+skip_no_union-returns-in-Record-clause-shorter g t c =
+    let a = record_carried c.args.schema.now c.in-Record.record c.as_slice.result.now c.in-Record.is c.as_slice.ensures c.requires.carried in
+    record_shorter c.skip_fields.result _ _ _ a.0 c.skip_fields.ensures.shorter
+
+pub skip_no_union-returns-in-Record-clause-passes : goal.skip_no_union-returns-in-Record-clause-passes
+skip_no_union-returns-in-Record-clause-passes g t c =
+    record_passes c.args.schema.now c.in-Record.record c.as_slice.result.now c.in-Record.is c.as_slice.ensures g.A.Ahead.rest g.A.Ahead.shown g.A.Ahead.calls c.args.cursor.now c.skip_fields.new.cursor c.skip_fields.result (g.A.Ahead.rest c.args.cursor.now) c.skip_fields.ensures.passes
+
+pub skip_no_union-skip_blocks-requires : goal.skip_no_union-skip_blocks-requires
+skip_no_union-skip_blocks-requires g t c κs within =
+    let d = c.decreases in
+    ((let e = ap the_size c.in-Array.is in let a = c.get.ensures in search (rules, the_lemmas)), (within.0, (within.1, array_carried c.args.schema.now c.in-Array.item c.get.result.now c.in-Array.is c.get.ensures c.requires.carried)))
+
+pub skip_no_union-returns-in-Array-clause-passes : goal.skip_no_union-returns-in-Array-clause-passes
+skip_no_union-returns-in-Array-clause-passes g t c =
+    array_passes c.args.schema.now c.in-Array.item c.get.result.now c.in-Array.is c.get.ensures g.A.Ahead.rest g.A.Ahead.shown g.A.Ahead.calls c.args.cursor.now c.skip_blocks.new.cursor c.skip_blocks.result (g.A.Ahead.rest c.args.cursor.now) c.skip_blocks.ensures.passes
 
 -- ---- unions
 

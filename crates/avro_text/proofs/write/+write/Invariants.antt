@@ -1,6 +1,7 @@
 -- What was written and what is left to write are the whole.
 use Rattle.std.proofs.Common.{◌≡◌, ◌++◌, drop, map}
-use Rattle.avro_text.specs.Writing.{led, joined, schema_text_of, field_text_of}
+use Rattle.avro_text.specs.Writing.{joined, schema_text_of, field_text_of}
+use Rattle.avro_text.proofs.Joins.{led}
 use Rattle.avro_text.proofs.write.+write.Given as goal
 
 abbrev pub invariant-push_members-loop-member : goal.invariant-push_members-loop-member

@@ -15,13 +15,13 @@ push_columns-requires c =
 pub returns-in_err-chunk-clause-err : goal.returns-in_err-chunk-clause-err
 returns-in_err-chunk-clause-err c =
     let p = err_from_is_err_and c.from_residual.result c.from_residual.ensures.1 in
-    let block : BlockWords = record { rows = c.args.block.now.number_of_rows; avro_fields = c.args.avro_fields.now; projection = c.args.projection.now } in
+    let block : BlockWords = record { rows = c.args.block.now.number_of_rows; avro_fields = c.args.avro_fields.now; projection = c.args.projection.now; large = c.args.large } in
     rw (p.1, p.2) (is_wrong block c.args.fields.now c.args.block.now.bytes c.requires.lengths c.requires.typed c.requires.within _ c.in_err-chunk.ensures.err)
 
 pub returns-clause-ok : goal.returns-clause-ok
 returns-clause-ok c =
     let read = c.in_ok-chunk.ensures in
-    let block : BlockWords = record { rows = c.args.block.now.number_of_rows; avro_fields = c.args.avro_fields.now; projection = c.args.projection.now } in
+    let block : BlockWords = record { rows = c.args.block.now.number_of_rows; avro_fields = c.args.avro_fields.now; projection = c.args.projection.now; large = c.args.large } in
     let valid : IsValid block c.args.block.now.bytes =
     record { fields = c.args.fields.now; typed = c.requires.typed; valid = read.valid } in
     block_shown block c.args.fields.now _ _ _ _ _ _ _ valid read.together.lengths.0 read.data_types read.columns c.arrays.ensures.arrays c.as_slice.ensures.value c.in_ok-names.ensures.ok c.new-lines.ensures c.in_ok-push_columns.ensures.ok

@@ -1,4 +1,4 @@
--- Each turn takes the symbol before a comma; what is behind it is text.
+-- Each turn takes the symbol before a comma; what follows it is text.
 use Rattle.std.proofs.Common.{◌∙◌, ◌∷◌, [], ◌++◌, ap, sym, subst, rules, arith}
 use Rattle.field_words.specs.Types.{AreSymbols}
 use Rattle.field_words.proofs.Bytes.{none_lacks, split_is, split_lacks}

@@ -12,7 +12,7 @@ use Rattle.arrow_array.specs.Falls.{children_below}
 use Rattle.arrow_array.specs.Lent.{part_slots}
 use Rattle.arrow_array.specs.Slots.{slot_at}
 use Rattle.arrow_array.proofs.Records.{capacity}
-use Rattle.json_text.specs.JsonText.{text, members}
+use Rattle.json_text.specs.JsonText.{text, field_members}
 use Rattle.json_text.proofs.Joined.{joined_more, closed, named, map_at, map_length, part_at, part_length}
 use Rattle.json_text.proofs.Records.{same_length, member_at, members_length, fields_at, looked_up_at, struct_children}
 use Rattle.json_text.proofs.Forms.{appended, list_is, fixed_list_is, struct_is, value_is}
@@ -29,14 +29,14 @@ push_list-loop-k-preserved t c =
     joined_more (c.args.out.now.items ++ codes "[") _ _ _ _ (map f xs) c.loop-k.k (omega (arith, map_length f xs, within)) here c.loop-k.invariant c.in_ok-push_comma.ensures.ok
     c.in_ok-push_slot.ensures.ok
 
-pub push_list-returns-clause-ok : goal.push_list-returns-clause-ok
-push_list-returns-clause-ok t c =
+pub push_list-returns : goal.push_list-returns
+push_list-returns t c =
     let part = c.args.part.now in
     let f = text (array_type part.array.now) in
     let xs = part_slots part in
     let n = part_length (array_slots part.array.now) part.start part.end c.requires.order c.requires.within in
     let done : c.loop-k.k ≡ length (map f xs) = omega (arith, map_length f xs, n) in
-    rw c.if-not-is_valid.false (on_ok_weaker c.push-2.result (λ last. closed c.args.out.now.items (codes "[") (codes "]") _ _ (map f xs) c.loop-k.k done c.loop-k.invariant last) c.push-2.ensures.ok)
+    record { ok = rw c.if-not-is_valid.false (on_ok_weaker c.push-2.result (λ last. closed c.args.out.now.items (codes "[") (codes "]") _ _ (map f xs) c.loop-k.k done c.loop-k.invariant last) c.push-2.ensures.ok) }
 
 pub push_slot-push_number_if-requires : goal.push_slot-push_number_if-requires
 push_slot-push_number_if-requires t c = (primitive.Int32, rw c.data_type-in-Int32.ensures.data_type c.data_type-in-Int32.ensures.kind)
@@ -54,44 +54,40 @@ push_slot-push_struct-requires t c =
       ((length c.in-Struct.array.slots, struct_children c.in-Struct.array.data_type _ _ _ (sym c.data_type-in-Struct.ensures.data_type ∙ c.fields_of-fields.ensures) kind), capacity _ _ _ _ kind (omega (arith, l))),
     )
 
-pub push_slot-returns-in-List-clause-ok : goal.push_slot-returns-in-List-clause-ok
-push_slot-returns-in-List-clause-ok t c =
+pub push_slot-returns-in-List : goal.push_slot-returns-in-List
+push_slot-returns-in-List t c =
     let a = c.in-List.array in
     let part = c.value-in-List.result in
-    rw c.in-List.is (appended c.push_list.result _ _ a.data_type (slot_at a.slots c.args.i) (slot.List (part_slots part)) _ _
-    c.is_valid-in-List.ensures c.value-in-List.ensures.slot (list_is false a.data_type _ (part_slots part) c.value-in-List.ensures.data_type) c.push_list.ensures.ok)
+    record { ok = rw c.in-List.is (appended c.push_list.result _ _ a.data_type (slot_at a.slots c.args.i) (slot.List (part_slots part)) _ _ c.is_valid-in-List.ensures c.value-in-List.ensures.slot (list_is false a.data_type _ (part_slots part) c.value-in-List.ensures.data_type) c.push_list.ensures.ok) }
 
-pub push_slot-returns-in-LargeList-clause-ok : goal.push_slot-returns-in-LargeList-clause-ok
-push_slot-returns-in-LargeList-clause-ok t c =
+pub push_slot-returns-in-LargeList : goal.push_slot-returns-in-LargeList
+push_slot-returns-in-LargeList t c =
     let a = c.in-LargeList.array in
     let part = c.value-in-LargeList.result in
-    rw c.in-LargeList.is (appended c.push_list-in-LargeList.result _ _ a.data_type (slot_at a.slots c.args.i) (slot.List (part_slots part)) _ _
-    c.is_valid-in-LargeList.ensures c.value-in-LargeList.ensures.slot (list_is true a.data_type _ (part_slots part) c.value-in-LargeList.ensures.data_type) c.push_list-in-LargeList.ensures.ok)
+    record { ok = rw c.in-LargeList.is (appended c.push_list-in-LargeList.result _ _ a.data_type (slot_at a.slots c.args.i) (slot.List (part_slots part)) _ _ c.is_valid-in-LargeList.ensures c.value-in-LargeList.ensures.slot (list_is true a.data_type _ (part_slots part) c.value-in-LargeList.ensures.data_type) c.push_list-in-LargeList.ensures.ok) }
 
-pub push_slot-returns-in-FixedSizeList-clause-ok : goal.push_slot-returns-in-FixedSizeList-clause-ok
-push_slot-returns-in-FixedSizeList-clause-ok t c =
+pub push_slot-returns-in-FixedSizeList : goal.push_slot-returns-in-FixedSizeList
+push_slot-returns-in-FixedSizeList t c =
     let a = c.in-FixedSizeList.array in
     let part = c.value-in-FixedSizeList.result in
-    rw c.in-FixedSizeList.is (appended c.push_list-in-FixedSizeList.result _ _ a.data_type (slot_at a.slots c.args.i) (slot.List (part_slots part)) _ _
-    c.is_valid-in-FixedSizeList.ensures c.value-in-FixedSizeList.ensures.slot (fixed_list_is a.data_type _ (part_slots part) c.value-in-FixedSizeList.ensures.data_type) c.push_list-in-FixedSizeList.ensures.ok)
+    record { ok = rw c.in-FixedSizeList.is (appended c.push_list-in-FixedSizeList.result _ _ a.data_type (slot_at a.slots c.args.i) (slot.List (part_slots part)) _ _ c.is_valid-in-FixedSizeList.ensures c.value-in-FixedSizeList.ensures.slot (fixed_list_is a.data_type _ (part_slots part) c.value-in-FixedSizeList.ensures.data_type) c.push_list-in-FixedSizeList.ensures.ok) }
 
-pub push_slot-returns-in-Struct-clause-ok : goal.push_slot-returns-in-Struct-clause-ok
-push_slot-returns-in-Struct-clause-ok t c =
+pub push_slot-returns-in-Struct : goal.push_slot-returns-in-Struct
+push_slot-returns-in-Struct t c =
     let a = c.in-Struct.array in
     let l = rw c.in-Struct.is at c.requires in
     let children = c.values.result.now in
     let xs = fields_at children c.args.i in
-    rw c.in-Struct.is (appended c.push_struct.result _ _ a.data_type (slot_at a.slots c.args.i) (slot.Struct xs) _ _
-    c.is_valid-in-Struct.ensures (c.values.ensures.slots c.args.i l) (struct_is a.data_type c.fields_of-fields.result.now xs (sym c.data_type-in-Struct.ensures.data_type ∙ c.fields_of-fields.ensures)) c.push_struct.ensures.ok)
+    record { ok = rw c.in-Struct.is (appended c.push_struct.result _ _ a.data_type (slot_at a.slots c.args.i) (slot.Struct xs) _ _ c.is_valid-in-Struct.ensures (c.values.ensures.slots c.args.i l) (struct_is a.data_type c.fields_of-fields.result.now xs (sym c.data_type-in-Struct.ensures.data_type ∙ c.fields_of-fields.ensures)) c.push_struct.ensures.ok) }
 
-pub push_slot-returns-in-Some-clause-ok : goal.push_slot-returns-in-Some-clause-ok
-push_slot-returns-in-Some-clause-ok t c =
+pub push_slot-returns-in-Some : goal.push_slot-returns-in-Some
+push_slot-returns-in-Some t c =
     let a = c.in-Dictionary.array in
     let x = slot_at (array_slots c.values-in-Some.result.now) c.in-Some.index in
     let l = rw c.in-Dictionary.is at c.requires in
     let is = looked_up_at a.slots _ a.items _ c.args.i c.in-Some.index c.keys.ensures.slots c.values-in-Some.ensures.items l c.in-Some.ensures in
     let k = c.values-in-Some.ensures.data_type in
-    rw c.in-Dictionary.is (on_ok_weaker c.push_slot.result (λ e. e ∙ ap (λ z. c.args.out.now.items ++ z) (value_is _ a.data_type _ x k ∙ ap (text a.data_type) is)) c.push_slot.ensures.ok)
+    record { ok = rw c.in-Dictionary.is (on_ok_weaker c.push_slot.result (λ e. e ∙ ap (λ z. c.args.out.now.items ++ z) (value_is _ a.data_type _ x k ∙ ap (text a.data_type) is)) c.push_slot.ensures.ok) }
 
 pub push_struct-bounds-fields-k : goal.push_struct-bounds-fields-k
 push_struct-bounds-fields-k t c = omega (arith, same_length _ _ _ c.requires.children.1)
@@ -102,12 +98,12 @@ push_struct-loop-k-preserved t c =
     let cs = c.args.children.now in
     let kind = c.requires.children.1 in
     let here = member_at _ fs cs c.args.i c.loop-k.k c.index-fields-k.result c.index-children-k.result kind (omega arith) c.index-fields-k.is c.index-children-k.is in
-    joined_more (c.args.out.now.items ++ codes "{") _ _ _ _ (members fs (fields_at cs c.args.i)) c.loop-k.k (omega (arith, members_length _ fs cs c.args.i kind)) here c.loop-k.invariant c.in_ok-push_comma.ensures.ok
+    joined_more (c.args.out.now.items ++ codes "{") _ _ _ _ (field_members fs (fields_at cs c.args.i)) c.loop-k.k (omega (arith, members_length _ fs cs c.args.i kind)) here c.loop-k.invariant c.in_ok-push_comma.ensures.ok
     (named (json_string c.index-fields-k.result.name) _ _ _ _ _ (c.in_ok-push_string.ensures.ok ∙ ap (λ z. c.push_comma.new.out.items ++ json_string z) (c.as_str.ensures ∙ ap (λ (f : Field). f.name) (sym c.index-fields-k.is))) c.in_ok-push-2.ensures.ok c.in_ok-push_slot.ensures.ok)
 
-pub push_struct-returns-clause-ok : goal.push_struct-returns-clause-ok
-push_struct-returns-clause-ok t c =
+pub push_struct-returns : goal.push_struct-returns
+push_struct-returns t c =
     let fs = c.args.fields.now in
     let cs = c.args.children.now in
-    let done : c.loop-k.k ≡ length (members fs (fields_at cs c.args.i)) = omega (arith, members_length _ fs cs c.args.i c.requires.children.1) in
-    rw c.if-not-is_valid.false (on_ok_weaker c.push-2.result (λ last. closed c.args.out.now.items (codes "{") (codes "}") _ _ (members fs (fields_at cs c.args.i)) c.loop-k.k done c.loop-k.invariant last) c.push-2.ensures.ok)
+    let done : c.loop-k.k ≡ length (field_members fs (fields_at cs c.args.i)) = omega (arith, members_length _ fs cs c.args.i c.requires.children.1) in
+    record { ok = rw c.if-not-is_valid.false (on_ok_weaker c.push-2.result (λ last. closed c.args.out.now.items (codes "{") (codes "}") _ _ (field_members fs (fields_at cs c.args.i)) c.loop-k.k done c.loop-k.invariant last) c.push-2.ensures.ok) }

@@ -5,14 +5,14 @@ use Rattle.arrow_array.specs.Arrays.{array_type, array_slots}
 use Rattle.arrow_array.specs.Depths.{children_depth}
 use Rattle.arrow_array.specs.Lent.{part_slots}
 use Rattle.arrow_array.specs.Slots.{slot_at}
-use Rattle.json_text.specs.JsonText.{text, joined, members}
+use Rattle.json_text.specs.JsonText.{text, joined, field_members}
 use Rattle.json_text.proofs.slots.+slots.Given as goal
 
 abbrev pub invariant-push_list-loop-k : goal.invariant-push_list-loop-k
 invariant-push_list-loop-k l = l.out.items ≡ (l.fn.out.items ++ codes "[") ++ joined (take l.k (map (text (array_type l.part.array.now)) (part_slots l.part)))
 
 abbrev pub invariant-push_struct-loop-k : goal.invariant-push_struct-loop-k
-invariant-push_struct-loop-k l = l.out.items ≡ (l.fn.out.items ++ codes "{") ++ joined (take l.k (members l.fields (map (λ slots. slot_at slots l.i) (map array_slots l.children))))
+invariant-push_struct-loop-k l = l.out.items ≡ (l.fn.out.items ++ codes "{") ++ joined (take l.k (field_members l.fields (map (λ slots. slot_at slots l.i) (map array_slots l.children))))
 
 abbrev pub decreases-push_slot : goal.decreases-push_slot
 decreases-push_slot l = 3 * size-DataType (array_type l.array.now) + 2

@@ -17,7 +17,7 @@ mantissa_text-requires c =
 pub exponent_text-requires : goal.exponent_text-requires
 exponent_text-requires c =
     let e = c.in_ok-exponent_part.ensures.reads in
-    exponent-utf8 c.fraction_part.new.reader c.exponent_part.new.reader e.0 e.1 c.rest-tail.result.now c.rest-left.result.now c.behind_first-behind.result.now c.rest-tail.ensures c.rest-left.ensures c.behind_first-behind.ensures
+    exponent-utf8 c.fraction_part.new.reader c.exponent_part.new.reader e.0 e.1 c.rest-tail.result.now c.rest-left.result.now c.after_first-following.result.now c.rest-tail.ensures c.rest-left.ensures c.after_first-following.ensures
 
 pub returns-in_err-integer_part-clause-reads : goal.returns-in_err-integer_part-clause-reads
 returns-in_err-integer_part-clause-reads c =
@@ -53,7 +53,7 @@ returns-then-tail-whole-clause-reads c =
     let point = mantissa-point c.args.reader.now c.optional_minus.new.reader c.integer_part.new.reader c.fraction_part.new.reader m.0 i.0 f.0 m.1 i.1 f.1 c.rest-start.result.now c.rest-tail.result.now c.in_ok-mantissa.mantissa c.rest-start.ensures c.rest-tail.ensures mant in
     number-told c.args.reader.now c.optional_minus.new.reader c.integer_part.new.reader c.fraction_part.new.reader c.exponent_part.new.reader m.0 i.0 f.0 e.0 m.1 i.1 f.1 e.1
     c.rest-start.result.now c.rest-tail.result.now c.rest-left.result.now c.in_ok-mantissa.mantissa c.in_ok-exponent.exponent c.rest-start.ensures c.rest-tail.ensures c.rest-left.ensures
-    mant (c.in_ok-exponent.ensures.text ∙ c.behind_first-behind.ensures) true (point true (frac-point c.integer_part.new.reader c.fraction_part.new.reader f.0 f.1 (omega (arith, ap length c.rest-whole.ensures, ap length c.rest-tail.ensures, c.if-tail-whole.true))))
+    mant (c.in_ok-exponent.ensures.text ∙ c.after_first-following.ensures) true (point true (frac-point c.integer_part.new.reader c.fraction_part.new.reader f.0 f.1 (omega (arith, ap length c.rest-whole.ensures, ap length c.rest-tail.ensures, c.if-tail-whole.true))))
     ∙ ap (λ v. found v c.exponent_part.new.reader) (sym c.fill.ensures)
 
 pub returns-else-tail-whole-clause-reads : goal.returns-else-tail-whole-clause-reads
@@ -66,5 +66,5 @@ returns-else-tail-whole-clause-reads c =
     let point = mantissa-point c.args.reader.now c.optional_minus.new.reader c.integer_part.new.reader c.fraction_part.new.reader m.0 i.0 f.0 m.1 i.1 f.1 c.rest-start.result.now c.rest-tail.result.now c.in_ok-mantissa.mantissa c.rest-start.ensures c.rest-tail.ensures mant in
     number-told c.args.reader.now c.optional_minus.new.reader c.integer_part.new.reader c.fraction_part.new.reader c.exponent_part.new.reader m.0 i.0 f.0 e.0 m.1 i.1 f.1 e.1
     c.rest-start.result.now c.rest-tail.result.now c.rest-left.result.now c.in_ok-mantissa.mantissa c.in_ok-exponent.exponent c.rest-start.ensures c.rest-tail.ensures c.rest-left.ensures
-    mant (c.in_ok-exponent.ensures.text ∙ c.behind_first-behind.ensures) false (point false (no-frac-point c.integer_part.new.reader c.fraction_part.new.reader f.0 f.1 (omega (arith, ap length c.rest-whole.ensures, ap length c.rest-tail.ensures, c.if-tail-whole.false))))
+    mant (c.in_ok-exponent.ensures.text ∙ c.after_first-following.ensures) false (point false (no-frac-point c.integer_part.new.reader c.fraction_part.new.reader f.0 f.1 (omega (arith, ap length c.rest-whole.ensures, ap length c.rest-tail.ensures, c.if-tail-whole.false))))
     ∙ ap (λ v. found v c.exponent_part.new.reader) (sym c.fill-else-tail-whole.ensures)

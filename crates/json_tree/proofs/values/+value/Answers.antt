@@ -4,8 +4,8 @@ use Rattle.json_tree.specs.Tree.{array, object}
 use Rattle.json_tree.specs.Reading.{found, string_at, value_at}
 use Rattle.json_tree.specs.Gives.{Gives, Fails}
 use Rattle.json_tree.specs.Keys.{keys_of}
-use Rattle.json_tree.specs.Layout.{distinct, place, Indexed}
-use Rattle.json_tree.proofs.Places.{keys-set, put-fill}
+use Rattle.json_tree.specs.Layout.{distinct, key_index, Indexed}
+use Rattle.json_tree.proofs.KeyIndices.{keys-set, put-fill}
 use Rattle.json_tree.proofs.Turns.{array-empty, array-start, array-bad, array-next, array-end, object-empty, object-start, key-err, colon-err, item-err, member-ok, object-err, object-bad, object-next, object-end, value-array, next-known, pushed-set}
 use Rattle.json_tree.specs.declared.value.JsonFault.TheVariants.{Text}
 use Rattle.json_tree.proofs.values.+value.Goals as goal
@@ -107,7 +107,7 @@ object-returns-in_err-goes_on-clause-reads t c =
 pub object-returns-then-not-branch-clause-reads : goal.object-returns-then-not-branch-clause-reads
 object-returns-then-not-branch-clause-reads t c =
     let n = c.members-in-loop-members.inside.pairs.items in
-    let w = subst (λ ms. (c.in_ok-at.at ≡ place c.in_ok-key.key (keys_of ms)) × (c.in_ok-at.at < length ms)) (sym c.members-in-loop-members.view_is) c.in_ok-at.ensures.place in
+    let w = subst (λ ms. (c.in_ok-at.at ≡ key_index c.in_ok-key.key (keys_of ms)) × (c.in_ok-at.at < length ms)) (sym c.members-in-loop-members.view_is) c.in_ok-at.ensures.key_index in
     let d = c.index_mut-member.result.now in
     let p = put-fill c.loop-members.members n c.in_ok-key.key c.in_ok-at.ensures.put.0 c.value.new.out c.in_ok-at.at d (c.members-in-loop-members.view_is ∙ c.in_ok-at.ensures.put.1) w.0 w.1 c.index_mut-member.ensures.value in
     let i = c.loop-members.invariant.reads in
@@ -120,7 +120,7 @@ object-returns-then-not-branch-clause-reads t c =
 pub object-loop-members-preserved : goal.object-loop-members-preserved
 object-loop-members-preserved t c =
     let n = c.members-in-loop-members.inside.pairs.items in
-    let w = subst (λ ms. (c.in_ok-at.at ≡ place c.in_ok-key.key (keys_of ms)) × (c.in_ok-at.at < length ms)) (sym c.members-in-loop-members.view_is) c.in_ok-at.ensures.place in
+    let w = subst (λ ms. (c.in_ok-at.at ≡ key_index c.in_ok-key.key (keys_of ms)) × (c.in_ok-at.at < length ms)) (sym c.members-in-loop-members.view_is) c.in_ok-at.ensures.key_index in
     let d = c.index_mut-member.result.now in
     let p = put-fill c.loop-members.members n c.in_ok-key.key c.in_ok-at.ensures.put.0 c.value.new.out c.in_ok-at.at d (c.members-in-loop-members.view_is ∙ c.in_ok-at.ensures.put.1) w.0 w.1 c.index_mut-member.ensures.value in
     let i = c.loop-members.invariant.reads in
@@ -135,15 +135,15 @@ object-loop-members-preserved t c =
 pub object-invariant_of-members : goal.object-invariant_of-members
 object-invariant_of-members t c =
     let n = c.members-in-loop-members.inside.pairs.items in
-    let w = subst (λ ms. (c.in_ok-at.at ≡ place c.in_ok-key.key (keys_of ms)) × (c.in_ok-at.at < length ms)) (sym c.members-in-loop-members.view_is) c.in_ok-at.ensures.place in
+    let w = subst (λ ms. (c.in_ok-at.at ≡ key_index c.in_ok-key.key (keys_of ms)) × (c.in_ok-at.at < length ms)) (sym c.members-in-loop-members.view_is) c.in_ok-at.ensures.key_index in
     let d = c.index_mut-member.result.now in
-    subst (λ ks. (distinct ks ≡ true) × Indexed c.members-in-loop-members.inside.places (drop 16 ks))
+    subst (λ ks. (distinct ks ≡ true) × Indexed c.members-in-loop-members.inside.indices (drop 16 ks))
     (sym (keys-set n c.in_ok-key.key c.value.new.out c.in_ok-at.at d w.0 w.1 c.index_mut-member.ensures.value)) c.members-in-loop-members.invariant
 
 pub object-invariant_of-members-else-not-branch : goal.object-invariant_of-members-else-not-branch
 object-invariant_of-members-else-not-branch t c =
     let n = c.members-in-loop-members.inside.pairs.items in
-    let w = subst (λ ms. (c.in_ok-at.at ≡ place c.in_ok-key.key (keys_of ms)) × (c.in_ok-at.at < length ms)) (sym c.members-in-loop-members.view_is) c.in_ok-at.ensures.place in
+    let w = subst (λ ms. (c.in_ok-at.at ≡ key_index c.in_ok-key.key (keys_of ms)) × (c.in_ok-at.at < length ms)) (sym c.members-in-loop-members.view_is) c.in_ok-at.ensures.key_index in
     let d = c.index_mut-member.result.now in
-    subst (λ ks. (distinct ks ≡ true) × Indexed c.members-in-loop-members.inside.places (drop 16 ks))
+    subst (λ ks. (distinct ks ≡ true) × Indexed c.members-in-loop-members.inside.indices (drop 16 ks))
     (sym (keys-set n c.in_ok-key.key c.value.new.out c.in_ok-at.at d w.0 w.1 c.index_mut-member.ensures.value)) c.members-in-loop-members.invariant

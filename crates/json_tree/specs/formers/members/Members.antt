@@ -50,7 +50,7 @@ the_items_listed X [] = refl
 the_items_listed X (e ∷ es) = ap (λ l. e.1 ∷ l) (the_items_listed X es)
 
 abbrev fields : Former {0}
-fields = via (pair (vec.the_former (member this) Global) (const (BTreeMap (String Global) ℕ))) Inside (λ X a. (a.pairs, a.places)) (λ X v. record { pairs = v.0; places = v.1 }) (λ X a. refl) (λ X v. refl)
+fields = via (pair (vec.the_former (member this) Global) (const (BTreeMap (String Global) ℕ))) Inside (λ X a. (a.pairs, a.indices)) (λ X v. record { pairs = v.0; indices = v.1 }) (λ X a. refl) (λ X v. refl)
 
 abbrev Kept : BTreeMap (String Global) ℕ → List (List ℕ) → Type 0
 Kept m ks = (distinct ks ≡ true) × Indexed m (drop 16 ks)
@@ -75,8 +75,8 @@ module _ (R S : RattleType) (h : R.Denot → S.Denot) where
 
   pub the_places : Alike R S h → Alike (C.the_row R) (C.the_row S) ((the_former this).map R.Denot S.Denot h)
   the_places a = view_places fields (the_former this) view (λ X Y k u. refl) (λ X u. refl) R.Denot S.Denot h (C.the_row R).coded (C.the_row S).coded
-      (invariant R.Denot) (invariant S.Denot) (λ u. Kept-prop u.places (keys_of u.pairs.items)) (λ u. Kept-prop u.places (keys_of u.pairs.items))
-      (λ u e. subst (Kept u.places) (sym (keys_on_values h u.pairs.items)) e) (λ u e. subst (Kept u.places) (keys_on_values h u.pairs.items) e)
+      (invariant R.Denot) (invariant S.Denot) (λ u. Kept-prop u.indices (keys_of u.pairs.items)) (λ u. Kept-prop u.indices (keys_of u.pairs.items))
+      (λ u e. subst (Kept u.indices) (sym (keys_on_values h u.pairs.items)) e) (λ u e. subst (Kept u.indices) (keys_on_values h u.pairs.items) e)
       (over (I.the_row R)) (over (I.the_row S))
       (struct_places (I.the_type R) (I.the_type S) (vec.mapped (on_value h), ((λ m. m), tt)) _ (λ d. refl) refl (laid _ _ _ (vec.the_places heap.the_row ghosts (member_of R) (member_of S) (on_value h) (member_places a)), ((refl, (λ m. refl, λ m. refl)), tt)))
 

@@ -28,8 +28,8 @@ invariant_of-self c =
     let rest = c.in_ok-first.rest.now in
     let n = c.unescaped_len-n.result in
     let e : c.self.inside.bytes.now ≡ c.in_ok-first.first.now ∷ rest = search rules in
-    let t : c.split_at.result.1.now ≡ c.in_ok-last.last.now ∷ c.in_ok-last.behind.now = search rules in
-    in_tail (drop n rest) c.in_ok-last.behind.now c.in_ok-last.last.now (sym c.split_at.ensures.back ∙ t) (in_drop n rest (in_tail c.self.inside.bytes.now rest c.in_ok-first.first.now e c.self.invariant))
+    let t : c.split_at.result.1.now ≡ c.in_ok-last.last.now ∷ c.in_ok-last.following.now = search rules in
+    in_tail (drop n rest) c.in_ok-last.following.now c.in_ok-last.last.now (sym c.split_at.ensures.back ∙ t) (in_drop n rest (in_tail c.self.inside.bytes.now rest c.in_ok-first.first.now e c.self.invariant))
 
 pub returns : goal.returns
 returns c =
@@ -37,9 +37,9 @@ returns c =
     let run = c.from_utf8_unchecked.result.now in
     let n = c.unescaped_len-n.result in
     let f : c.args.self.now ≡ 34 ∷ rest = search rules in
-    let t : c.split_at.result.1.now ≡ c.in_ok-last.last.now ∷ c.in_ok-last.behind.now = search rules in
+    let t : c.split_at.result.1.now ≡ c.in_ok-last.last.now ∷ c.in_ok-last.following.now = search rules in
     let r = c.from_utf8_unchecked.ensures ∙ c.split_at.ensures.front in
-    let d : drop n rest ≡ 34 ∷ c.in_ok-last.behind.now = sym c.split_at.ensures.back ∙ t ∙ ap (λ x. x ∷ c.in_ok-last.behind.now) c.if-last-ne34.false in
+    let d : drop n rest ≡ 34 ∷ c.in_ok-last.following.now = sym c.split_at.ensures.back ∙ t ∙ ap (λ x. x ∷ c.in_ok-last.following.now) c.if-last-ne34.false in
     record {
       found = (
         subst (Each is_unescaped) (sym (r ∙ ap (λ k. take k rest) c.unescaped_len-n.ensures)) (run-plain rest),

@@ -1,5 +1,5 @@
 use Rattle.json_tree.specs.Keys.{keys_of}
-use Rattle.json_tree.proofs.Places.{differ}
+use Rattle.json_tree.proofs.KeyIndices.{differ}
 use Rattle.json_tree.proofs.value.Object.members.Goals as goal
 
 pub returns-clause-distinct : goal.returns-clause-distinct

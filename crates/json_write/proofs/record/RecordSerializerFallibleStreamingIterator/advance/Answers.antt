@@ -40,7 +40,7 @@ returns-in-Err c =
       steps = record {
         next = tt;
         behind = λ empty. absurd (row_left (serializer_keys s) s.arrays.now s.at s.count less empty);
-        memory = c.in-Err.ensures.memory;
+        memory = refl;
         stays = (refl, rows_none (serializer_keys s) s.arrays.now s.count (s.count - s.count) none);
       };
       again = tt;

@@ -1,7 +1,7 @@
 -- Where no columns are made, a field is not carried.
 use Rattle.std.proofs.Common.{inr, refl}
 use Rattle.avrocat.proofs.ColumnLemmas.{none_is_carried}
-use Rattle.avrocat.proofs.columns.columns_of.Goals as goal
+use Rattle.avrocat.proofs.columns.small_columns.Goals as goal
 
 pub returns-in-Err-NotYetImplemented-MapOrUnion-clause-err :
     goal.returns-in-Err-NotYetImplemented-MapOrUnion-clause-err
