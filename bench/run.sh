@@ -1,9 +1,9 @@
 #!/bin/sh
-# Measures one of the folders beside this script: arrays, block, builders, container, dates, json_tree or json_write.
+# Measures one of the folders beside this script: arrays, block, builders, container, dates, json_tree, json_write or ndjson.
 #     bench/run.sh NAME
-# `main.rattle` of the folder is a Rattle program over the crates that `crates` names, `plain.rs`, where there is one, the same in plain
-# Rust, and `measure.py` runs both on the same input and prints what it found. All is built in a folder of its own outside of
-# the repository. Measure with nothing else running.
+# `main.rattle` of the folder is a Rattle program over the crates that `crates` names (without it, avrocat itself is measured),
+# `plain.rs`, where there is one, the same in plain Rust, and `measure.py` runs both on the same input and prints what it found.
+# All is built in a folder of its own outside of the repository. Measure with nothing else running.
 set -eu
 name=$1
 bench=$(cd "$(dirname "$0")" && pwd)
@@ -15,11 +15,15 @@ for crate in "$bench"/../crates/*; do
     mkdir "$work/crates/$(basename "$crate")"
     (cd "$crate" && tar cf - --exclude=out --exclude=must-fail .) | (cd "$work/crates/$(basename "$crate")" && tar xf -)
 done
-mkdir -p "$work/crates/bench/src"
-cp "$bench/$name/main.rattle" "$work/crates/bench/src/main.rt"
-echo "bench: $(cat "$bench/$name/crates")" >> "$work/crates.txt"
+program=avrocat
+if test -e "$bench/$name/main.rattle"; then
+    program=bench
+    mkdir -p "$work/crates/bench/src"
+    cp "$bench/$name/main.rattle" "$work/crates/bench/src/main.rt"
+    echo "bench: $(cat "$bench/$name/crates")" >> "$work/crates.txt"
+fi
 # The program does nothing on no words; what counts here is that it is built.
-(cd "$work/crates/bench" && rt run < /dev/null > /dev/null) || test -x "$work/crates/bench/out/bench"
+(cd "$work/crates/$program" && rt run < /dev/null > /dev/null) || test -x "$work/crates/$program/out/$program"
 if test -e "$bench/$name/plain.rs"; then
     rustc --edition 2021 -O -o "$work/plain" "$bench/$name/plain.rs"
 fi

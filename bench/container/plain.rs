@@ -69,8 +69,7 @@ fn main() {
         let mut bytes = Vec::new();
         io::stdin().lock().read_to_end(&mut bytes).unwrap();
         for _ in 0..times {
-            let copy = bytes.clone();
-            sum += total(copy.as_slice()).unwrap();
+            sum += total(bytes.as_slice()).unwrap();
         }
     }
     println!("{sum}");

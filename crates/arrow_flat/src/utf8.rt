@@ -56,7 +56,7 @@ impl<O: Offset> MutableContentArray<Utf8Values, O> {
     /// `Overflow` exactly where the strings would have more bytes together than the greatest
     /// offset, 2^31 - 1 or 2^63 - 1; it changes nothing. `OutOfMemory` leaves slots and bytes as
     /// they are.
-    #[inline]
+    #[inline(always)]
     pub fn push(&mut self, value: Option<&str>) -> Result<()>
         ensures data_type { self.new.data_type ≡ self.old.data_type }
         ensures ok { OnOk result (self.new.slots

@@ -1,10 +1,13 @@
 -- Many of a form, and blocks of them, taken one by one.
-use Rattle.std.proofs.Common.{◌≡◌, ℕ, zero, suc, ◌+◌, ◌<◌, ◌≤◌, inl, inr, ℤ, pos, negsuc, List, [], ◌∷◌, ◌++◌, Option, refl, sym, ◌∙◌, ap, subst, append_assoc, add-one, arith}
+use Rattle.std.proofs.Common.{◌≡◌, ℕ, zero, suc, ◌+◌, ◌<◌, ◌≤◌, inl, inr, ℤ, pos, negsuc, List, [], ◌∷◌, ◌++◌, Option, Some, None, Bool, true, false, cond, refl, sym, ◌∙◌, ap, subst, append_assoc, add-one, arith}
 use Rattle.std.proofs.lemmas.List.{append-nil}
+use Rattle.std.specs.Option.{option_or}
+use Rattle.std.specs.Str.{bytes_eq}
 use Rattle.avro_schema.specs.Number.{Number}
 use Rattle.avro_grammar.specs.Parts.{Grammar, Then, Many, BlockOf, Blocks}
 use Rattle.avro_grammar.specs.Parts as parts
-use Rattle.avro_container.specs.File.{Entry, later, last_of}
+use Rattle.avro_container.specs.File.{Entry, value_for, last_value}
+use Rattle.avro_container.specs.Kept.{later, last_of}
 use Rattle.avro_container.specs.Forms.{Form, Followed, number, both, BegunMany, WrongMany, many, block_of, BegunBlocks, WrongBlocks, blocks}
 use Rattle.avro_container.specs.Taking.{State, Takes, Passed, Stopped}
 use Rattle.avro_container.specs.Forms as forms
@@ -149,3 +152,28 @@ last_all key old (e ∷ es) xs = last_all key (later key old e) es xs
 
 pub kept_all : (key : List ℕ) (old mid new : Option (List ℕ)) (es xs : List Entry) → mid ≡ last_of key old es → new ≡ last_of key mid xs → new ≡ last_of key old (es ++ xs)
 kept_all key old mid new es xs p q = q ∙ ap (λ o. last_of key o xs) p ∙ sym (last_all key old es xs)
+
+-- ---- the last value of a key, entry by entry
+
+later_is : (key : List ℕ) (old : Option (List ℕ)) (e : Entry) → later key old e ≡ option_or (value_for key e) old
+later_is key old e = go (bytes_eq e.key key)
+  where
+    go : (b : Bool) → cond b (Some e.value) old ≡ option_or (cond b (Some e.value) None) old
+    go true = refl
+    go false = refl
+
+or_assoc : (a b c : Option (List ℕ)) → option_or a (option_or b c) ≡ option_or (option_or a b) c
+or_assoc None b c = refl
+or_assoc (Some x) b c = refl
+
+last_of_is : (key : List ℕ) (old : Option (List ℕ)) (es : List Entry) → last_of key old es ≡ option_or (last_value key es) old
+last_of_is key old [] = refl
+last_of_is key old (e ∷ es) =
+    last_of_is key (later key old e) es ∙ ap (option_or (last_value key es)) (later_is key old e) ∙ or_assoc (last_value key es) (value_for key e) old
+
+or_none : (a : Option (List ℕ)) → option_or a None ≡ a
+or_none None = refl
+or_none (Some x) = refl
+
+pub last_is : (key : List ℕ) (es : List Entry) → last_of key None es ≡ last_value key es
+last_is key es = last_of_is key None es ∙ or_none (last_value key es)

@@ -9,7 +9,7 @@ use Rattle.avro_grammar.proofs.Prefixes.{Reads, number_reads, then_reads, meanin
 use Rattle.std.specs.Str.{IsUtf8}
 use Rattle.std.proofs.lemmas.Str.{IsUtf8-from_ascii}
 use Rattle.avro_container.specs.Canonical.{counted_bytes, canonical_header, canonical_block, canonical_blocks}
-use Rattle.avro_container.specs.File.{IsCount, count_of, the_entry, magic, header_parts, FileBlock, the_block, IsFileBlock, Sequence, none, one, last_of}
+use Rattle.avro_container.specs.File.{IsCount, count_of, the_entry, magic, header_parts, FileBlock, the_block, IsFileBlock, Sequence, none, one, schema_entry}
 use Rattle.avro_container.specs.FileForms.{entry, key_form, after_key, magic_form, after_magic, after_map, header, after_size, after_rows, marked_block}
 use Rattle.avro_container.specs.Forms.{raw, count, sized}
 use Rattle.avro_container.specs.Laws.{OneMeaning, OneFile, AllSmall, CanonicalIsFile}
@@ -72,7 +72,7 @@ one_file stands single bytes r q m n bs cs f g =
     let same_entries : f.entries ≡ g.entries = ap (λ (t : _). t.entries) heads.1 in
     let same_marker : m ≡ n = ap (λ (t : _). t.marker) heads.1 in
     let backs : f.back ≡ g.back = append_cancel_left g.prefix f.back g.back (ap (λ (z : List ℕ). z ++ f.back) (sym heads.0) ∙ sym f.joined ∙ g.joined) in
-    let same_text : f.text ≡ g.text = some_is f.text g.text (sym f.schema ∙ ap (last_of (codes "avro.schema") None) same_entries ∙ g.schema) in
+    let same_text : f.text ≡ g.text = some_is f.text g.text (sym f.schema ∙ ap schema_entry same_entries ∙ g.schema) in
     let moved : Sequence (IsFileBlock n) f.back bs = subst (λ k. Sequence (IsFileBlock k) f.back bs) same_marker f.blocks in
     (single g.text r q (subst (λ t. stands t r) same_text f.means) g.means, same_marker, run_one (IsFileBlock n) (file_block_reads n) (block_some n) f.back g.back bs cs moved g.blocks backs)
 

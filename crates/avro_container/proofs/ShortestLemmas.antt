@@ -7,7 +7,7 @@ use Rattle.std.proofs.Math.Nat.{pow-succ'}
 use Rattle.std.specs.Prelude.{set}
 use Rattle.avro_schema.specs.Number.{AreGroups, unsigned, zigzag, Number}
 use Rattle.avro_container.specs.Laws.{Has64Bits, ShortestIsShortest}
-use Rattle.avro_container.specs.Shortest.{zag, groups, shortest}
+use Rattle.avro_container.specs.Shortest.{zigzagged, groups, shortest}
 
 pub leads_on : (m u : ℕ) → 128 ≤ u → groups (suc m) u ≡ (128 + u % 128) ∷ groups m (u / 128)
 unfolding groups
@@ -76,21 +76,21 @@ few (suc m) u =
       | inr large ↦ let e : length (groups m (u / 128)) ≤ suc m = few m (u / 128) in rw (leads_on m u large) (omega (arith, e))
     ]
 
-pub zigzag_zag : (v : ℤ) → zigzag (zag v) ≡ v
-zigzag_zag (pos n) = let e : (2 * n) % 2 ≡ 0 = omega arith in let h : (2 * n) / 2 ≡ n = omega arith in rw (e, h) refl
-zigzag_zag (negsuc n) = let e : (2 * n + 1) % 2 ≡ 1 = omega arith in let h : (2 * n + 1) / 2 ≡ n = omega arith in rw (e, h) refl
+pub zigzag_zigzagged : (v : ℤ) → zigzag (zigzagged v) ≡ v
+zigzag_zigzagged (pos n) = let e : (2 * n) % 2 ≡ 0 = omega arith in let h : (2 * n) / 2 ≡ n = omega arith in rw (e, h) refl
+zigzag_zigzagged (negsuc n) = let e : (2 * n + 1) % 2 ≡ 1 = omega arith in let h : (2 * n + 1) / 2 ≡ n = omega arith in rw (e, h) refl
 
-pub shortest_is : (v : ℤ) → zag v < 2 ^ 64 → Number (shortest v) v
+pub shortest_is : (v : ℤ) → zigzagged v < 2 ^ 64 → Number (shortest v) v
 shortest_is v h =
-    let e : unsigned (groups 9 (zag v)) ≡ zag v = unsigned_of 9 (zag v) (omega (arith, h)) in
-    record { groups = are_groups 9 (zag v); short = few 9 (zag v); fits = rw e h; value = sym (ap zigzag e ∙ zigzag_zag v) }
+    let e : unsigned (groups 9 (zigzagged v)) ≡ zigzagged v = unsigned_of 9 (zigzagged v) (omega (arith, h)) in
+    record { groups = are_groups 9 (zigzagged v); short = few 9 (zigzagged v); fits = rw e h; value = sym (ap zigzag e ∙ zigzag_zigzagged v) }
 
 -- ---- and no other is shorter
 
-zag_zigzag : (u : ℕ) → zag (zigzag u) ≡ u
-zag_zigzag u = by_parity u (eqb (u % 2) 0) refl
+zigzagged_zigzag : (u : ℕ) → zigzagged (zigzag u) ≡ u
+zigzagged_zigzag u = by_parity u (eqb (u % 2) 0) refl
   where
-    by_parity : (u : ℕ) (t : Bool) → eqb (u % 2) 0 ≡ t → zag (cond (eqb (u % 2) 0) (pos (u / 2)) (negsuc (u / 2))) ≡ u
+    by_parity : (u : ℕ) (t : Bool) → eqb (u % 2) 0 ≡ t → zigzagged (cond (eqb (u % 2) 0) (pos (u / 2)) (negsuc (u / 2))) ≡ u
     by_parity u true q = rw q (let h : u % 2 ≡ 0 = eqb-true (u % 2) 0 q in omega (arith, h))
     by_parity u false q = rw q (odd (eqb-false (u % 2) 0 q))
       where
@@ -114,12 +114,12 @@ no_longer (suc m) (b ∷ c ∷ bs) h =
 
 pub none_shorter : (v : ℤ) (bytes : List ℕ) → Number bytes v → length (shortest v) ≤ length bytes
 none_shorter v bytes n =
-    let e : zag v ≡ unsigned bytes = ap zag n.value ∙ zag_zigzag (unsigned bytes) in
+    let e : zigzagged v ≡ unsigned bytes = ap zigzagged n.value ∙ zigzagged_zigzag (unsigned bytes) in
     rw e (no_longer 9 bytes n.groups)
 
-zag_fits : (v : ℤ) → Has64Bits v → zag v < 2 ^ 64
-zag_fits (pos n) h = omega (arith, h)
-zag_fits (negsuc n) h = omega (arith, h)
+zigzagged_fits : (v : ℤ) → Has64Bits v → zigzagged v < 2 ^ 64
+zigzagged_fits (pos n) h = omega (arith, h)
+zigzagged_fits (negsuc n) h = omega (arith, h)
 
 pub shortest_is_shortest : ShortestIsShortest
-shortest_is_shortest v h = (shortest_is v (zag_fits v h), none_shorter v)
+shortest_is_shortest v h = (shortest_is v (zigzagged_fits v h), none_shorter v)

@@ -1,5 +1,6 @@
 -- Avro object container files (Avro 1.11, "Object Container Files").
 use Rattle.std.specs.Prelude.{◌≡◌, ℕ, ℤ, pos, negsuc, List, [], ◌∷◌, ◌++◌, Option, Some, None, codes, cond}
+use Rattle.std.specs.Option.{option_or}
 use Rattle.std.specs.Str.{IsUtf8, bytes_eq}
 use Rattle.avro_schema.specs.Number.{Number}
 use Rattle.avro_grammar.specs.Parts.{Grammar, Then, Meaning, Raw, Blocks}
@@ -17,7 +18,8 @@ count_of (negsuc n) = 0
 abbrev pub Count : Grammar ℕ
 Count = Meaning Number IsCount count_of
 
--- a number n of 0 or more, then n bytes (Avro 1.11, "Primitive Types": bytes and string)
+-- A number n of 0 or more, then n bytes (Avro 1.11, "Primitive Types": bytes and string): the encodings of avro_grammar's `Sized`,
+-- in the two parts in which they are read, since each fault is answered by the part that shows it.
 abbrev pub CountedBytes : Grammar (List ℕ)
 CountedBytes = Then Count Raw
 
@@ -70,22 +72,22 @@ pub data Sequence {A : Type 0} (P : List ℕ → A → Type 0) : List ℕ → Li
   none : Sequence P [] []
   one : (prefix rest : List ℕ) (x : A) (xs : List A) → P prefix x → Sequence P rest xs → Sequence P (prefix ++ rest) (x ∷ xs)
 
--- what is known of a key's value, `old` before an entry
-abbrev pub later : List ℕ → Option (List ℕ) → Entry → Option (List ℕ)
-later key old e = cond (bytes_eq e.key key) (Some e.value) old
+-- the value of an entry, where it has this key
+abbrev pub value_for : List ℕ → Entry → Option (List ℕ)
+value_for key e = cond (bytes_eq e.key key) (Some e.value) None
 
--- the last value of a key, where `old` came before these entries
-abbrev pub last_of : List ℕ → Option (List ℕ) → List Entry → Option (List ℕ)
-last_of key old [] = old
-last_of key old (e ∷ es) = last_of key (later key old e) es
+-- the last value of a key: that among the later entries, where one of them has the key, and else this entry's
+abbrev pub last_value : List ℕ → List Entry → Option (List ℕ)
+last_value key [] = None
+last_value key (e ∷ es) = option_or (last_value key es) (value_for key e)
 
--- the text of the schema, where the entries have one; of a key that is named twice the last value counts
+-- the text of the schema, where the entries have one
 abbrev pub schema_entry : List Entry → Option (List ℕ)
-schema_entry = last_of (codes "avro.schema") None
+schema_entry = last_value (codes "avro.schema")
 
 -- the codec, where the entries name one
 abbrev pub codec_entry : List Entry → Option (List ℕ)
-codec_entry = last_of (codes "avro.codec") None
+codec_entry = last_value (codes "avro.codec")
 
 -- blocks aren't compressed: the codec is missing, or `null`
 abbrev pub IsPlain : Option (List ℕ) → Type 0

@@ -14,6 +14,7 @@ after_key k = meaning sized Any (the_entry k)
 abbrev pub entry : Form Entry
 entry = both key_form after_key
 
+-- cited by private contracts alone: entries of a stated number
 abbrev pub sized_many : ℕ → Form (List Entry)
 sized_many = sized_many_of entry
 

@@ -1,9 +1,19 @@
 -- Cited by private contracts alone: entries were taken, and what is kept of them.
-use Rattle.std.specs.Prelude.{◌≡◌, ℕ, List, Option, None, codes}
-use Rattle.avro_container.specs.File.{Entry, HeaderParts, header_parts, later, last_of}
+use Rattle.std.specs.Prelude.{◌≡◌, ℕ, List, [], ◌∷◌, Option, Some, codes, cond}
+use Rattle.std.specs.Str.{bytes_eq}
+use Rattle.avro_container.specs.File.{Entry, HeaderParts, header_parts, schema_entry, codec_entry}
 use Rattle.avro_container.specs.FileForms.{entry}
 use Rattle.avro_container.specs.Forms.{Form}
 use Rattle.avro_container.specs.Taking.{State, Passed}
+
+-- what is known of a key's value, `old` before an entry
+abbrev pub later : List ℕ → Option (List ℕ) → Entry → Option (List ℕ)
+later key old e = cond (bytes_eq e.key key) (Some e.value) old
+
+-- the last value of a key, where `old` came before these entries
+abbrev pub last_of : List ℕ → Option (List ℕ) → List Entry → Option (List ℕ)
+last_of key old [] = old
+last_of key old (e ∷ es) = last_of key (later key old e) es
 
 pub record TakesEntries (F : Form (List Entry)) (a b : State) (schema schema_after codec codec_after : Option (List ℕ)) : Type 0 where
   pub entries : List Entry
@@ -21,5 +31,5 @@ pub record TakesEntry (a b : State) (schema schema_after codec codec_after : Opt
 pub record TakesHeader (F : Form HeaderParts) (a b : State) (schema codec : Option (List ℕ)) (marker : List ℕ) : Type 0 where
   pub entries : List Entry
   pub passed : Passed F a b (header_parts entries marker)
-  pub schema_is : schema ≡ last_of (codes "avro.schema") None entries
-  pub codec_is : codec ≡ last_of (codes "avro.codec") None entries
+  pub schema_is : schema ≡ schema_entry entries
+  pub codec_is : codec ≡ codec_entry entries

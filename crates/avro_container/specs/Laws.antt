@@ -33,7 +33,7 @@ abbrev pub CanonicalIsFile : {R : Type 0} → (List ℕ → R → Type 0) → Ty
 CanonicalIsFile {R} stands =
     (text : List ℕ) (r : R) (m : List ℕ) (bs : List FileBlock) → stands text r → length text < 2 ^ 63 → length m ≡ 16 → AllSmall bs → FileOf stands (canonical_file text m bs) r m bs
 
--- in the place of a schema text's meaning: the text itself
+-- instead of what a schema text means: the text itself
 abbrev pub IsItself : List ℕ → List ℕ → Type 0
 IsItself text root = root ≡ text
 
@@ -65,7 +65,7 @@ pub record BeginsWith {A : Type 0} (P : Grammar A) (R : A → Type 0) (bytes : L
 abbrev pub NoPrefixWithin : {A : Type 0} → ℕ → Grammar A → List ℕ → Type 0
 NoPrefixWithin {A} limit P bytes = (prefix rest : List ℕ) (v : A) → bytes ≡ prefix ++ rest → P prefix v → length prefix ≤ limit → ⊥
 
--- where the bytes begin with a block of the marker, within the limit, and no read fails, no error but want of
+-- where the bytes begin with a block of the marker, within the limit, and no read fails, no error but out of
 -- memory is answered
 abbrev pub BlockIsRead : Type 0
 BlockIsRead =
@@ -75,7 +75,7 @@ BlockIsRead =
 abbrev pub EndIsEnd : Type 0
 EndIsEnd = (bytes : List ℕ) (faults limit : ℕ) (new : State) → AtEnd (told bytes faults limit) new → bytes ≡ []
 
--- and where there are no bytes and no read fails, no block is answered, and no error but want of memory
+-- and where there are no bytes and no read fails, no block is answered, and no error but out of memory
 abbrev pub NoBytesAreEnd : Type 0
 NoBytesAreEnd =
     (marker : List ℕ) (faults limit : ℕ) (new : State) → (RoseOrFull faults new.faults → ⊥) → ((rows : ℕ) (block : List ℕ) → Next marker (told [] faults limit) new rows block true → ⊥) × ((e : Error) → NoBlock marker (told [] faults limit) new e → e ≡ OutOfMemory)
@@ -96,7 +96,7 @@ BlockLimitCause =
     (marker bytes : List ℕ) (faults limit : ℕ) (new : State) → NoBlock marker (told bytes faults limit) new LimitExceeded → NoPrefixWithin limit MarkedBlock bytes
 
 -- where the bytes begin with a header that names a schema and no codec but `null`, within the limit, and no read
--- fails, no error but want of memory is answered
+-- fails, no error but out of memory is answered
 abbrev pub HeaderIsRead : Type 0
 HeaderIsRead =
     (bytes prefix rest : List ℕ) (entries : List Entry) (marker text : List ℕ) (faults limit : ℕ) (new : State) → bytes ≡ prefix ++ rest → Header prefix (header_parts entries marker) → schema_entry entries ≡ Some text → IsPlain (codec_entry entries) → length prefix ≤ limit → (RoseOrFull faults new.faults → ⊥) → (e : Error) → NoHeader (told bytes faults limit) new e → e ≡ OutOfMemory

@@ -1,6 +1,6 @@
 //! Numbers in their shortest encoding.
 ghost use Rattle.std.specs.Prelude.{◌≡◌, ◌<◌, ◌≤◌, ◌+◌, ◌++◌, ◌^◌, [], List, ℕ, length, take, IfOk, OnOk, OnErr, IfErr};
-ghost use Rattle.avro_container.specs.Shortest.{groups, shortest, zag};
+ghost use Rattle.avro_container.specs.Shortest.{groups, shortest, zigzagged};
 ghost use Rattle.arrow_core.specs.declared.error.Error.TheVariants as TheError;
 
 use arrow_base::{Error, Result};
@@ -15,7 +15,7 @@ pub(crate) struct EncodedNumber {
 
 // The unsigned number that zigzag reads as `value`.
 fn unsigned(value: i64) -> u64
-    ensures { result ≡ zag value }
+    ensures { result ≡ zigzagged value }
 {
     if value < 0 {
         ((-1 - value) as u64) * 2 + 1

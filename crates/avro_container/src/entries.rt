@@ -2,10 +2,10 @@
 ghost use Rattle.std.specs.Prelude.{◌≡◌, ◌≢◌, ◌<◌, ◌≤◌, ◌+◌, ◌++◌, ◌^◌, [], List, ℕ, length, IfOk, OnOk, IfErr, Some, None, codes, Bool, true, false, pos};
 ghost use Rattle.std.specs.Bool.{OnTrue, OnFalse};
 ghost use Rattle.std.specs.Str.{IsUtf8};
-ghost use Rattle.avro_container.specs.File.{Entry, the_entry, later, last_of};
+ghost use Rattle.avro_container.specs.File.{the_entry};
 ghost use Rattle.avro_container.specs.FileForms.{entry, key_form, sized_many};
 ghost use Rattle.avro_container.specs.Forms.{many, under, block_of, blocks, number as a_number, signed_of};
-ghost use Rattle.avro_container.specs.Kept.{TakesEntry, TakesEntries};
+ghost use Rattle.avro_container.specs.Kept.{TakesEntry, TakesEntries, later};
 ghost use Rattle.avro_container.specs.Taking.{state_of, Takes, Passed, Stopped};
 ghost use Rattle.avro_container.specs.declared.parts.Stop.TheVariants as TheStop;
 

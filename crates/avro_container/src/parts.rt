@@ -81,8 +81,8 @@ impl Allowance {
         Ok(most.min(self.limit) as usize)
     }
 
-    // Whether a stated size is used up.
-    fn not_full(&self) -> Result<(), Stop>
+    // Refuses where a stated size is used up.
+    fn not_used_up(&self) -> Result<(), Stop>
         ensures ok { OnOk result (NotUsedUp self.now.size_left 0) }
         ensures err { IfErr result (λ e. (e ≡ TheStop.UsedUp) × (self.now.size_left ≡ Some 0)) }
     {
@@ -212,7 +212,7 @@ pub(crate) fn fill<S: Source>(
     bytes.truncate(n);
     let mut at = 0;
     while at < n {
-        allowed.not_full()?;
+        allowed.not_used_up()?;
         extend_buffer(bytes, at, n)?;
         at += fill_some(source, allowed, bytes, at)?;
     }

@@ -11,10 +11,10 @@ use Rattle.arrow_builders.specs.Shapes.{shape}
 use Rattle.arrow_builders.proofs.Heads.{no_slots, same_type}
 use Rattle.avro_schema.specs.declared.schema.AvroField.{AvroField}
 use Rattle.arrow_types.specs.Numbers.{greatest_offset}
-use Rattle.avro_skip.specs.Costs.{passed}
+use Rattle.avro_reference.specs.Costs.{passed}
 use Rattle.avro_decode.specs.Capacity.{AtNodes, BetweenNodes, ReservedCapacityStays}
 use Rattle.avro_decode.specs.Growth.{Fills, AllFill, all_large, Reaches, AllReach, HaveSpare, BothFill, ChildrenGrow, ChildrenReach, ChildrenHaveSpare}
-use Rattle.avro_decode.specs.Masks.{mask, paid, later, content, total, BytesPayForAll}
+use Rattle.avro_decode.specs.Masks.{mask, bounded, later, content, total, BytesBoundContent}
 use Rattle.avro_decode.proofs.Columns.{AreEmpty}
 
 -- ---- empty nodes
@@ -30,7 +30,7 @@ nodes_reach : (large : Bool) (ms : List Bool) (n : ℕ) (xs : List Node) → n �
 nodes_reach large ms n [] le h = tt
 nodes_reach large ms n (x ∷ xs) le h =
     let r = rest_of IsEmpty x xs h in
-    (one_reach large (paid ms) n x le r.0, nodes_reach large (later ms) n xs le r.1)
+    (one_reach large (bounded ms) n x le r.0, nodes_reach large (later ms) n xs le r.1)
 
 -- offsets of each builder can count n
 abbrev pub CanCount : ℕ → List MutableArray → Type 0
@@ -54,7 +54,7 @@ no_content : (ms : List Bool) (xs : List Node) → All IsEmpty xs → content ms
 no_content ms [] h = refl
 no_content ms (x ∷ xs) h =
     let r = rest_of IsEmpty x xs h in
-    let one = from (paid ms) r.0.bytes in
+    let one = from (bounded ms) r.0.bytes in
     let more = no_content (later ms) xs r.1 in
     omega (arith, one, more)
   where
@@ -99,7 +99,7 @@ nodes_few ms m n [] (y ∷ ys) le f h = absurd f
 nodes_few ms m n (x ∷ xs) [] le f h = absurd f
 nodes_few ms m n (x ∷ xs) (y ∷ ys) le f h =
     let r = rest_of IsEmpty x xs h in
-    let o = one_few (paid ms) m x y f.0 r.0 in
+    let o = one_few (bounded ms) m x y f.0 r.0 in
     All-cons (λ (z : Node). z.slots ≤ n) y ys (omega (arith, o, le)) (nodes_few (later ms) m n xs ys le f.1 r.1)
 
 few_slots : (m n : ℕ) (fs : List AvroField) (bs cs : List MutableArray) → m ≤ n → BothFill m fs bs cs → AtNodes IsEmpty bs → AtNodes (λ x. x.slots ≤ n) cs
@@ -126,7 +126,7 @@ nodes_kept : (ms : List Bool) (n : ℕ) (xs ys : List Node) → AllFill ms n xs 
 nodes_kept ms n [] [] f = tt
 nodes_kept ms n [] (y ∷ ys) f = absurd f
 nodes_kept ms n (x ∷ xs) [] f = absurd f
-nodes_kept ms n (x ∷ xs) (y ∷ ys) f = (one_kept (paid ms) n x y f.0, nodes_kept (later ms) n xs ys f.1)
+nodes_kept ms n (x ∷ xs) (y ∷ ys) f = (one_kept (bounded ms) n x y f.0, nodes_kept (later ms) n xs ys f.1)
 
 both_kept : (n : ℕ) (fs : List AvroField) (bs cs : List MutableArray) → BothFill n fs bs cs → BetweenNodes KeepsCapacity bs cs
 both_kept n [] [] [] g = tt
@@ -151,7 +151,7 @@ nodes_spare (m ∷ ms) n (x ∷ xs) t h =
     let q = rest_of IsTrue m ms t in
     (q.0, r.0, nodes_spare ms n xs q.1 r.1)
 
-pub all_spare : (n : ℕ) (fs : List AvroField) (bs : List MutableArray) → AtNodes (HasSpare n) bs → BytesPayForAll fs → ChildrenHaveSpare n fs bs
+pub all_spare : (n : ℕ) (fs : List AvroField) (bs : List MutableArray) → AtNodes (HasSpare n) bs → BytesBoundContent fs → ChildrenHaveSpare n fs bs
 all_spare n [] bs h p = tt
 all_spare n (f ∷ fs) [] h p = tt
 all_spare n (f ∷ fs) (b ∷ bs) h p =

@@ -21,7 +21,7 @@ use Rattle.avro_schema.specs.declared.schema.AvroField.{AvroField}
 use Rattle.avro_reference.specs.Read.{push_one, read}
 use Rattle.avro_reference.specs.Listed.{read_fields_of, read_record_of}
 use Rattle.avro_decode.specs.Decoding.{grown}
-use Rattle.avro_skip.specs.Costs.{passed}
+use Rattle.avro_reference.specs.Costs.{passed}
 use Rattle.avro_flat.specs.Decoding.{Fails}
 use Rattle.avro_flat.specs.declared.fault.DecodeFault.{DecodeFault}
 use Rattle.avro_flat.specs.declared.fault.DecodeFault.TheVariants.{Bytes, Memory}
@@ -30,7 +30,7 @@ use Rattle.avro_decode.specs.Growth.{masks, AllFill, Grows, all_large, AllReach,
 use Rattle.avro_decode.specs.Suits.{Suits, AllSuit}
 use Rattle.arrow_builders.specs.Tight.{IsTight, AllTight}
 use Rattle.avro_decode.specs.Growth.{PartTight}
-use Rattle.avro_skip.proofs.Counting.{not_longer}
+use Rattle.avro_reference.proofs.Counting.{not_longer}
 use Rattle.avro_decode.proofs.Nodes.{grows_none, all_fill_more, all_reach_after, reach_wider, both_below, spare_after, fill_append, content_append, reach_append, spare_append}
 use Rattle.avro_flat.proofs.Pushes.{fills}
 use Rattle.avro_decode.proofs.Reading.{push_parts, push_none_parts}

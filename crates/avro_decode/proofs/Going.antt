@@ -17,15 +17,15 @@ use Rattle.avro_reference.specs.Prefix.{Reader}
 use Rattle.avro_reference.specs.Read.{push_one, read}
 use Rattle.arrow_types.specs.Numbers.{greatest_offset}
 use Rattle.avro_reference.proofs.ByLists.{read_array}
-use Rattle.avro_skip.specs.Costs.{passed}
+use Rattle.avro_reference.specs.Costs.{passed}
 use Rattle.avro_flat.specs.Decoding.{Fails, Gives}
 use Rattle.avro_decode.specs.Decoding.{all_blocks}
 use Rattle.avro_flat.specs.declared.fault.DecodeFault.{DecodeFault}
 use Rattle.avro_flat.specs.declared.fault.DecodeFault.TheVariants.{Memory}
-use Rattle.avro_decode.specs.Masks.{mask, paid}
+use Rattle.avro_decode.specs.Masks.{mask, bounded}
 use Rattle.avro_decode.specs.Growth.{Grows, all_large, Reaches, AllReach, AllOffsetsReach, HaveSpare}
 use Rattle.avro_decode.specs.Suits.{Suits}
-use Rattle.avro_skip.proofs.Counting.{not_longer}
+use Rattle.avro_reference.proofs.Counting.{not_longer}
 use Rattle.avro_decode.proofs.Nodes.{grows_more, grows_wider, all_reach_after, reach_less, reach_wider, small_below, large_above, all_reach_fewer, spare_after}
 use Rattle.avro_flat.proofs.Pushes.{fills}
 use Rattle.avro_decode.proofs.Reading.{array-reads, array-err, blocks-all}
@@ -86,7 +86,7 @@ spare_on ms x y z xs ys f k g h =
 -- ---- the first node has as many slots as the builder
 
 top : (large : Bool) (ms : List Bool) (x : Node) (xs : List Node) (n : ℕ) → x.slots ≡ n → AllReach large ms 0 (x ∷ xs) → n ≤ greatest_offset large
-top large ms x xs n e h = from (paid ms) h.0
+top large ms x xs n e h = from (bounded ms) h.0
   where
     from : (p : Bool) → Reaches large p 0 x → n ≤ greatest_offset large
     from true r = omega (arith, r.0, e)

@@ -2,6 +2,7 @@ pub mod Builders
 pub mod Capacity
 pub mod Columns
 pub mod Fields
+pub mod Frozen
 pub mod Going
 pub mod KeptSchemas
 pub mod Large

@@ -19,7 +19,7 @@ use Rattle.avro_schema.specs.declared.schema.Schema.{Null as NullSchema}
 use Rattle.avro_schema.specs.declared.schema.AvroField.{AvroField}
 use denote.Param.Weighed.{most, at_most}
 use Rattle.avro_schema.proofs.schema.Schema.TheLaws.{the_size}
-use Rattle.std.proofs.Common.{◌*◌, rules}
+use Rattle.std.proofs.Common.{rules}
 use Rattle.avro_schema.specs.declared.schema.Schema.TheViews.{the_lemmas}
 use Rattle.avro_schema.specs.declared.schema.Schema.TheBlock.{shape-the_row-Schema-0, hidden-the_row-Schema-0}
 use Rattle.avro_schema.specs.declared.schema.Record.{Record as TheRecord, out-Record}
@@ -33,12 +33,12 @@ use Rattle.avro_reference.specs.Read.{push_one, read}
 use Rattle.avro_reference.specs.Listed.{read_union_of, read_member_of, read_record_of, read_fields_of}
 use Rattle.avro_grammar.proofs.Basics.{null_told}
 use Rattle.avro_decode.specs.Decoding.{grown}
-use Rattle.avro_skip.specs.Costs.{passed}
+use Rattle.avro_reference.specs.Costs.{passed}
 use Rattle.avro_flat.specs.Decoding.{Gives}
 use Rattle.avro_decode.specs.Decoding.{null_or, pair_at}
 use Rattle.avro_flat.specs.declared.fault.DecodeFault.{DecodeFault}
 use Rattle.avro_flat.specs.declared.fault.DecodeFault.TheVariants.{Memory}
-use Rattle.avro_decode.specs.Masks.{mask, paid}
+use Rattle.avro_decode.specs.Masks.{mask, bounded}
 use Rattle.avro_decode.specs.Growth.{mask_pair, masks, Fills, AllFill, Grows, AllOffsetsReach, HaveSpare}
 use Rattle.avro_decode.specs.Suits.{Suits, AllSuit, IsFixedDecimal}
 use Rattle.arrow_types.specs.declared.physical.PrimitiveType.TheVariants as primitive
@@ -145,7 +145,7 @@ fills_one ms x y b c h l =
     let f = first_node b in
     let g = first_node c in
     let k : AllFill ms (passed x y) (f.0 ∷ f.1) (g.0 ∷ g.1) = subst (λ (xs : List Node). AllFill ms (passed x y) xs (g.0 ∷ g.1)) f.2 (subst (AllFill ms (passed x y) (nodes b)) g.2 h) in
-    from (paid ms) f.0 g.0 k.0 f.3 g.3
+    from (bounded ms) f.0 g.0 k.0 f.3 g.3
   where
     from : (p : Bool) (m n : Node) → Fills p (passed x y) m n → m.slots ≡ length (builder_slots b) → n.slots ≡ length (builder_slots c) → length y < length x
     from true m n t d e = omega (arith, t.slots_added, d, e, l)

@@ -3,11 +3,11 @@ use Rattle.std.proofs.Common.{◌≡◌, ℕ, ◌+◌, ◌≤◌, Bool, true, fa
 use Rattle.arrow_types.specs.Numbers.{greatest_offset}
 use Rattle.std.specs.Prelude.{if◌then◌else◌}
 use Rattle.arrow_builders.specs.Nodes.{Node, Takes, HasSpare}
-use Rattle.avro_decode.specs.Masks.{paid, later, content}
+use Rattle.avro_decode.specs.Masks.{bounded, later, content}
 use Rattle.avro_decode.specs.Growth.{Fills, AllFill, Grows, Reaches, AllReach, HaveSpare}
 use Rattle.avro_schema.specs.Number.{MovesForward}
-use Rattle.avro_skip.specs.Costs.{passed}
-use Rattle.avro_skip.proofs.Counting.{not_longer}
+use Rattle.avro_reference.specs.Costs.{passed}
+use Rattle.avro_reference.proofs.Counting.{not_longer}
 use Rattle.avro_flat.proofs.Pushes.{takes_none}
 
 -- ---- one node
@@ -51,7 +51,7 @@ room_after false m n k x y f e le h = absurd cc
 
 fill_none : (ms : List Bool) (n : ℕ) (xs : List Node) → AllFill ms n xs xs
 fill_none ms n [] = tt
-fill_none ms n (x ∷ xs) = (fills_some (paid ms) n x, fill_none (later ms) n xs)
+fill_none ms n (x ∷ xs) = (fills_some (bounded ms) n x, fill_none (later ms) n xs)
 
 pub all_fill_more : (ms : List Bool) (m n k : ℕ) (xs ys zs : List Node) → AllFill ms m xs ys → AllFill ms n ys zs → m + n ≤ k → AllFill ms k xs zs
 all_fill_more ms m n k [] [] [] h g le = tt
@@ -59,13 +59,13 @@ all_fill_more ms m n k [] [] (z ∷ zs) h g le = absurd g
 all_fill_more ms m n k [] (y ∷ ys) zs h g le = absurd h
 all_fill_more ms m n k (x ∷ xs) [] zs h g le = absurd h
 all_fill_more ms m n k (x ∷ xs) (y ∷ ys) [] h g le = absurd g
-all_fill_more ms m n k (x ∷ xs) (y ∷ ys) (z ∷ zs) h g le = (fill_more (paid ms) m n k x y z h.0 g.0 le, all_fill_more (later ms) m n k xs ys zs h.1 g.1 le)
+all_fill_more ms m n k (x ∷ xs) (y ∷ ys) (z ∷ zs) h g le = (fill_more (bounded ms) m n k x y z h.0 g.0 le, all_fill_more (later ms) m n k xs ys zs h.1 g.1 le)
 
 all_fill_wider : (ms : List Bool) (m n : ℕ) (xs ys : List Node) → AllFill ms m xs ys → m ≤ n → AllFill ms n xs ys
 all_fill_wider ms m n [] [] h le = tt
 all_fill_wider ms m n [] (y ∷ ys) h le = absurd h
 all_fill_wider ms m n (x ∷ xs) [] h le = absurd h
-all_fill_wider ms m n (x ∷ xs) (y ∷ ys) h le = (fill_wider (paid ms) m n x y h.0 le, all_fill_wider (later ms) m n xs ys h.1 le)
+all_fill_wider ms m n (x ∷ xs) (y ∷ ys) h le = (fill_wider (bounded ms) m n x y h.0 le, all_fill_wider (later ms) m n xs ys h.1 le)
 
 pub grows_none : (ms : List Bool) (n : ℕ) (xs : List Node) → Grows ms n xs xs
 grows_none ms n xs = record { each = fill_none ms n xs; all = omega arith }
@@ -79,9 +79,9 @@ grows_wider ms m n xs ys h le = record { each = all_fill_wider ms m n xs ys h.ea
 pub one_grows : (n : ℕ) (x y : Node) → Fills true n x y → Grows (true ∷ []) n (x ∷ []) (y ∷ [])
 one_grows n x y f = record { each = (f, tt); all = omega (arith, f.bytes_added) }
 
--- ---- masks of which one lets less be paid
+-- ---- masks of which one lets less be bounded
 
--- as long, and where the first lets a node be paid, so does the second
+-- as long, and where the first lets a node be bounded, so does the second
 abbrev pub Fewer : List Bool → List Bool → Type 0
 Fewer [] [] = Unit {0}
 Fewer (m ∷ ms) (n ∷ ns) = (m ≡ true → n ≡ true) × Fewer ms ns
@@ -97,11 +97,11 @@ fewer_append [] (b ∷ bs) cs ds h k = absurd h
 fewer_append (a ∷ us) [] cs ds h k = absurd h
 fewer_append (a ∷ us) (b ∷ bs) cs ds h k = (h.0, fewer_append us bs cs ds h.1 k)
 
-fewer_paid : (ms ns : List Bool) → Fewer ms ns → paid ms ≡ true → paid ns ≡ true
-fewer_paid [] [] h e = refl
-fewer_paid [] (n ∷ ns) h e = absurd h
-fewer_paid (m ∷ ms) [] h e = absurd h
-fewer_paid (m ∷ ms) (n ∷ ns) h e = h.0 e
+fewer_bounded : (ms ns : List Bool) → Fewer ms ns → bounded ms ≡ true → bounded ns ≡ true
+fewer_bounded [] [] h e = refl
+fewer_bounded [] (n ∷ ns) h e = absurd h
+fewer_bounded (m ∷ ms) [] h e = absurd h
+fewer_bounded (m ∷ ms) (n ∷ ns) h e = h.0 e
 
 fewer_later : (ms ns : List Bool) → Fewer ms ns → Fewer (later ms) (later ns)
 fewer_later [] [] h = tt
@@ -119,7 +119,7 @@ all_fill_fewer : (ms ns : List Bool) (n : ℕ) (xs ys : List Node) → Fewer ms 
 all_fill_fewer ms ns n [] [] w h = tt
 all_fill_fewer ms ns n [] (y ∷ ys) w h = absurd h
 all_fill_fewer ms ns n (x ∷ xs) [] w h = absurd h
-all_fill_fewer ms ns n (x ∷ xs) (y ∷ ys) w h = (fill_fewer (paid ms) (paid ns) n x y (fewer_paid ms ns w) h.0, all_fill_fewer (later ms) (later ns) n xs ys (fewer_later ms ns w) h.1)
+all_fill_fewer ms ns n (x ∷ xs) (y ∷ ys) w h = (fill_fewer (bounded ms) (bounded ns) n x y (fewer_bounded ms ns w) h.0, all_fill_fewer (later ms) (later ns) n xs ys (fewer_later ms ns w) h.1)
 
 bytes_kept : (p : Bool) (n : ℕ) (x y : Node) → Fills p n x y → x.bytes ≤ y.bytes
 bytes_kept true n x y f = f.bytes_kept
@@ -136,7 +136,7 @@ content_fewer ms ns n [] [] w h = omega arith
 content_fewer ms ns n [] (y ∷ ys) w h = absurd h
 content_fewer ms ns n (x ∷ xs) [] w h = absurd h
 content_fewer ms ns n (x ∷ xs) (y ∷ ys) w h =
-    let a = one_content (paid ms) (paid ns) x y (fewer_paid ms ns w) (bytes_kept (paid ns) n x y h.0) in
+    let a = one_content (bounded ms) (bounded ns) x y (fewer_bounded ms ns w) (bytes_kept (bounded ns) n x y h.0) in
     let r = content_fewer (later ms) (later ns) n xs ys (fewer_later ms ns w) h.1 in
     omega (arith, a, r)
 
@@ -153,7 +153,7 @@ reach_fewer large false false m n x w le h = (omega (arith, h.0, le), tt)
 
 pub all_reach_fewer : (large : Bool) (ms ns : List Bool) (m n : ℕ) (xs : List Node) → Fewer ms ns → n ≤ m → AllReach large ns m xs → AllReach large ms n xs
 all_reach_fewer large ms ns m n [] w le h = tt
-all_reach_fewer large ms ns m n (x ∷ xs) w le h = (reach_fewer large (paid ms) (paid ns) m n x (fewer_paid ms ns w) le h.0, all_reach_fewer large (later ms) (later ns) m n xs (fewer_later ms ns w) le h.1)
+all_reach_fewer large ms ns m n (x ∷ xs) w le h = (reach_fewer large (bounded ms) (bounded ns) m n x (fewer_bounded ms ns w) le h.0, all_reach_fewer large (later ms) (later ns) m n xs (fewer_later ms ns w) le h.1)
 
 pub reach_less : (large : Bool) (ms : List Bool) (m n : ℕ) (xs : List Node) → n ≤ m → AllReach large ms m xs → AllReach large ms n xs
 reach_less large ms m n xs le h = all_reach_fewer large ms ms m n xs (fewer_same ms) le h
@@ -162,7 +162,7 @@ pub all_reach_after : (large : Bool) (ms ns : List Bool) (m n k : ℕ) (xs ys : 
 all_reach_after large ms ns m n k [] [] w f le h = tt
 all_reach_after large ms ns m n k [] (y ∷ ys) w f le h = absurd f
 all_reach_after large ms ns m n k (x ∷ xs) [] w f le h = absurd f
-all_reach_after large ms ns m n k (x ∷ xs) (y ∷ ys) w f le h = (reach_after large (paid ns) (paid ms) m n k x y f.0 (fewer_paid ms ns w) le h.0, all_reach_after large (later ms) (later ns) m n k xs ys (fewer_later ms ns w) f.1 le h.1)
+all_reach_after large ms ns m n k (x ∷ xs) (y ∷ ys) w f le h = (reach_after large (bounded ns) (bounded ms) m n k x y f.0 (fewer_bounded ms ns w) le h.0, all_reach_after large (later ms) (later ns) m n k xs ys (fewer_later ms ns w) f.1 le h.1)
 
 one_wider : (a b p : Bool) (n : ℕ) (x : Node) → greatest_offset a ≤ greatest_offset b → Reaches a p n x → Reaches b p n x
 one_wider a b true n x le h = (omega (arith, h.0, le), omega (arith, h.1, le))
@@ -171,7 +171,7 @@ one_wider a b false n x le h = (omega (arith, h.0, le), tt)
 -- greater offsets count as much
 pub reach_wider : (a b : Bool) (ms : List Bool) (n : ℕ) (xs : List Node) → greatest_offset a ≤ greatest_offset b → AllReach a ms n xs → AllReach b ms n xs
 reach_wider a b ms n [] le h = tt
-reach_wider a b ms n (x ∷ xs) le h = (one_wider a b (paid ms) n x le h.0, reach_wider a b (later ms) n xs le h.1)
+reach_wider a b ms n (x ∷ xs) le h = (one_wider a b (bounded ms) n x le h.0, reach_wider a b (later ms) n xs le h.1)
 
 pub small_below : (b : Bool) → greatest_offset false ≤ greatest_offset b
 small_below false = omega arith
@@ -190,7 +190,7 @@ room_less m n x le h = record { slots = omega (arith, le, h.slots); bytes = omeg
 
 pub spare_fewer : (ms ns : List Bool) (m n : ℕ) (xs : List Node) → Fewer ms ns → n ≤ m → HaveSpare ms m xs → HaveSpare ns n xs
 spare_fewer ms ns m n [] w le h = tt
-spare_fewer ms ns m n (x ∷ xs) w le h = (fewer_paid ms ns w h.0, room_less m n x le h.1, spare_fewer (later ms) (later ns) m n xs (fewer_later ms ns w) le h.2)
+spare_fewer ms ns m n (x ∷ xs) w le h = (fewer_bounded ms ns w h.0, room_less m n x le h.1, spare_fewer (later ms) (later ns) m n xs (fewer_later ms ns w) le h.2)
 
 pub spare_less : (ms : List Bool) (m n : ℕ) (xs : List Node) → n ≤ m → HaveSpare ms m xs → HaveSpare ms n xs
 spare_less ms m n xs le h = spare_fewer ms ms m n xs (fewer_same ms) le h
@@ -199,7 +199,7 @@ pub spare_after : (ms : List Bool) (m n k : ℕ) (xs ys : List Node) → AllFill
 spare_after ms m n k [] [] f le h = tt
 spare_after ms m n k [] (y ∷ ys) f le h = absurd f
 spare_after ms m n k (x ∷ xs) [] f le h = absurd f
-spare_after ms m n k (x ∷ xs) (y ∷ ys) f le h = (h.0, room_after (paid ms) m n k x y f.0 h.0 le h.1, spare_after (later ms) m n k xs ys f.1 le h.2)
+spare_after ms m n k (x ∷ xs) (y ∷ ys) f le h = (h.0, room_after (bounded ms) m n k x y f.0 h.0 le h.1, spare_after (later ms) m n k xs ys f.1 le h.2)
 
 -- ---- nodes behind nodes
 

@@ -13,7 +13,7 @@ use Rattle.avro_reference.specs.Read.{read, items}
 use Rattle.avro_reference.specs.Skip.{Bad, or_bad}
 use Rattle.avro_reference.specs.Block.{row, row_after, rows, rows_after, add_kept}
 use Rattle.avro_reference.proofs.RowSteps.{rows_next, rows_err, rows_done, items_next, items_none}
-use Rattle.avro_skip.specs.Costs.{Costs, CostsKept}
+use Rattle.avro_reference.specs.Costs.{Costs, CostsKept}
 use Rattle.avro_decode.specs.Decoding.{grown_by, AreWide, GivesField, GivesRows}
 use Rattle.avro_decode.specs.declared.fault.BlockFault.{BlockFault}
 use Rattle.avro_decode.specs.declared.fault.BlockFault.TheVariants.{Bytes, NegativeSize, Memory}

@@ -2,7 +2,7 @@
 use Rattle.std.proofs.Common.{ℕ, ◌+◌, List, [], ◌∷◌, ◌++◌, arith}
 use Rattle.std.proofs.lemmas.List.Sums.{sum_by-append}
 use Rattle.avro_grammar.specs.Rows.{Pieces, total_kept, total_seen, total_hidden}
-use Rattle.avro_skip.specs.Costs.{passed, Costs, CostsKept}
+use Rattle.avro_reference.specs.Costs.{passed, Costs, CostsKept}
 
 module _ {X : Type 0} (rest : X → List ℕ) (shown calls : X → ℕ) where
   pub kept_more : (x y z : X) (kept seen hidden : ℕ) → Costs rest shown calls x y (kept + seen) hidden → CostsKept rest shown calls y z → Costs rest shown calls x z (kept + passed (rest y) (rest z) + seen) hidden

@@ -14,8 +14,8 @@ use Rattle.avro_reference.specs.Read.{read, push_one}
 use Rattle.avro_reference.specs.Skip.{Bad, Negative, skip}
 use Rattle.avro_reference.specs.Block.{row, rows, rows_after, block, add_kept, add_skipped}
 use Rattle.avro_reference.proofs.RowSteps.{row_left, kept_next, kept_bad, skipped_next, skipped_err, row_done, rows_next, rows_err, rows_done, block_ended, block_left, block_err}
-use Rattle.avro_skip.specs.Costs.{Costs, CostsKept}
-use Rattle.avro_skip.proofs.Counting.{costs_none}
+use Rattle.avro_reference.specs.Costs.{Costs, CostsKept}
+use Rattle.avro_reference.proofs.Counting.{costs_none}
 use Rattle.avro_decode.specs.Decoding.{grown, grown_by, FieldFails, IsFault, AreWide}
 use Rattle.avro_decode.specs.declared.fault.BlockFault.{BlockFault}
 use Rattle.avro_decode.specs.declared.fault.BlockFault.TheVariants.{Bytes, NegativeSize, Memory}

@@ -18,7 +18,7 @@ use Rattle.std.specs.List.{AllZip}
 use Rattle.arrow_array.specs.FixedLists.{list_size}
 use Rattle.arrow_builders.specs.Nodes.{Node}
 use Rattle.arrow_builders.specs.Shapes.{nulls_at, AllTake, FitsIn}
-use Rattle.avro_skip.specs.Costs.{passed}
+use Rattle.avro_reference.specs.Costs.{passed}
 use Rattle.avro_schema.specs.declared.schema.AvroField.{AvroField}
 use Rattle.avro_schema.specs.declared.schema.FixedLogical.{FixedLogical}
 use Rattle.avro_schema.specs.declared.schema.Record.{Record as TheRecord, Record', out-Record, Row_of-AvroField, end_of-AvroField, more_of-AvroField, items-the_row-AvroField}
@@ -28,7 +28,7 @@ use Rattle.avro_grammar.specs.Carried.{HasFields}
 use Rattle.avro_grammar.specs.Encodes.{is_null}
 use Rattle.avro_grammar.proofs.Basics.{null_told}
 use Rattle.avro_grammar.proofs.ByLists.{row_fields, fields_are}
-use Rattle.avro_decode.specs.Masks.{mask, fixed_paid, mask_fields, mask_record, mask_item, mask_members, paid, later, content}
+use Rattle.avro_decode.specs.Masks.{mask, fixed_bounded, mask_fields, mask_record, mask_item, mask_members, bounded, later, content}
 use Rattle.avro_decode.specs.Growth.{mask_pair, masks, Fills, AllFill, Grows, HaveSpare}
 use Rattle.avro_decode.specs.Suits.{Suits, SuitsFields, SuitsRecord, SuitsItem, SuitsMembers, AllSuit}
 use Rattle.avro_decode.specs.Growth.{SuitsPair}
@@ -157,7 +157,7 @@ mutual
 pub mask_length : (nulls : Bool) (s : Schema) (b : MutableArray) → Suits s (shape b) → length (mask nulls s) ≡ length (nodes b)
 mask_length nulls s b h = mask_fits 0 s (shape b) h nulls ∙ nulls-fit 0 b
 
--- ---- beneath a union no more nodes are paid
+-- ---- beneath a union no more nodes are bounded
 
 mutual
   pub mask_fewer : (s : Schema) → Fewer (mask true s) (mask false s)
@@ -174,11 +174,11 @@ mutual
   row_fewer end_of-AvroField = tt
   row_fewer (more_of-AvroField name doc s rest) = fewer_append (mask true s) (mask false s) (mask_fields true rest) (mask_fields false rest) (mask_fewer s) (row_fewer rest)
 
--- ---- nulls take no more than a slot at each node, and content where nothing is paid
+-- ---- nulls take no more than a slot at each node, and content where nothing is bounded
 
 abbrev pub Light : List Bool → List Added → Type 0
 Light ms [] = Unit {0}
-Light ms (a ∷ more) = (a.slots ≤ 1) × (paid ms ≡ true → a.bytes ≡ 0) × Light (later ms) more
+Light ms (a ∷ more) = (a.slots ≤ 1) × (bounded ms ≡ true → a.bytes ≡ 0) × Light (later ms) more
 
 light_append : (ms ns : List Bool) (us bs : List Added) → length ms ≡ length us → Light ms us → Light ns bs → Light (ms ++ ns) (us ++ bs)
 light_append [] ns [] bs l h k = k
@@ -214,9 +214,9 @@ none_light ms s sh h = light_all ms sh
     light_all : (ms : List Bool) (sh : Shape) → Light ms (nulls_in 0 sh)
     light_all ms sh = zeros ms (nulls_in 0 sh) (none_in sh)
 
-not_paid : (logical : Option FixedLogical) → logical ≡ None → fixed_paid true logical ≡ true → ⊥
-not_paid None e p = absurd cc
-not_paid (Some x) e p = absurd cc
+not_bounded : (logical : Option FixedLogical) → logical ≡ None → fixed_bounded true logical ≡ true → ⊥
+not_bounded None e p = absurd cc
+not_bounded (Some x) e p = absurd cc
 
 mutual
   pub light : (s : Schema) (sh : Shape) → Suits s sh → Light (mask true s) (nulls_in 1 sh)
@@ -228,7 +228,7 @@ mutual
   light (Bytes (Some decimal)) (flat (physical.Primitive primitive.Int128) t) h = (omega arith, λ e. refl, tt)
   light (String logical) (flat physical.Utf8 t) h = (omega arith, λ e. refl, tt)
   light (String logical) (flat physical.LargeUtf8 t) h = (omega arith, λ e. refl, tt)
-  light (Fixed f) (flat physical.FixedSizeBinary t) h = (omega arith, λ e. absurd (not_paid f.logical h.0 e), tt)
+  light (Fixed f) (flat physical.FixedSizeBinary t) h = (omega arith, λ e. absurd (not_bounded f.logical h.0 e), tt)
   light (Fixed f) (flat (physical.Primitive primitive.Int128) t) h = (omega arith, λ e. refl, tt)
   light (Fixed f) (flat (physical.Primitive primitive.MonthDayNano) t) h = (omega arith, λ e. refl, tt)
   light (Enum e) (dictionary t items) h = (omega arith, λ e. refl, tt)
@@ -264,7 +264,7 @@ take_light ms (a ∷ us) [] ys l h = absurd h
 take_light ms (a ∷ us) (x ∷ xs) [] l h = absurd h
 take_light ms (a ∷ us) (x ∷ xs) (y ∷ ys) l h =
     let r = take_light (later ms) us xs ys l.2 h.1 in
-    let one = from (paid ms) l.1 in
+    let one = from (bounded ms) l.1 in
     ((one.0, r.0), omega (arith, one.1, r.1))
   where
     from : (p : Bool) → (p ≡ true → a.bytes ≡ 0) → Fills p 1 x y × ((if p then y.bytes else 0) ≤ (if p then x.bytes else 0))

@@ -1,5 +1,5 @@
 -- What is decoded is a valid block, and a valid block has no cause to be refused.
-use Rattle.std.proofs.Common.{◌≡◌, inl, inr, ℕ, Bool, List, [], ◌∷◌, length, refl, ap, subst, arith}
+use Rattle.std.proofs.Common.{◌≡◌, inl, inr, ℕ, Bool, List, length, refl, ap, subst, arith}
 use Rattle.arrow_core.specs.declared.error.Error.{Error}
 use Rattle.arrow_core.specs.declared.error.Error.TheVariants.{InvalidArgumentError, NotYetImplemented, ExternalFormat, OutOfSpec, Overflow, OutOfMemory}
 use Rattle.arrow_core.specs.declared.error.Reason.TheVariants as reason

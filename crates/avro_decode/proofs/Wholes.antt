@@ -23,7 +23,7 @@ use Rattle.avro_reference.specs.Block.{block}
 use Rattle.avro_reference.proofs.Exact.{block_gives_rows, block_is_bad, block_is_negative}
 use Rattle.avro_decode.specs.Columns.{columns, AreColumns}
 use Rattle.avro_decode.specs.Counting.{ShowsAtMost, CallsAtMost}
-use Rattle.avro_skip.specs.Costs.{Costs}
+use Rattle.avro_reference.specs.Costs.{Costs}
 use Rattle.avro_decode.specs.Decoding.{grown_by, IsFault, AreWide}
 use Rattle.avro_decode.specs.declared.fault.BlockFault.{BlockFault}
 use Rattle.avro_decode.specs.declared.fault.BlockFault.TheVariants.{Bytes, NegativeSize as BelowZero}

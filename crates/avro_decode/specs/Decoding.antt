@@ -10,7 +10,7 @@ use Rattle.avro_grammar.specs.AndThen.{◌>>=◌}
 use Rattle.avro_reference.specs.Prefix.{Reader, number_at, is_count}
 use Rattle.avro_reference.specs.Read.{items, blocks, read}
 use Rattle.avro_reference.specs.Skip.{Fault, Bad, Negative}
-use Rattle.avro_skip.specs.Costs.{Costs}
+use Rattle.avro_reference.specs.Costs.{Costs}
 use Rattle.avro_flat.specs.Decoding.{Fails}
 use Rattle.avro_flat.specs.declared.fault.DecodeFault.{DecodeFault}
 use Rattle.avro_decode.specs.declared.fault.BlockFault.{BlockFault}
@@ -34,7 +34,7 @@ pair_at (pos zero) null_first s bytes = null_or null_first s bytes
 pair_at (pos (suc zero)) null_first s bytes = null_or (if null_first then false else true) s bytes
 pair_at _ null_first s bytes = None
 
--- n items behind their size in bytes
+-- n items after their size in bytes
 abbrev pub sized_items : Reader Slot → ℕ → List Slot → Reader (List Slot)
 sized_items f n old bytes = do
   size ← number_at bytes

@@ -17,17 +17,17 @@ use Rattle.avro_schema.specs.declared.schema.FixedLogical.TheVariants as fixed_l
 use Rattle.avro_schema.specs.declared.schema.Schema.{Schema, Boolean, Int, Long, Bytes, String, Fixed, Record, Enum, Array'}
 use Rattle.avro_grammar.specs.Carried.{IsNoUnion}
 use Rattle.avro_grammar.specs.Encodes.{IsNull, is_null}
-use Rattle.avro_decode.specs.Masks.{mask, paid, later, content, total}
+use Rattle.avro_decode.specs.Masks.{mask, bounded, later, content, total}
 use Rattle.avro_decode.specs.Suits.{Suits}
 
--- n slots are added at most, and n content bytes where they are paid for; none goes, and no other capacity is lost
+-- n slots are added at most, and n content bytes where these are bounded; none goes, and no other capacity is lost
 abbrev pub Fills : Bool → ℕ → Node → Node → Type 0
 Fills true n x y = Takes n n x y
 Fills false n x y = (b : ℕ) × Takes n b x y
 
 abbrev pub AllFill : List Bool → ℕ → List Node → List Node → Type 0
 AllFill ms n [] [] = Unit {0}
-AllFill ms n (x ∷ xs) (y ∷ ys) = Fills (paid ms) n x y × AllFill (later ms) n xs ys
+AllFill ms n (x ∷ xs) (y ∷ ys) = Fills (bounded ms) n x y × AllFill (later ms) n xs ys
 AllFill ms n _ _ = ⊥
 
 pub record Grows (ms : List Bool) (n : ℕ) (xs ys : List Node) : Type 0 where
@@ -52,16 +52,16 @@ Reaches large false n x = (x.slots + n ≤ greatest_offset large) × Unit {0}
 
 abbrev pub AllReach : Bool → List Bool → ℕ → List Node → Type 0
 AllReach large ms n [] = Unit {0}
-AllReach large ms n (x ∷ xs) = Reaches large (paid ms) n x × AllReach large (later ms) n xs
+AllReach large ms n (x ∷ xs) = Reaches large (bounded ms) n x × AllReach large (later ms) n xs
 
 -- the offsets of the builder can
 abbrev pub AllOffsetsReach : List Bool → ℕ → MutableArray → Type 0
 AllOffsetsReach ms n b = AllReach (all_large (shape b)) ms n (nodes b)
 
--- each node's content is paid for, and has spare capacity for n more
+-- each node's content is bounded, and has spare capacity for n more
 abbrev pub HaveSpare : List Bool → ℕ → List Node → Type 0
 HaveSpare ms n [] = Unit {0}
-HaveSpare ms n (x ∷ xs) = (paid ms ≡ true) × HasSpare n x × HaveSpare (later ms) n xs
+HaveSpare ms n (x ∷ xs) = (bounded ms ≡ true) × HasSpare n x × HaveSpare (later ms) n xs
 
 -- the same of members and of fields as lists
 abbrev pub mask_pair : List Schema → List Bool

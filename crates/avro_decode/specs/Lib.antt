@@ -1,6 +1,7 @@
 pub mod Capacity
 pub mod Columns
 pub mod Counting
+pub mod Decoder
 pub mod Decoding
 pub mod Growth
 pub mod Making

@@ -13,13 +13,14 @@ ghost use Rattle.avro_grammar.specs.Carried.{CarriedList};
 ghost use Rattle.avro_grammar.specs.Types.{Fits};
 ghost use Rattle.avro_grammar.specs.ValidBlock.{kept, ValidBlock};
 ghost use Rattle.avro_reference.specs.Block.{block};
-ghost use Rattle.avro_skip.specs.Costs.{passed, Moves};
+ghost use Rattle.avro_reference.specs.Costs.{passed, Moves};
 ghost use Rattle.avro_decode.specs.Capacity.{AtNodes, BetweenNodes};
 ghost use Rattle.avro_decode.specs.Columns.{AreColumns, kept_types};
 ghost use Rattle.avro_decode.specs.Counting.{ShowsAtMost, CallsAtMost};
+ghost use Rattle.avro_decode.specs.Decoder.{projected, AreReady};
 ghost use Rattle.avro_decode.specs.Decoding.{BlockHasMemory, GivesBlock};
 ghost use Rattle.avro_decode.specs.Growth.{ChildrenGrow, ChildrenReach, ChildrenHaveSpare};
-ghost use Rattle.avro_decode.specs.Masks.{total, BytesPayForAll};
+ghost use Rattle.avro_decode.specs.Masks.{total, BytesBoundContent};
 ghost use Rattle.avro_decode.specs.Refusals.{BelongTogether, AreCounted, BytesRefused, BlockRefused};
 ghost use Rattle.avro_decode.specs.Suits.{AllSuit};
 
@@ -31,8 +32,8 @@ use arrow_array::{Array, Chunk};
 use arrow_builders::MutableArray;
 use arrow_core::{Error, Reason, Result};
 use arrow_types::Field;
+use avro_reference::Lent;
 use avro_schema::{AvroField, Block, Cursor, SliceCursor};
-use avro_skip::Lent;
 use std::alloc::Global;
 use std::marker::PhantomData;
 
@@ -73,6 +74,32 @@ pub fn deserialize(
 {
     let mut builders = make_builders(alloc, fields, avro_fields, projection)?;
     let builders = builders.as_mut_slice();
+    decode_into(alloc, block, fields, avro_fields, projection, builders)
+}
+
+/// The columns of a block, by way of builders that are empty again then.
+pub(crate) fn decode_into(
+    alloc: Global,
+    block: &Block,
+    fields: &[Field],
+    avro_fields: &[AvroField],
+    projection: &[bool],
+    builders: &mut [MutableArray],
+) -> Result<Chunk>
+    requires ready { AreReady (projected fields.now avro_fields.now projection.now) builders.old }
+    ensures ready { OnOk result
+        (AreReady (projected fields.now avro_fields.now projection.now) builders.new) }
+    ensures valid { OnOk result (ValidBlock block.now.number_of_rows block.now.bytes fields.now
+        avro_fields.now projection.now) }
+    ensures counted { OnOk result (AreCounted block.now.number_of_rows fields.now projection.now
+        block.now.bytes) }
+    ensures columns { IfOk result (λ chunk. AreColumns block.now.number_of_rows avro_fields.now
+        projection.now block.now.bytes (map array_slots chunk)) }
+    ensures data_types { IfOk result (λ chunk. map array_type chunk
+        ≡ kept_types fields.now projection.now) }
+    ensures err { IfErr result (BytesRefused block.now.number_of_rows fields.now avro_fields.now
+        projection.now block.now.bytes) }
+{
     let mut cursor = SliceCursor::new(block.bytes.as_slice());
     let rows = block.number_of_rows;
     deserialize_into(&mut cursor, rows, fields, avro_fields, projection, builders)?;
@@ -139,7 +166,7 @@ pub fn deserialize_into<'a, C: Cursor<'a>>(
         ≤ length (C.rest cursor.old) }
     ensures capacity { BetweenNodes KeepsCapacity builders.old builders.new }
     ensures has_capacity { AtNodes (HasSpare (length (C.rest cursor.old))) builders.old
-        → BytesPayForAll (kept avro_fields.now projection.now)
+        → BytesBoundContent (kept avro_fields.now projection.now)
         → IfErr result (λ e. e ≡ OutOfMemory → ⊥) }
 {
     if !offsets_fit(cursor.left(), fields, projection) {
@@ -193,6 +220,9 @@ fn decode_lent<'a, C: Cursor<'a>>(
 fn freeze(alloc: Global, builders: &mut [MutableArray]) -> Result<Vec<Array>>
     requires tight { All IsTight builders.old }
     requires types_fit { All (λ b. TypesFit (shape b)) builders.old }
+    ensures shapes { OnOk result (map shape builders.new ≡ map shape builders.old) }
+    ensures tight { OnOk result (All IsTight builders.new) }
+    ensures emptied { OnOk result (AtNodes IsEmpty builders.new) }
     ensures data_types { IfOk result (λ arrays. map array_type arrays.items
         ≡ map builder_type builders.old) }
     ensures slots { IfOk result (λ arrays. map array_slots arrays.items

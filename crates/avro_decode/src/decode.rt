@@ -12,7 +12,7 @@ ghost use Rattle.avro_schema.specs.declared.schema.Schema.{Array};
 ghost use Rattle.avro_reference.specs.Read.{push_one, items, block_items, read};
 ghost use Rattle.avro_grammar.specs.Carried.{IsNoUnion};
 ghost use Rattle.avro_reference.specs.Listed.{read_union_of, read_fields_of, read_record_of};
-ghost use Rattle.avro_skip.specs.Costs.{passed, Moves, CostsKept};
+ghost use Rattle.avro_reference.specs.Costs.{passed, Moves, CostsKept};
 ghost use Rattle.avro_flat.specs.Decoding.{Gives, HasMemory};
 ghost use Rattle.avro_decode.specs.Decoding.{GivesFields, null_or, null_at, pair_at, sized_items, all_blocks};
 ghost use Rattle.avro_decode.specs.Masks.{mask};
@@ -28,8 +28,8 @@ use arrow_builders::{
 };
 use avro_flat::{DecodeFault, pushed};
 use avro_infer::is_null;
+use avro_reference::Ahead;
 use avro_schema::{AvroField, AvroSchema};
-use avro_skip::Ahead;
 
 /// Reads one value of a schema into one more slot.
 // It is inlined wherever a value is read, so that a flat one, beneath a union too, takes no call into

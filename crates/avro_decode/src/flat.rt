@@ -8,7 +8,7 @@ ghost use Rattle.avro_schema.specs.declared.schema.Schema.{Fixed as FixedSchema}
 ghost use Rattle.avro_grammar.specs.Carried.{IsFixedSize};
 ghost use Rattle.avro_infer.specs.Inference.{HasNoParts};
 ghost use Rattle.avro_reference.specs.Read.{push_one, read, fixed_at};
-ghost use Rattle.avro_skip.specs.Costs.{passed, Moves, CostsKept};
+ghost use Rattle.avro_reference.specs.Costs.{passed, Moves, CostsKept};
 ghost use Rattle.avro_flat.specs.Decoding.{Gives, HasMemory};
 ghost use Rattle.avro_decode.specs.Growth.{Grows, AllOffsetsReach, HaveSpare, HasFlatKind, fixed_kind};
 ghost use Rattle.avro_decode.specs.Masks.{mask};
@@ -19,8 +19,8 @@ use avro_flat::{
     DecodeFault, decode_binary, decode_boolean, decode_decimal, decode_duration, decode_fixed,
     decode_fixed_decimal, decode_int, decode_long, decode_string, decode_symbol,
 };
+use avro_reference::Ahead;
 use avro_schema::{AvroSchema, Fixed, FixedLogical};
-use avro_skip::Ahead;
 
 /// Reads one value of a flat schema into one more slot.
 #[inline(always)]

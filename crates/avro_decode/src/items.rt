@@ -6,7 +6,7 @@ ghost use Rattle.arrow_builders.specs.MutableArrays.{builder_slots, builder_kind
 ghost use Rattle.arrow_builders.specs.Shapes.{shape};
 ghost use Rattle.arrow_builders.specs.Tight.{IsTight};
 ghost use Rattle.avro_reference.specs.Read.{items, read};
-ghost use Rattle.avro_skip.specs.Costs.{passed, Moves, CostsKept};
+ghost use Rattle.avro_reference.specs.Costs.{passed, Moves, CostsKept};
 ghost use Rattle.avro_flat.specs.Decoding.{Gives, HasMemory};
 ghost use Rattle.avro_decode.specs.Growth.{Grows, AllOffsetsReach, HaveSpare, HasFlatKind};
 ghost use Rattle.avro_decode.specs.Masks.{mask};
@@ -16,8 +16,8 @@ ghost use Rattle.avro_infer.specs.Inference.{HasNoParts};
 use crate::flat::decode_flat;
 use arrow_builders::MutableArray;
 use avro_flat::{DecodeFault, decode_longs};
+use avro_reference::Ahead;
 use avro_schema::AvroSchema;
-use avro_skip::Ahead;
 
 /// Reads so many values of a flat schema, each into one more slot.
 #[tactic(auto, using(crate::proofs::Sets::kinds))]

@@ -3,6 +3,7 @@
 
 mod blocks;
 mod decode;
+mod decoder;
 mod fault;
 mod flat;
 mod items;
@@ -13,5 +14,6 @@ mod prepare;
 mod rows;
 
 pub use blocks::{deserialize, deserialize_into};
+pub use decoder::Decoder;
 pub use laws::{reserved_capacity_stays, valid_blocks_are_read};
 pub use prepare::make_builders;

@@ -9,6 +9,7 @@ ghost use Rattle.arrow_builders.specs.Shapes.{shape};
 ghost use Rattle.arrow_builders.specs.Tight.{IsTight};
 ghost use Rattle.avro_grammar.specs.ValidBlock.{kept};
 ghost use Rattle.avro_decode.specs.Columns.{kept_types};
+ghost use Rattle.avro_decode.specs.Decoder.{projected, CanBeDecoded, ProjectionRefused};
 ghost use Rattle.avro_decode.specs.Making.{AreNewBuilders};
 ghost use Rattle.avro_decode.specs.Refusals.{BelongTogether, FieldsRefused};
 ghost use Rattle.avro_decode.specs.Suits.{AllSuit};
@@ -22,11 +23,15 @@ use avro_infer::{all_carried, all_fit};
 use avro_schema::AvroField;
 use std::alloc::Global;
 
-/// Whether fields, Avro fields and projection belong together.
-fn check_fields(fields: &[Field], avro_fields: &[AvroField], projection: &[bool]) -> Result<()>
+/// Whether fields, Avro fields and projection belong together, the symbols of kept enums aside.
+pub(crate) fn check_types(
+    fields: &[Field],
+    avro_fields: &[AvroField],
+    projection: &[bool],
+) -> Result<()>
     ensures { MatchResult result
-        (λ _. BelongTogether fields.now avro_fields.now projection.now)
-        (FieldsRefused fields.now avro_fields.now projection.now) }
+        (λ _. CanBeDecoded (projected fields.now avro_fields.now projection.now))
+        (ProjectionRefused (projected fields.now avro_fields.now projection.now)) }
 {
     if fields.len() != avro_fields.len() || projection.len() != avro_fields.len() {
         return Err(Error::InvalidArgumentError(Reason::Lengths));
@@ -43,6 +48,16 @@ fn check_fields(fields: &[Field], avro_fields: &[AvroField], projection: &[bool]
     if !keep_no_float(avro_fields, projection) {
         return Err(Error::NotYetImplemented(Reason::Float));
     }
+    Ok(())
+}
+
+/// Whether fields, Avro fields and projection belong together.
+fn check_fields(fields: &[Field], avro_fields: &[AvroField], projection: &[bool]) -> Result<()>
+    ensures { MatchResult result
+        (λ _. BelongTogether fields.now avro_fields.now projection.now)
+        (FieldsRefused fields.now avro_fields.now projection.now) }
+{
+    check_types(fields, avro_fields, projection)?;
     if !kept_enums_fit(avro_fields, projection) {
         return Err(Error::Overflow);
     }

@@ -9,7 +9,7 @@ ghost use Rattle.avro_grammar.specs.ValidBlock.{kept};
 ghost use Rattle.avro_reference.specs.Read.{push_one, items, read};
 ghost use Rattle.avro_reference.specs.Skip.{skip};
 ghost use Rattle.avro_reference.specs.Block.{row, rows as rows_at, block};
-ghost use Rattle.avro_skip.specs.Costs.{passed, Moves, CostsKept};
+ghost use Rattle.avro_reference.specs.Costs.{passed, Moves, CostsKept};
 ghost use Rattle.avro_flat.specs.Decoding.{Gives, HasMemory};
 ghost use Rattle.avro_decode.specs.Decoding.{BlockHasMemory, GivesField, PassesField, GivesRow, GivesRows, GivesBlock};
 ghost use Rattle.avro_decode.specs.Growth.{Grows, AllOffsetsReach, HaveSpare, ChildrenGrow, ChildrenReach, ChildrenHaveSpare};
@@ -20,8 +20,9 @@ use crate::decode::{decode_items, decode_value};
 use crate::fault::BlockFault;
 use arrow_builders::MutableArray;
 use avro_flat::DecodeFault;
+use avro_reference::Ahead;
 use avro_schema::{AvroField, AvroSchema};
-use avro_skip::{Ahead, SkipFault, skip_value};
+use avro_skip::{SkipFault, skip_value};
 
 /// Reads the rows of a whole block.
 pub fn decode_block<C: Ahead>(

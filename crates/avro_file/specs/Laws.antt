@@ -32,7 +32,7 @@ pub record IsMetadata (bytes : List ℕ) (root : Record) (marker : List ℕ) : T
   pub means : StandsFor text root
   pub codec : IsPlain (codec_entry entries)
 
--- where the bytes begin with metadata, within the limit, and no read fails, no error but want of memory is answered
+-- where the bytes begin with metadata, within the limit, and no read fails, no error but out of memory is answered
 abbrev pub MetadataIsRead : Type 0
 MetadataIsRead =
     (prefix rest marker : List ℕ) (root : Record) (c : Change) → c.left ≡ Some (prefix ++ rest) → IsMetadata prefix root marker → length prefix ≤ c.limit → (RoseOrFull c.faults c.faults_after → ⊥) → (e : Error) → MetadataFails c e → e ≡ OutOfMemory

@@ -56,7 +56,7 @@ fn read_root(alloc: Global, text: &[u8]) -> Result<Record>
 /// another one than `null`; what `read_schema_text` refuses of the schema's text, which is
 /// `ExternalFormat(SchemaText)`, `NotYetImplemented(TypeReference)` or `LimitExceeded`;
 /// `NotYetImplemented(RootNotRecord)` where the schema is no record. `OutOfMemory` may come at any
-/// place. An error is answered before any byte is taken past the part that shows it, and no byte is
+/// time. An error is answered before any byte is taken past the part that shows it, and no byte is
 /// taken past the header. The buffer is filled in pieces of at most 65536 bytes, each asked for once
 /// the ones before it were read; no clause says so.
 pub fn read_metadata<S: Source>(

@@ -7,7 +7,7 @@ use Rattle.arrow_types.specs.declared.slot.Slot.{Slot}
 use Rattle.arrow_types.specs.declared.slot.Slot.TheVariants as slot
 use Rattle.avro_reference.specs.Prefix.{bytes_at, sized_at}
 use Rattle.avro_reference.specs.Read.{push_one, binary_at}
-use Rattle.avro_skip.specs.Lengths.{length_at}
+use Rattle.avro_reference.specs.Lengths.{length_at}
 use Rattle.avro_flat.specs.Decoding.{Gives}
 use Rattle.avro_flat.specs.declared.fault.DecodeFault.{DecodeFault}
 use Rattle.avro_flat.specs.declared.fault.DecodeFault.TheVariants.{Memory}

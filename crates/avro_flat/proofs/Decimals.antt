@@ -6,7 +6,7 @@ use Rattle.arrow_types.specs.declared.slot.Slot.TheVariants as slot
 use Rattle.avro_grammar.specs.Encodes.{twos_complement}
 use Rattle.avro_reference.specs.Prefix.{bytes_at, sized_at}
 use Rattle.avro_reference.specs.Read.{decimal_at}
-use Rattle.avro_skip.specs.Lengths.{length_at}
+use Rattle.avro_reference.specs.Lengths.{length_at}
 use Rattle.avro_flat.proofs.Counted.{sized_is, sized_none}
 
 -- ---- so many bytes

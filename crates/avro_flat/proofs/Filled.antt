@@ -2,9 +2,9 @@
 use Rattle.std.proofs.Common.{ℕ, ◌+◌, ◌≤◌, List, length, arith}
 use Rattle.arrow_flat.specs.Nodes.{Node, Takes, HasSpare}
 use Rattle.avro_schema.specs.Number.{MovesForward}
-use Rattle.avro_skip.specs.Costs.{passed}
+use Rattle.avro_reference.specs.Costs.{passed}
 use Rattle.avro_flat.specs.Growing.{Fills}
-use Rattle.avro_skip.proofs.Counting.{not_longer}
+use Rattle.avro_reference.proofs.Counting.{not_longer}
 
 pub takes_more : (a b c d m n : ℕ) (x y z : Node) → Takes a b x y → Takes c d y z → a + c ≤ m → b + d ≤ n → Takes m n x z
 takes_more a b c d m n x y z h k le less = record {

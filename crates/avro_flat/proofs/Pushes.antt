@@ -9,7 +9,7 @@ use Rattle.arrow_types.specs.Numbers.{greatest_offset}
 use Rattle.arrow_flat.specs.Builders.{PlainBuilder, ContentBuilder, plain_node, content_node}
 use Rattle.arrow_flat.specs.Nodes.{Node, KeepsCapacity, Takes, HasSpare}
 use Rattle.avro_flat.specs.declared.fault.DecodeFault.{DecodeFault}
-use Rattle.avro_skip.specs.Costs.{passed}
+use Rattle.avro_reference.specs.Costs.{passed}
 use Rattle.avro_flat.specs.Decoding.{HasMemory}
 use Rattle.avro_flat.specs.Growing.{OffsetsReach, Fills}
 

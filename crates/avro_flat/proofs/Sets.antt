@@ -1,5 +1,5 @@
 -- The lemmas that several functions want, by what they are about.
-use Rattle.avro_skip.proofs.Counting.{number_costs, byte_moves, ended_moves, byte_costs, still_moves, drop_moves}
+use Rattle.avro_reference.proofs.Counting.{number_costs, byte_moves, ended_moves, byte_costs, still_moves, drop_moves}
 use Rattle.avro_flat.proofs.Counted.{binary_none, binary_short}
 use Rattle.avro_flat.proofs.Decimals.{decimal_none}
 use Rattle.avro_flat.proofs.Pushes.{fills_none, takes_none, number_fills, byte_fills, number_has_memory, byte_has_memory, string_takes}

@@ -9,7 +9,7 @@ use Rattle.arrow_types.specs.declared.slot.Slot.TheVariants as slot
 use Rattle.avro_grammar.specs.AndThen.{◌>>=◌}
 use Rattle.avro_reference.specs.Prefix.{number_at, bytes_at, counted_at, sized_at}
 use Rattle.avro_reference.specs.Read.{push_one, string_at, fixed_at}
-use Rattle.avro_skip.specs.Lengths.{as_length, length_at}
+use Rattle.avro_reference.specs.Lengths.{as_length, length_at}
 use Rattle.avro_flat.specs.Decoding.{Gives, IsStringFault}
 use Rattle.avro_flat.specs.declared.fault.DecodeFault.{DecodeFault}
 use Rattle.avro_flat.specs.declared.fault.DecodeFault.TheVariants.{Bytes, Memory}

@@ -11,7 +11,7 @@ use Rattle.arrow_flat.specs.Dictionaries.{DictionaryBuilder, dictionary_node}
 use Rattle.arrow_flat.specs.Nodes.{KeepsCapacity}
 use Rattle.avro_reference.specs.Prefix.{number_at, is_index}
 use Rattle.avro_reference.specs.Read.{symbol_of}
-use Rattle.avro_skip.specs.Costs.{passed}
+use Rattle.avro_reference.specs.Costs.{passed}
 use Rattle.avro_flat.specs.Growing.{Fills}
 use Rattle.avro_flat.proofs.Pushes.{number_fills}
 

@@ -5,14 +5,14 @@ ghost use Rattle.arrow_types.specs.declared.slot.Slot.TheVariants.{Binary as Bin
 ghost use Rattle.avro_reference.specs.Read.{push_one, binary_at};
 ghost use Rattle.arrow_flat.specs.Builders.{content_node};
 ghost use Rattle.arrow_flat.specs.Nodes.{Takes, HasSpare};
-ghost use Rattle.avro_skip.specs.Costs.{passed, Moves, CostsKept};
+ghost use Rattle.avro_reference.specs.Costs.{passed, Moves, CostsKept};
 ghost use Rattle.avro_flat.specs.Decoding.{Gives, HasMemory};
 ghost use Rattle.avro_flat.specs.Growing.{OffsetsReach, Fills};
 
 use crate::fault::{DecodeFault, pushed};
 use arrow_flat::MutableBinaryArray;
 use arrow_types::Offset;
-use avro_skip::{Ahead, read_length};
+use avro_reference::{Ahead, read_length};
 use std::convert::AsSlice;
 
 /// Reads a binary value: a length of 0 or more, and as many bytes (Avro 1.11, "Primitive Types").

@@ -8,13 +8,13 @@ ghost use Rattle.avro_reference.specs.Prefix.{bytes_at, sized_at};
 ghost use Rattle.avro_reference.specs.Read.{push_one, decimal_at};
 ghost use Rattle.arrow_flat.specs.Builders.{plain_node};
 ghost use Rattle.arrow_flat.specs.Nodes.{HasSpare};
-ghost use Rattle.avro_skip.specs.Costs.{passed, Moves, CostsKept};
+ghost use Rattle.avro_reference.specs.Costs.{passed, Moves, CostsKept};
 ghost use Rattle.avro_flat.specs.Decoding.{Gives, HasMemory};
 ghost use Rattle.avro_flat.specs.Growing.{Fills};
 
 use crate::fault::{DecodeFault, pushed};
 use arrow_flat::MutablePrimitiveArray;
-use avro_skip::{Ahead, read_length};
+use avro_reference::{Ahead, read_length};
 use std::convert::AsSlice;
 
 /// The most bytes of a decimal, which are those of an `i128`.

@@ -6,14 +6,14 @@ ghost use Rattle.avro_grammar.specs.Encodes.{signed_32};
 ghost use Rattle.avro_reference.specs.Read.{push_one, fixed_at};
 ghost use Rattle.arrow_flat.specs.Builders.{plain_node};
 ghost use Rattle.arrow_flat.specs.Nodes.{HasSpare};
-ghost use Rattle.avro_skip.specs.Costs.{passed, Moves, CostsKept};
+ghost use Rattle.avro_reference.specs.Costs.{passed, Moves, CostsKept};
 ghost use Rattle.avro_flat.specs.Decoding.{Gives, HasMemory};
 ghost use Rattle.avro_flat.specs.Growing.{Fills};
 
 use crate::fault::{DecodeFault, pushed};
 use arrow_flat::MutablePrimitiveArray;
 use arrow_types::MonthsDaysNs;
-use avro_skip::Ahead;
+use avro_reference::Ahead;
 use std::convert::AsSlice;
 
 /// The bytes of a duration: three numbers of four bytes.

@@ -6,13 +6,13 @@ ghost use Rattle.arrow_array.specs.Parts.{byte_width};
 ghost use Rattle.avro_reference.specs.Read.{push_one, fixed_at};
 ghost use Rattle.arrow_flat.specs.Builders.{content_node};
 ghost use Rattle.arrow_flat.specs.Nodes.{Takes, HasSpare};
-ghost use Rattle.avro_skip.specs.Costs.{passed, Moves, CostsKept};
+ghost use Rattle.avro_reference.specs.Costs.{passed, Moves, CostsKept};
 ghost use Rattle.avro_flat.specs.Decoding.{Gives, HasMemory};
 ghost use Rattle.avro_flat.specs.Growing.{Fills};
 
 use crate::fault::{DecodeFault, pushed};
 use arrow_flat::MutableFixedSizeBinaryArray;
-use avro_skip::Ahead;
+use avro_reference::Ahead;
 use std::convert::AsSlice;
 
 /// Reads as many bytes as the type has (Avro 1.11, "Fixed").

@@ -4,13 +4,13 @@ ghost use Rattle.std.specs.Prelude.{◌≡◌, length, OnOk};
 ghost use Rattle.avro_reference.specs.Read.{push_one, boolean_at, int_at, long_at, items};
 ghost use Rattle.arrow_flat.specs.Builders.{plain_node};
 ghost use Rattle.arrow_flat.specs.Nodes.{HasSpare};
-ghost use Rattle.avro_skip.specs.Costs.{passed, Moves, CostsKept};
+ghost use Rattle.avro_reference.specs.Costs.{passed, Moves, CostsKept};
 ghost use Rattle.avro_flat.specs.Decoding.{Gives, HasMemory};
 ghost use Rattle.avro_flat.specs.Growing.{Fills};
 
 use crate::fault::{DecodeFault, pushed};
 use arrow_flat::{MutableBooleanArray, MutablePrimitiveArray};
-use avro_skip::Ahead;
+use avro_reference::Ahead;
 
 /// Reads a boolean: one byte, 0 or 1.
 #[inline(always)]

@@ -6,7 +6,7 @@ ghost use Rattle.arrow_types.specs.declared.slot.Slot.TheVariants.{String as Str
 ghost use Rattle.avro_reference.specs.Read.{push_one, string_at};
 ghost use Rattle.arrow_flat.specs.Builders.{content_node};
 ghost use Rattle.arrow_flat.specs.Nodes.{Takes, HasSpare};
-ghost use Rattle.avro_skip.specs.Costs.{passed, Moves, CostsKept};
+ghost use Rattle.avro_reference.specs.Costs.{passed, Moves, CostsKept};
 ghost use Rattle.avro_flat.specs.Decoding.{Gives, IsStringFault, HasMemory};
 ghost use Rattle.avro_flat.specs.Growing.{OffsetsReach, Fills};
 
@@ -14,7 +14,7 @@ use crate::fault::{DecodeFault, pushed};
 use crate::utf8::is_utf8;
 use arrow_flat::MutableUtf8Array;
 use arrow_types::Offset;
-use avro_skip::{Ahead, read_length};
+use avro_reference::{Ahead, read_length};
 use std::convert::AsSlice;
 
 /// Reads a string: a length of 0 or more, and as many bytes, which have to be UTF-8 (Avro 1.11,

@@ -6,14 +6,14 @@ ghost use Rattle.avro_reference.specs.Prefix.{is_index};
 ghost use Rattle.avro_reference.specs.Read.{push_one, symbol_of};
 ghost use Rattle.arrow_flat.specs.Dictionaries.{dictionary_node};
 ghost use Rattle.arrow_flat.specs.Nodes.{HasSpare};
-ghost use Rattle.avro_skip.specs.Costs.{passed, Moves, CostsKept};
+ghost use Rattle.avro_reference.specs.Costs.{passed, Moves, CostsKept};
 ghost use Rattle.avro_flat.specs.Decoding.{Gives, HasMemory};
 ghost use Rattle.avro_flat.specs.Growing.{Fills};
 
 use crate::fault::{DecodeFault, pushed};
 use arrow_core::Text;
 use arrow_flat::FixedItemsUtf8Dictionary;
-use avro_skip::Ahead;
+use avro_reference::Ahead;
 
 /// Reads a symbol of an enum, which is encoded as its index among the symbols, from 0 (Avro 1.11,
 /// "Enums"). The builder's values are these symbols. `Bytes` where the number is no such index.

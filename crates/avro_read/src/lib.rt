@@ -1,8 +1,14 @@
-//! Reading Avro: the schema of the columns of a record, the same in large forms, the builders, and
-//! blocks into columns.
+//! Reading Avro: the schema of the columns of a record, the same in large forms, the builders,
+//! blocks into columns, and files block by block.
 #![tactic(auto)]
 
+mod laws;
+mod reader;
+
 pub use avro_decode::{
-    deserialize, deserialize_into, make_builders, reserved_capacity_stays, valid_blocks_are_read,
+    Decoder, deserialize, deserialize_into, make_builders, reserved_capacity_stays,
+    valid_blocks_are_read,
 };
 pub use avro_infer::{enlarge, infer_schema};
+pub use laws::narrower_reads;
+pub use reader::Reader;

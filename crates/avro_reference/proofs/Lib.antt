@@ -9,3 +9,6 @@ pub mod SkippedArrays
 pub mod SkippedValues
 pub mod Parsers
 pub mod Values
+pub mod Counting
+pub mod Numbers
+pub mod Sets

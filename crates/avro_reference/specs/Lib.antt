@@ -1,3 +1,5 @@
+pub mod Costs
+pub mod Lengths
 pub mod Block
 pub mod Examples
 pub mod Prefix

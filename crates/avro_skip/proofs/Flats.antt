@@ -10,11 +10,11 @@ use Rattle.avro_grammar.proofs.Basics.{null_told}
 use Rattle.avro_reference.specs.Prefix.{number_at}
 use Rattle.avro_reference.specs.Skip.{Bad, Negative, or_bad, measured_at, jump_at, jump_counted, skip_raw, skip_number, skip_sized, skip_stated}
 use Rattle.avro_reference.proofs.Parsers.{both_assoc, stated}
-use Rattle.avro_skip.specs.Costs.{Costs, CostsNumber}
-use Rattle.avro_skip.specs.Lengths.{as_length, length_at}
+use Rattle.avro_reference.specs.Costs.{Costs, CostsNumber}
+use Rattle.avro_reference.specs.Lengths.{as_length, length_at}
 use Rattle.avro_skip.specs.Skipping.{Passes, PassesMore, Jumps, member_at, sized_items_at}
 use Rattle.avro_skip.specs.declared.fault.SkipFault.{SkipFault}
-use Rattle.avro_skip.proofs.Counting.{costs_none, number_costs, hidden_costs, raw_costs}
+use Rattle.avro_reference.proofs.Counting.{costs_none, number_costs, hidden_costs, raw_costs}
 
 -- ---- numbers
 

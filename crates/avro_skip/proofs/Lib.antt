@@ -1,6 +1,4 @@
-pub mod Counting
 pub mod Flats
-pub mod Numbers
 pub mod Sets
 pub mod Signed
 pub mod Steps

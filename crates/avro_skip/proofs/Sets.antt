@@ -1,11 +1,8 @@
 -- The lemmas that several functions want, by what they are about.
-use Rattle.avro_skip.proofs.Counting.{next_moves, next_costs, moves_none, still_moves, drop_moves, drop_shorter, number_first}
-use Rattle.avro_skip.proofs.Numbers.{number_is}
+use Rattle.avro_reference.proofs.Counting.{moves_none, still_moves, drop_moves, drop_shorter, number_first}
 use Rattle.avro_skip.proofs.Flats.{number_passes, number_bad, raw_passes, raw_shorter, sized_passes, sized_shorter, sized_bad, stated_passes, stated_bad, null_skipped}
 use Rattle.avro_skip.proofs.Unfolded.{jump_is}
 use Rattle.avro_skip.proofs.Unions.{first_passes, second_passes, union_bad, skip_other}
-
-pub ruleset numbers = (number_is, next_moves, next_costs)
 
 pub ruleset jumps = (still_moves, drop_moves, drop_shorter, jump_is)
 

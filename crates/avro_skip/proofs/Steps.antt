@@ -9,9 +9,9 @@ use Rattle.avro_reference.specs.Prefix.{number_at, is_count}
 use Rattle.avro_reference.specs.Skip.{Fault, Bad, Parser, or_bad, measured_at, skip_items, skip_block_items, skip_blocks, skip_array, skip}
 use Rattle.avro_reference.specs.Listed.{skip_fields_of}
 use Rattle.avro_reference.proofs.Parsers.{both_assoc, nothing-both}
-use Rattle.avro_skip.specs.Costs.{Costs, CostsNumber}
+use Rattle.avro_reference.specs.Costs.{Costs, CostsNumber}
 use Rattle.avro_skip.specs.Skipping.{sized_items_at}
-use Rattle.avro_skip.proofs.Counting.{costs_more, number_costs}
+use Rattle.avro_reference.proofs.Counting.{costs_more, number_costs}
 use Rattle.avro_skip.proofs.Underway.{Underway, underway_begun, underway_more, underway_ended, underway_fault}
 
 -- ---- items

@@ -3,10 +3,10 @@ use Rattle.std.proofs.Common.{◌≡◌, ℕ, List, Result, Ok, Err, sym, ap, �
 use Rattle.avro_grammar.specs.Skips.{Passed, nothing, both}
 use Rattle.avro_reference.specs.Skip.{Fault}
 use Rattle.avro_reference.proofs.Parsers.{both_assoc, both-nothing}
-use Rattle.avro_skip.specs.Costs.{Costs}
+use Rattle.avro_reference.specs.Costs.{Costs}
 use Rattle.avro_skip.specs.Skipping.{PassesMore}
 use Rattle.avro_skip.specs.declared.fault.SkipFault.{SkipFault}
-use Rattle.avro_skip.proofs.Counting.{costs_none, costs_more}
+use Rattle.avro_reference.proofs.Counting.{costs_none, costs_more}
 
 -- a parsing that adds to what was passed before
 abbrev pub Adds : Type 0

@@ -17,10 +17,10 @@ use Rattle.avro_reference.specs.Skip.{Bad, Parser, or_bad, measured_at, skip_arr
 use Rattle.avro_reference.specs.Listed.{skip_union_of, skip_fields_of}
 use Rattle.avro_reference.proofs.ByLists.{skip_union, skip_array_is, skip_fields_are}
 use Rattle.avro_reference.proofs.Parsers.{nothing-both}
-use Rattle.avro_skip.specs.Costs.{CostsNumber}
+use Rattle.avro_reference.specs.Costs.{CostsNumber}
 use Rattle.avro_skip.specs.Skipping.{Passes, PassesMore, member_at}
 use Rattle.avro_skip.specs.declared.fault.SkipFault.{SkipFault}
-use Rattle.avro_skip.proofs.Counting.{costs_more, number_costs}
+use Rattle.avro_reference.proofs.Counting.{costs_more, number_costs}
 
 module _ {X Y : Type 0} (rest : X → List ℕ) (shown calls : X → ℕ) where
   pub first_passes : (s u : Schema) (x y z : X) (r : Result Y SkipFault) → number_at (rest x) ≡ Some (pos 0, rest y) → CostsNumber rest shown calls x y → Passes rest shown calls y z r (member_at s (rest y)) → Passes rest shown calls x z r (skip_union_of (s ∷ u ∷ []) (rest x))

@@ -1,3 +1,1 @@
-pub mod Costs
-pub mod Lengths
 pub mod Skipping

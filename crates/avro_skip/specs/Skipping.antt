@@ -5,7 +5,7 @@ use Rattle.avro_grammar.specs.Carried.{Carried}
 use Rattle.avro_grammar.specs.Encodes.{is_null}
 use Rattle.avro_grammar.specs.Skips.{Passed, nothing, seen_only, both}
 use Rattle.avro_reference.specs.Skip.{◌>>=◌, Fault, Bad, Negative, Parser, measured_at, skip_stated, skip}
-use Rattle.avro_skip.specs.Costs.{Costs}
+use Rattle.avro_reference.specs.Costs.{Costs}
 use Rattle.avro_skip.specs.declared.fault.SkipFault.{SkipFault}
 use Rattle.avro_skip.specs.declared.fault.SkipFault.TheVariants.{Bytes, NegativeSize}
 

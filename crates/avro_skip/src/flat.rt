@@ -3,12 +3,12 @@
 ghost use Rattle.std.specs.Prelude.{◌≡◌, ◌+◌, ◌<◌, ◌≤◌, length, Some, None, MatchResult, OnOk};
 ghost use Rattle.avro_grammar.specs.Skips.{fixed_size as fixed_size_of};
 ghost use Rattle.avro_reference.specs.Skip.{skip, jump_at, skip_number as skip_number_at, skip_sized as skip_sized_at};
-ghost use Rattle.avro_skip.specs.Costs.{Moves};
-ghost use Rattle.avro_skip.specs.Lengths.{as_length};
+ghost use Rattle.avro_reference.specs.Costs.{Moves};
+ghost use Rattle.avro_reference.specs.Lengths.{as_length};
 ghost use Rattle.avro_skip.specs.Skipping.{IsCarriedFlat, Passes, PassesMore, Jumps, sized_items_at};
 
-use crate::ahead::{Ahead, read_length};
 use crate::fault::SkipFault;
+use avro_reference::{Ahead, read_length};
 use avro_schema::{AvroSchema, Fixed, FixedLogical};
 
 /// Skips a value of a schema that has no others in it.

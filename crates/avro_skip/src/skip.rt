@@ -7,12 +7,12 @@ ghost use Rattle.avro_grammar.specs.Encodes.{IsNull};
 ghost use Rattle.avro_grammar.specs.Listed.{CarriedMembersOf};
 ghost use Rattle.avro_reference.specs.Skip.{skip, skip_items as skip_items_at, skip_block_items as skip_block_items_at, skip_array};
 ghost use Rattle.avro_reference.specs.Listed.{skip_union_of, skip_fields_of};
-ghost use Rattle.avro_skip.specs.Costs.{Moves};
+ghost use Rattle.avro_reference.specs.Costs.{Moves};
 ghost use Rattle.avro_skip.specs.Skipping.{Passes, PassesMore, member_at};
 
-use crate::ahead::Ahead;
 use crate::fault::SkipFault;
 use crate::flat::{skip_flat, skip_sized_items};
+use avro_reference::Ahead;
 use avro_schema::{AvroField, AvroSchema};
 
 /// Skips one value of a carried schema (Avro 1.11, "Binary Encoding").

@@ -1,4 +1,4 @@
--- A text that stands for a schema stands for no other, and is refused for want of memory alone.
+-- A text that stands for a schema stands for no other, and is refused for out of memory alone.
 use Rattle.std.proofs.Common.{◌≡◌, ℕ, List, sym, ap, ◌∙◌, refl, subst}
 use Rattle.json_tree.specs.Meaning.{IsJson}
 use Rattle.json_tree.proofs.TextLaws.{one_value}

@@ -1,5 +1,5 @@
 //! Schemas that JSON values declare. Each reader is told how deep schemas may nest, and looks at all of
-//! its parts: a wrong form behind a type by reference is still a wrong form.
+//! its parts: a wrong form after a type by reference is still a wrong form.
 ghost use Rattle.std.specs.Prelude.{◌≡◌, map, IfOk, IfErr};
 ghost use Rattle.avro_schema.specs.declared.schema.Schema.{Union};
 ghost use Rattle.avro_text.specs.Gives.{Gives};

@@ -1,5 +1,5 @@
 -- The columns that are made from a record have the types of its fields, and each carried field has one.
-use Rattle.std.proofs.Common.{◌≡◌, ◌∙◌, ◌⊎◌, inl, inr, ℕ, suc, Option, Some, None, Bool, false, true, List, [], ◌∷◌, map, All, refl, sym, subst, arith}
+use Rattle.std.proofs.Common.{◌≡◌, inl, inr, ℕ, suc, Option, Some, None, Bool, false, true, List, [], ◌∷◌, map, refl, sym, subst, arith}
 use Rattle.std.specs.Prelude.{IsTrue, ◌&&◌}
 use Rattle.std.proofs.lemmas.Option.{none-some, same_Some}
 use Rattle.arrow_types.specs.declared.types.DataType.{DataType}

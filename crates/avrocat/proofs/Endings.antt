@@ -1,7 +1,6 @@
 -- How a command ends, and what its status tells.
-use Rattle.std.proofs.Common.{◌≡◌, ◌∙◌, ◌⊎◌, inl, inr, ℕ, ◌<◌, ◌≤◌, ◌++◌, Bool, None, Some, Option, Result, Ok, Err, IfErr, OnOk, MatchResult, List, [], length, refl, sym, ap, subst, arith, length-append}
+use Rattle.std.proofs.Common.{◌≡◌, ◌∙◌, ◌⊎◌, inl, inr, ℕ, ◌<◌, ◌≤◌, ◌++◌, None, Some, Option, Result, Ok, Err, IfErr, OnOk, MatchResult, List, [], length, refl, sym, ap, subst, arith, length-append}
 use Rattle.std.proofs.lemmas.List.{append-nil}
-use Rattle.std.proofs.lemmas.Option.{same_Some}
 use Rattle.std.specs.Io.KnownBytes.{Keeps}
 use Rattle.arrow_core.specs.declared.error.Error.{Error}
 use Rattle.arrow_core.specs.declared.error.Error.TheVariants.{InvalidArgumentError, NotYetImplemented, ExternalFormat, OutOfSpec, Overflow, LimitExceeded, ReadFault, WriteFault, OutOfMemory}
@@ -10,13 +9,14 @@ use Rattle.arrow_core.specs.Errors.{status_of}
 use Rattle.avro_grammar.proofs.RowLaws.{rows_have, rows_exclude}
 use Rattle.avrocat.specs.declared.command.BlockWords.{BlockWords}
 use Rattle.avrocat.specs.declared.command.Command.{Command}
-use Rattle.avrocat.specs.declared.command.Command.TheVariants.{Block}
-use Rattle.avrocat.specs.Blocks.{IsValid, BlockDone}
-use Rattle.avrocat.specs.Changes.{Change, Failed}
-use Rattle.avrocat.specs.Commands.{Stands, IsUsage, Done, Fails, CanBeDone, Due, IsCause, Refused}
+use Rattle.avrocat.specs.declared.command.Command.TheVariants.{Block, Ndjson}
+use Rattle.avrocat.specs.Blocks.{IsValid}
+use Rattle.arrow_convert.specs.Changes.{Change, Failed}
+use Rattle.avrocat.specs.Commands.{Stands, Done, Fails, CanBeDone, Due, Refused}
 use Rattle.avrocat.specs.Input.{byte_limit, TakesAll, PassesLimit, Tells, TellsTooMany}
 use Rattle.avrocat.specs.Note.{error_note, Notes}
 use Rattle.avrocat.specs.Refusals.{IsWrong, CannotBeShown, BlockFails, CanBeShown, BlockDue}
+use Rattle.avrocat.proofs.NdjsonEndings.{tells_one, ndjson_due_once, ndjson_never_due, ndjson_fails_in_memory, ndjson_fails_as_due, ndjson_done_not_due}
 use Rattle.avrocat.proofs.OneMeaning.{one_command}
 
 pub keeps_same : (told : Option (List ℕ)) → Keeps told told
@@ -46,9 +46,6 @@ takes_told (Some held) None bytes taken told all = absurd all.taken
 takes_told (Some held) (Some rest) bytes taken told all =
     let same : held ≡ bytes = cc in
     sym (append_none taken rest all.whole) ∙ sym all.taken ∙ same
-
-tells_one : (source : Change) (bytes other : List ℕ) → source.bytes ≡ Some bytes → source.bytes ≡ Some other → bytes ≡ other
-tells_one source bytes other p q = same_Some bytes other (sym p ∙ q)
 
 -- ---- one thing at most is wrong with a block, and nothing with a valid one
 
@@ -151,6 +148,7 @@ one_because block source one other (inr (bytes, tells, h)) (inr (others, told, d
 
 pub one_due : (command : Command) (source : Change) (one other : Error) → Due command source one → Due command source other → one ≡ other
 one_due (Block block) source one other h d = one_because block source one other (because block source one h) (because block source other d)
+one_due (Ndjson numbers) source one other h d = ndjson_due_once numbers source one other h d
 
 right_because : (block : BlockWords) (source : Change) (e : Error) → CanBeShown block source → Because block source e → ⊥
 right_because block source e (bytes, tells, valid) (inl h) = not_both source bytes h.1 tells
@@ -159,6 +157,7 @@ right_because block source e (bytes, tells, valid) (inr (others, told, h)) =
 
 pub none_due : (command : Command) (source : Change) (e : Error) → CanBeDone command source → Due command source e → ⊥
 none_due (Block block) source e can h = right_because block source e can (because block source e h)
+none_due (Ndjson numbers) source e can h = ndjson_never_due numbers source e can h
 
 -- ---- how a block ends, against what is due
 
@@ -232,6 +231,7 @@ fails_in_memory (Block block) source sink e can open_ended h = from (ending bloc
     from (inl (inl is)) = is
     from (inl (inr due)) = absurd (none_due (Block block) source e can due)
     from (inr broken) = absurd (open_ended broken.0)
+fails_in_memory (Ndjson numbers) source sink e can open_ended h = ndjson_fails_in_memory numbers source sink e can open_ended h
 
 fails_as_due : (command : Command) (source sink : Change) (e due : Error) → Due command source due → Fails command source sink e → (e ≡ OutOfMemory) ⊎ (e ≡ due)
 fails_as_due (Block block) source sink e due h fails = from (ending block source sink e (steady_because block source due (because block source due h)) fails)
@@ -240,10 +240,12 @@ fails_as_due (Block block) source sink e due h fails = from (ending block source
     from (inl (inl is)) = inl is
     from (inl (inr d)) = inr (one_due (Block block) source e due d h)
     from (inr broken) = absurd (none_due (Block block) source due broken.1 h)
+fails_as_due (Ndjson numbers) source sink e due h fails = ndjson_fails_as_due numbers source sink e due h fails
 
 done_not_due : (command : Command) (source sink : Change) (due : Error) → Due command source due → Done command source sink → ⊥
 done_not_due (Block block) source sink due h done =
     none_due (Block block) source due (told_right block source done.bytes (steady_because block source due (because block source due h)) done.read done.shows.valid) h
+done_not_due (Ndjson numbers) source sink due h done = ndjson_done_not_due numbers source sink due h done
 
 status_above : (e : Error) → 1 < status_of e
 status_above (InvalidArgumentError r) = omega arith

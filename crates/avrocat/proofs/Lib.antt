@@ -2,7 +2,8 @@ pub mod BlockLemmas
 pub mod ColumnLemmas
 pub mod Endings
 pub mod Joined
-pub mod KeptNames
+pub mod NdjsonEndings
+pub mod NumberWords
 pub mod OneMeaning
 pub mod RefusalLemmas
 pub mod ShownLemmas

@@ -1,5 +1,5 @@
 -- From the refusals of the parts to those of a block.
-use Rattle.std.proofs.Common.{◌≡◌, ◌∙◌, ◌⊎◌, inl, inr, ℕ, zero, suc, ◌<◌, ◌≤◌, Bool, None, Some, Result, Ok, Err, IfErr, OnErr, List, [], ◌∷◌, length, refl, sym, ap, subst, arith}
+use Rattle.std.proofs.Common.{◌≡◌, ◌∙◌, ◌⊎◌, inl, inr, ℕ, suc, ◌<◌, ◌≤◌, Bool, None, Result, Ok, Err, IfErr, OnErr, List, [], ◌∷◌, length, refl, sym, ap, subst, arith}
 use Rattle.std.specs.List.{AllZip}
 use Rattle.std.specs.Io.KnownBytes.{Keeps}
 use Rattle.arrow_core.specs.declared.error.Error.{Error}
@@ -13,9 +13,9 @@ use Rattle.avro_decode.specs.Refusals.{BelongTogether, FieldsRefused, BytesRefus
 use Rattle.arrow_base.specs.Outside.{AppendsPrefix}
 use Rattle.avrocat.specs.declared.command.BlockWords.{BlockWords}
 use Rattle.avrocat.specs.Blocks.{AreColumnsOf, ShowsBlock}
-use Rattle.avrocat.specs.Changes.{Change, Failed}
+use Rattle.arrow_convert.specs.Changes.{Change, Failed}
 use Rattle.avrocat.specs.Input.{byte_limit, TakesAll, NotRead}
-use Rattle.avrocat.specs.Refusals.{IsWrong, CannotBeShown, BlockFails}
+use Rattle.avrocat.specs.Refusals.{IsWrong, BlockFails}
 use Rattle.avrocat.proofs.ColumnLemmas.{forms_fit}
 
 zip_length : {A B : Type 0} (R : A → B → Type 0) (xs : List A) (ys : List B) → AllZip R xs ys → length xs ≡ length ys

@@ -6,9 +6,9 @@ use Rattle.avro_schema.specs.declared.schema.AvroField.{AvroField}
 use Rattle.field_words.specs.Fields.{IsField}
 use Rattle.field_words.specs.Names.{IsRows}
 use Rattle.avrocat.specs.Commands.{Stands, IsUsage}
-use Rattle.avrocat.specs.Words.{AreFields, IsRest, block_word}
+use Rattle.avrocat.specs.Words.{AreFields, AreNumbers, IsRest, block_word}
 use Rattle.avrocat.specs.declared.command.BlockWords.{BlockWords}
-use Rattle.avrocat.specs.declared.command.Command.TheVariants.{Block}
+use Rattle.avrocat.specs.declared.command.Command.TheVariants.{Block, Ndjson}
 
 abbrev pub words_head : List ℕ → List (List ℕ) → List ℕ
 words_head d [] = d
@@ -62,6 +62,11 @@ pub empty_rest : (words : List (List ℕ)) → length words < 1 → (block : Blo
 empty_rest [] low block (w, ws, is, n, are) = absurd (nil_cons is)
 empty_rest (w ∷ ws) low block h = absurd (omega (arith, low))
 
+-- two words that commands begin with
+pub block_is_not_ndjson : (large : Bool) → block_word large ≡ codes "ndjson" → ⊥
+block_is_not_ndjson false e = cc
+block_is_not_ndjson true e = cc
+
 -- words that are one at least are the first of them and the others
 pub begins : (words : List (List ℕ)) (word : List ℕ) → 1 ≤ length words → word ≡ slice_index_or words 0 word → words ≡ word ∷ take (length words - 1) (drop 1 words)
 begins [] word low at = absurd (omega (arith, low))
@@ -74,19 +79,23 @@ begins (w ∷ ws) word low at =
 pub stands_for : (words : List (List ℕ)) (word : List ℕ) (rest : List (List ℕ)) (large : Bool) (block : BlockWords) → words ≡ word ∷ rest → word ≡ block_word large → block.large ≡ large → IsRest rest block → Stands words (Block block)
 stands_for words word rest large block is named same h = (rest, subst (λ z. words ≡ z ∷ rest) (named ∙ ap block_word (sym same)) is, h)
 
-pub no_block : (words : List (List ℕ)) → ((block : BlockWords) → IsRest (take (length words - 1) (drop 1 words)) block → ⊥) → IsUsage words
-no_block words none (Block block) (rest, is, h) =
-    let left : length (drop 1 words) ≡ length words - 1 = length-drop 1 words in
-    let whole : take (length words - 1) (drop 1 words) ≡ rest = take_all (length words - 1) (drop 1 words) (omega (arith, left)) ∙ ap (drop 1) is in
-    none block (subst (λ z. IsRest z block) (sym whole) h)
+pub no_block : (words : List (List ℕ)) (word : List ℕ) (rest : List (List ℕ)) (large : Bool) → words ≡ word ∷ rest → word ≡ block_word large → ((block : BlockWords) → IsRest rest block → ⊥) → IsUsage words
+no_block words word rest large e is none (Block block) (ws, at, h) = none block (subst (λ z. IsRest z block) (ap (drop 1) (sym at ∙ e)) h)
+no_block words word rest large e is none (Ndjson numbers) (ws, at, h) = block_is_not_ndjson large (sym is ∙ ap (words_head word) (sym e ∙ at))
 
-pub other_word : (words : List (List ℕ)) (word : List ℕ) (rest : List (List ℕ)) → words ≡ word ∷ rest → (word ≡ codes "block" → ⊥) → (word ≡ codes "block-large" → ⊥) → IsUsage words
-other_word words word rest e other another (Block block) (ws, is, h) = from block.large (ap (words_head word) (sym e ∙ is))
+pub no_ndjson : (words : List (List ℕ)) (word : List ℕ) (rest : List (List ℕ)) → words ≡ word ∷ rest → word ≡ codes "ndjson" → ((numbers : List ℕ) → AreNumbers rest numbers → ⊥) → IsUsage words
+no_ndjson words word rest e is none (Block block) (ws, at, h) = block_is_not_ndjson block.large (sym (ap (words_head word) (sym e ∙ at)) ∙ is)
+no_ndjson words word rest e is none (Ndjson numbers) (ws, at, h) = none numbers (subst (λ z. AreNumbers z numbers) (ap (drop 1) (sym at ∙ e)) h)
+
+pub other_word : (words : List (List ℕ)) (word : List ℕ) (rest : List (List ℕ)) → words ≡ word ∷ rest → (word ≡ codes "block" → ⊥) → (word ≡ codes "block-large" → ⊥) → (word ≡ codes "ndjson" → ⊥) → IsUsage words
+other_word words word rest e other another no_ndjson (Block block) (ws, is, h) = from block.large (ap (words_head word) (sym e ∙ is))
   where
     from : (large : Bool) → word ≡ block_word large → ⊥
     from false same = other same
     from true same = another same
+other_word words word rest e other another no_ndjson (Ndjson numbers) (ws, is, h) = no_ndjson (ap (words_head word) (sym e ∙ is))
 
 pub no_words : (words : List (List ℕ)) → length words < 1 → IsUsage words
 no_words [] low (Block block) (ws, is, h) = absurd (nil_cons is)
-no_words (w ∷ ws) low (Block block) h = absurd (omega (arith, low))
+no_words [] low (Ndjson numbers) (ws, is, h) = absurd (nil_cons is)
+no_words (w ∷ ws) low command h = absurd (omega (arith, low))

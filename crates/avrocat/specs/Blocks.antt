@@ -9,7 +9,7 @@ use Rattle.avro_grammar.specs.ValidBlock.{kept, ValidBlock}
 use Rattle.avro_infer.specs.Enlarged.{enlarged}
 use Rattle.avro_decode.specs.Columns.{AreColumns}
 use Rattle.avrocat.specs.declared.command.BlockWords.{BlockWords}
-use Rattle.avrocat.specs.Changes.{Change}
+use Rattle.arrow_convert.specs.Changes.{Change}
 use Rattle.avrocat.specs.Input.{TakesAll}
 use Rattle.avrocat.specs.Shown.{shown}
 

@@ -1,7 +1,7 @@
 pub mod Blocks
-pub mod Changes
 pub mod Commands
 pub mod Input
+pub mod Ndjson
 pub mod Note
 pub mod Refusals
 pub mod Shown

@@ -1,5 +1,5 @@
 -- Why a block is refused: each error has its one cause, and out of memory may come at any time.
-use Rattle.std.specs.Prelude.{◌≡◌, ℕ, ◌<◌, ◌≤◌, ⊤, None, Some, List, [], length}
+use Rattle.std.specs.Prelude.{◌≡◌, ℕ, ◌<◌, ◌≤◌, ⊤, None, List, [], length}
 use Rattle.std.specs.Io.KnownBytes.{Keeps}
 use Rattle.arrow_base.specs.Outside.{AppendsPrefix}
 use Rattle.arrow_core.specs.declared.error.Error.{Error}
@@ -12,7 +12,7 @@ use Rattle.avro_grammar.specs.Rows.{Rows as AreRows}
 use Rattle.avro_grammar.specs.ValidBlock.{KeepNoFloat, KeptEnumsFit}
 use Rattle.avrocat.specs.declared.command.BlockWords.{BlockWords}
 use Rattle.avrocat.specs.Blocks.{IsValid, ShowsBlock}
-use Rattle.avrocat.specs.Changes.{Change, Failed}
+use Rattle.arrow_convert.specs.Changes.{Change, Failed}
 use Rattle.avrocat.specs.Input.{TakesAll, PassesLimit, Tells, TellsTooMany}
 
 -- there is a field, and each schema is carried

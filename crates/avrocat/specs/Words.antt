@@ -1,5 +1,7 @@
--- The words that ask for a block: `block ROWS FIELD..` and `block-large ROWS FIELD..`.
+-- The words that ask for a block, `block ROWS FIELD..` and `block-large ROWS FIELD..`, and for the lines of a file,
+-- `ndjson KEEP..`.
 use Rattle.std.specs.Prelude.{◌≡◌, ℕ, Bool, false, true, List, [], ◌∷◌, codes, ⊤}
+use Rattle.std.specs.List.{AllZip}
 use Rattle.avro_schema.specs.declared.schema.AvroField.{AvroField}
 use Rattle.field_words.specs.Fields.{IsField}
 use Rattle.field_words.specs.Names.{IsRows}
@@ -24,3 +26,11 @@ block_word true = codes "block-large"
 -- the first word, and those after it
 abbrev pub IsBlock : List (List ℕ) → BlockWords → Type 0
 IsBlock words block = (rest : List (List ℕ)) × (words ≡ block_word block.large ∷ rest) × IsRest rest block
+
+-- each word is the number of a field
+abbrev pub AreNumbers : List (List ℕ) → List ℕ → Type 0
+AreNumbers = AllZip IsRows
+
+-- the word `ndjson`, and the numbers of the fields to keep
+abbrev pub IsNdjson : List (List ℕ) → List ℕ → Type 0
+IsNdjson words numbers = (rest : List (List ℕ)) × (words ≡ codes "ndjson" ∷ rest) × AreNumbers rest numbers

@@ -3,7 +3,7 @@ ghost use Rattle.std.specs.Prelude.{◌≡◌, ◌≤◌, ◌⊎◌, length, map
 ghost use Rattle.arrow_core.specs.declared.error.Error.TheVariants.{OutOfMemory};
 ghost use Rattle.avro_grammar.specs.ValidBlock.{kept};
 ghost use Rattle.avrocat.specs.Blocks.{AreColumnsOf, ShowsBlock, BlockDone};
-ghost use Rattle.avrocat.specs.Changes.{change_of};
+ghost use Rattle.arrow_convert.specs.Changes.{change_of};
 ghost use Rattle.avrocat.specs.Input.{byte_limit};
 ghost use Rattle.avrocat.specs.Refusals.{IsWrong, BlockFails};
 

@@ -21,4 +21,7 @@ pub struct BlockWords {
 pub enum Command {
     /// Read one block of rows and show its kept fields.
     Block(BlockWords),
+    /// Read an Avro file, and write its rows as JSON lines: of the fields of these numbers, counted
+    /// from 0, or of all where there are none.
+    Ndjson(Items<usize>),
 }

@@ -2,7 +2,7 @@
 ghost use Rattle.std.specs.Prelude.{◌≡◌, ℕ, List};
 ghost use Rattle.arrow_core.specs.declared.error.Error.{Error};
 ghost use Rattle.avrocat.specs.declared.command.Command.{Command};
-ghost use Rattle.avrocat.specs.Changes.{Change};
+ghost use Rattle.arrow_convert.specs.Changes.{Change};
 ghost use Rattle.avrocat.specs.Commands.{Stands, CanBeDone, Due};
 
 /// Words stand for one command at most.

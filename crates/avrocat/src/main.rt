@@ -1,4 +1,5 @@
-//! `avrocat`: the columns of one Avro block, from standard input, as lines on standard output.
+//! `avrocat`: Avro from standard input, as lines on standard output: the columns of one block, or the
+//! rows of a file as JSON.
 #![tactic(auto)]
 
 ghost use Rattle.std.specs.Prelude.{◌≡◌, [], length, map, drop, string_bytes, IfOk, IfErr, IsErr};
@@ -14,6 +15,9 @@ mod laws;
 mod lines;
 #[cfg(test)]
 mod lines_tests;
+mod ndjson;
+#[cfg(test)]
+mod ndjson_tests;
 mod note;
 mod run;
 #[cfg(test)]
@@ -24,11 +28,14 @@ use arrow_base::{StdSink, StdSource, Text};
 pub use run::run;
 use std::alloc::{AllocError, Global};
 use std::env::{self, Args};
-use std::io::{self, ErrorKind};
+use std::io::{self, BufReader, ErrorKind};
 use std::process::ExitCode;
 
-/// The status where there is no memory for the words.
+/// The status where there is no memory for the words, or for the bytes that are read at once.
 const OUT_OF_MEMORY: u8 = 10;
+
+/// How many bytes are read from standard input at once.
+const READ_AT_ONCE: usize = 65_536;
 
 /// The words: the arguments after the program's name, or none where one of them is no text.
 fn words_of(alloc: Global, given: io::Result<Args>) -> Result<Vec<Text>, AllocError>
@@ -57,7 +64,11 @@ fn main(rt: HostRuntime) -> ExitCode {
     let Ok(words) = words_of(rt.alloc(), env::args(&rt)) else {
         return ExitCode::from(OUT_OF_MEMORY);
     };
-    let mut source = StdSource::new(rt.stdin());
+    // The numbers of a file are taken byte by byte.
+    let Ok(input) = BufReader::with_capacity(rt.alloc(), READ_AT_ONCE, rt.stdin()) else {
+        return ExitCode::from(OUT_OF_MEMORY);
+    };
+    let mut source = StdSource::new(input);
     let mut sink = StdSink::new(rt.stdout());
     let mut note = StdSink::new(rt.stderr());
     let status = run(

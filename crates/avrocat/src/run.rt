@@ -4,13 +4,13 @@ ghost use Rattle.std.specs.Io.KnownBytes.{Keeps};
 ghost use Rattle.arrow_core.specs.declared.error.Error.{Error as TheError};
 ghost use Rattle.arrow_core.specs.Errors.{status_of};
 ghost use Rattle.avrocat.specs.declared.command.Command.{Command as TheCommand};
-ghost use Rattle.avrocat.specs.declared.command.Command.TheVariants.{Block};
-ghost use Rattle.avrocat.specs.Changes.{change_of, Failed};
+ghost use Rattle.arrow_convert.specs.Changes.{change_of, Failed};
 ghost use Rattle.avrocat.specs.Commands.{Stands, IsUsage, Done, Fails, CanBeDone, Due, Refused};
 ghost use Rattle.avrocat.specs.Note.{usage_note, error_note, Notes};
 
 use crate::block::run_block;
-use crate::command::{BlockWords, Command};
+use crate::command::Command;
+use crate::ndjson::run_ndjson;
 use crate::note::{note_error, note_usage};
 use crate::words::read_words;
 use arrow_base::{Error, Result, Sink, Source, Text};
@@ -23,9 +23,11 @@ const USAGE: u8 = 1;
 /// Does all that the program does, and answers its exit status.
 ///
 /// The status is 0 where the command was done, 1 where the words stand for no command, and else
-/// that of the error by which it failed. Of a source that tells its bytes and doesn't fail, the
-/// status is the one that these bytes are due, or 9 in place of 0 where the sink fails. 10, out of
-/// memory, may come at any time instead. With status 1 nothing is read or written. With any status
+/// that of the error by which it failed. Of a source that tells its bytes and doesn't fail: where
+/// the command can be done on these bytes the status is 0, unless the sink fails; a wrong block, and
+/// a file whose record's fields can't be shown, has the status of its error. `ndjson` writes block
+/// by block, so 9, of a failed write, may come before a later wrong block. 10, out of memory, may
+/// come at any time instead. With status 1 nothing is read or written. With any status
 /// but 0 the note gets one line that names the fault; a note that fails holds a prefix of it and
 /// changes no status.
 pub fn run<S: Source, K: Sink, N: Sink>(
@@ -73,15 +75,6 @@ pub fn run<S: Source, K: Sink, N: Sink>(
     }
 }
 
-/// The rows and fields of a command, which is `block`.
-fn block_of(command: Command) -> BlockWords
-    ensures { command ≡ Block result }
-{
-    match command {
-        Command::Block(block) => block,
-    }
-}
-
 /// Does what a command says.
 fn run_command<S: Source, K: Sink>(
     alloc: Global,
@@ -97,7 +90,10 @@ fn run_command<S: Source, K: Sink>(
         (change_of (S.left source.old) (S.faults source.old) (S.left source.new) (S.faults source.new))
         (change_of (K.held sink.old) (K.faults sink.old) (K.held sink.new) (K.faults sink.new))) }
 {
-    run_block(alloc, block_of(command), source, sink)
+    match command {
+        Command::Block(block) => run_block(alloc, block, source, sink),
+        Command::Ndjson(numbers) => run_ndjson(alloc, numbers, source, sink),
+    }
 }
 
 /// The status of a command's answer. An error is noted.

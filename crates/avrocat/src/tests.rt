@@ -24,25 +24,30 @@ fn failing(rt: &impl Abort, alloc: Global, call: u64) -> Items<u64> {
     Items::try_from_slice(alloc, &[call]).expect(rt, "memory")
 }
 
-fn source(rt: &impl Abort, alloc: Global, bytes: &[u8], failing_read: u64) -> MemorySource {
+pub(crate) fn source(
+    rt: &impl Abort,
+    alloc: Global,
+    bytes: &[u8],
+    failing_read: u64,
+) -> MemorySource {
     let bytes = Bytes::try_from_slice(alloc, bytes).expect(rt, "memory");
     MemorySource::new(bytes, 3, failing(rt, alloc, failing_read))
 }
 
-fn sink(rt: &impl Abort, alloc: Global, failing_write: u64) -> MemorySink {
+pub(crate) fn sink(rt: &impl Abort, alloc: Global, failing_write: u64) -> MemorySink {
     let failing = failing(rt, alloc, failing_write);
     MemorySink::with_room(alloc, 256, 256, failing).expect(rt, "memory")
 }
 
 /// What a command answers.
 #[derive(Drop)]
-struct Answer {
+pub(crate) struct Answer {
     status: u8,
     output: MemorySink,
     note: MemorySink,
 }
 
-fn answer_of(
+pub(crate) fn answer_of(
     rt: &impl Abort,
     alloc: Global,
     line: &str,
@@ -59,14 +64,14 @@ fn answer_of(
     }
 }
 
-fn is_answer(answer: Answer, status: u8, output: &str, note: &str) -> bool {
+pub(crate) fn is_answer(answer: Answer, status: u8, output: &str, note: &str) -> bool {
     answer.status == status
         && answer.output.held() == output.as_bytes()
         && answer.note.held() == note.as_bytes()
 }
 
 /// The answer of a line on these bytes, where no read and no write fails.
-fn plain_answer(rt: &impl Abort, alloc: Global, line: &str, bytes: &[u8]) -> Answer {
+pub(crate) fn plain_answer(rt: &impl Abort, alloc: Global, line: &str, bytes: &[u8]) -> Answer {
     answer_of(
         rt,
         alloc,

@@ -1,10 +1,10 @@
 //! The words of a command line, and the command that they stand for.
 
-ghost use Rattle.std.specs.Prelude.{◌≡◌, Bool, List, Err, IfOk};
+ghost use Rattle.std.specs.Prelude.{◌≡◌, ℕ, Bool, List, Err, IfOk};
 ghost use Rattle.avro_schema.specs.declared.schema.AvroField.{AvroField as TheField};
 ghost use Rattle.avrocat.specs.declared.command.BlockWords.{BlockWords as TheBlock};
 ghost use Rattle.field_words.specs.declared.fault.WordsFault.TheVariants.{Usage};
-ghost use Rattle.avrocat.specs.Words.{AreFields, IsRest};
+ghost use Rattle.avrocat.specs.Words.{AreFields, AreNumbers, IsRest};
 ghost use Rattle.avrocat.specs.Commands.{Stands, IsUsage};
 
 use crate::command::{BlockWords, Command};
@@ -25,6 +25,7 @@ pub fn read_words(alloc: Global, words: &[Text]) -> Result<Command, WordsFault>
     match command.as_str() {
         "block" => Ok(Command::Block(read_block(alloc, rest, false)?)),
         "block-large" => Ok(Command::Block(read_block(alloc, rest, true)?)),
+        "ndjson" => Ok(Command::Ndjson(read_numbers(alloc, rest)?)),
         _ => Err(WordsFault::Usage),
     }
 }
@@ -65,4 +66,19 @@ fn read_fields(alloc: Global, words: &[Text]) -> Result<(Vec<AvroField>, Vec<boo
         avro_fields.push(field.avro_field)?;
     }
     Ok((avro_fields, projection))
+}
+
+/// The numbers of the fields to keep, after the word `ndjson`.
+fn read_numbers(alloc: Global, words: &[Text]) -> Result<Items<usize>, WordsFault>
+    ensures numbers { IfOk result (AreNumbers words.now) }
+    ensures usage { result ≡ Err Usage → (numbers : List ℕ) → AreNumbers words.now numbers → ⊥ }
+{
+    let mut numbers = Vec::new(alloc);
+    for word in words {
+        let Some(number) = read_rows(word.as_str()) else {
+            return Err(WordsFault::Usage);
+        };
+        numbers.push(number)?;
+    }
+    Ok(Items::from_vec(numbers))
 }

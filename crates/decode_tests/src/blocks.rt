@@ -1,9 +1,8 @@
-//! Blocks into columns, builders that are filled twice, and what a cursor counts.
+//! Blocks into columns, and what a cursor counts.
 
-ghost use Rattle.std.specs.Prelude.{◌≡◌, length, map, All, OnOk, IfErr};
-ghost use Rattle.arrow_core.specs.declared.error.Error.TheVariants.{OutOfMemory};
+ghost use Rattle.std.specs.Prelude.{◌≡◌, length, map, All};
 ghost use Rattle.arrow_builders.specs.Fits.{TypesFit};
-ghost use Rattle.arrow_builders.specs.Nodes.{IsEmpty, KeepsCapacity, Emptied, HasSpare};
+ghost use Rattle.arrow_builders.specs.Nodes.{IsEmpty};
 ghost use Rattle.arrow_builders.specs.MutableArrays.{builder_type};
 ghost use Rattle.arrow_builders.specs.Shapes.{shape};
 ghost use Rattle.arrow_builders.specs.Tight.{IsTight};
@@ -11,16 +10,15 @@ ghost use Rattle.avro_grammar.specs.Carried.{CarriedList};
 ghost use Rattle.avro_grammar.specs.ValidBlock.{kept};
 ghost use Rattle.avro_grammar.specs.Types.{Fits};
 ghost use Rattle.avro_decode.specs.Columns.{kept_types};
-ghost use Rattle.avro_decode.specs.Masks.{BytesPayForAll};
 ghost use Rattle.avro_decode.specs.Suits.{AllSuit};
-ghost use Rattle.avro_decode.specs.Capacity.{AtNodes, BetweenNodes};
+ghost use Rattle.avro_decode.specs.Capacity.{AtNodes};
 
 use crate::samples::{avro_field, block, or_null, text};
 use arrow_array::{Array, Chunk, PrimitiveArray, Utf8Array};
 use arrow_builders::MutableArray;
-use arrow_core::{Error, Reason};
+use arrow_core::{Error, Items, Reason};
 use arrow_types::{DataType, Field};
-use avro_decode::{deserialize, deserialize_into, make_builders, reserved_capacity_stays};
+use avro_decode::{Decoder, deserialize, deserialize_into, make_builders};
 use avro_schema::{AvroField, AvroSchema, IntLogical, SliceCursor};
 use std::alloc::Global;
 use std::process::Abort;
@@ -84,6 +82,22 @@ fn are_columns(chunk: &Chunk) -> bool {
 }
 
 #[test]
+fn a_decoder_takes_block_after_block(rt: HostRuntime) {
+    let alloc = rt.alloc();
+    let fields = fields(&rt, alloc, DataType::Int32);
+    let avro_fields = Items::from_vec(avro_fields(&rt, alloc));
+    let projection = vec![in alloc; true; 2].expect(&rt, "memory");
+    let mut decoder = Decoder::new(alloc, fields, avro_fields, projection).expect(&rt, "a decoder");
+    let rows = block(&rt, alloc, 2, ROWS);
+    let cut = block(&rt, alloc, 2, b"\x02\x02");
+    assert!(rt; are_columns(&decoder.decode(&rows).expect(&rt, "two rows")));
+    assert!(rt; are_columns(&decoder.decode(&rows).expect(&rt, "two rows")));
+    let wrong = decoder.decode(&cut).err();
+    assert!(rt; wrong == Some(Error::ExternalFormat(Reason::BlockBytes)));
+    assert!(rt; are_columns(&decoder.decode(&rows).expect(&rt, "two rows")));
+}
+
+#[test]
 fn rows_become_columns(rt: HostRuntime) {
     let chunk = columns(&rt, rt.alloc(), DataType::Int32, &[true, true]).expect(&rt, "two rows");
     assert!(rt; are_columns(&chunk));
@@ -137,12 +151,6 @@ fn read_rows(
     requires types_fit { All (λ b. TypesFit (shape b)) builders.old }
     requires tight { All IsTight builders.old }
     requires empty { AtNodes IsEmpty builders.old }
-    ensures data_types { map builder_type builders.new ≡ map builder_type builders.old }
-    ensures shapes { map shape builders.new ≡ map shape builders.old }
-    ensures capacity { BetweenNodes KeepsCapacity builders.old builders.new }
-    ensures has_capacity { AtNodes (HasSpare 7) builders.old
-        → BytesPayForAll (kept avro_fields.now projection.now)
-        → IfErr result (λ e. e ≡ OutOfMemory → ⊥) }
 {
     let mut cursor = SliceCursor::new(ROWS);
     deserialize_into(&mut cursor, 2, fields, avro_fields, projection, builders)?;
@@ -206,102 +214,4 @@ fn a_string_that_is_not_kept_is_skipped(rt: HostRuntime) {
     )
     .expect(&rt, "two rows");
     assert!(rt; counts.shown == 5 && counts.jumped == 2 && counts.calls <= 10);
-}
-
-/// Reserves capacity in each builder for the bytes of the two rows.
-fn reserve_all(builders: &mut [MutableArray]) -> Result<(), Error>
-    requires empty { AtNodes IsEmpty builders.old }
-    requires tight { All IsTight builders.old }
-    ensures data_types { map builder_type builders.new ≡ map builder_type builders.old }
-    ensures shapes { map shape builders.new ≡ map shape builders.old }
-    ensures empty { AtNodes IsEmpty builders.new }
-    ensures tight { All IsTight builders.new }
-    ensures ok { OnOk result (AtNodes (HasSpare 7) builders.new) }
-{
-    for i in 0..builders.len() {
-        builders[i].reserve_for(7)?;
-    }
-    Ok(())
-}
-
-fn clear_all(builders: &mut [MutableArray])
-    ensures data_types { map builder_type builders.new ≡ map builder_type builders.old }
-    ensures shapes { map shape builders.new ≡ map shape builders.old }
-    ensures tight { All IsTight builders.new }
-    ensures capacity { BetweenNodes Emptied builders.old builders.new }
-{
-    for i in 0..builders.len() {
-        builders[i].clear();
-    }
-}
-
-/// Reads the two rows twice into the same reserved builders.
-fn read_twice(
-    fields: &[Field],
-    avro_fields: &[AvroField],
-    projection: &[bool],
-    builders: &mut [MutableArray],
-) -> Result<Counts, Error>
-    requires lengths { length avro_fields.now ≡ length projection.now }
-    requires carried { CarriedList avro_fields.now }
-    requires fits { Fits fields.now avro_fields.now }
-    requires data_types { map builder_type builders.old ≡ kept_types fields.now projection.now }
-    requires suits { AllSuit (kept avro_fields.now projection.now) builders.old }
-    requires types_fit { All (λ b. TypesFit (shape b)) builders.old }
-    requires tight { All IsTight builders.old }
-    requires empty { AtNodes IsEmpty builders.old }
-    requires capacity { AtNodes (HasSpare 7) builders.old }
-    ensures memory { BytesPayForAll (kept avro_fields.now projection.now)
-        → IfErr result (λ e. e ≡ OutOfMemory → ⊥) }
-{
-    read_rows(fields, avro_fields, projection, builders)?;
-    clear_all(builders);
-    reserved_capacity_stays();
-    read_rows(fields, avro_fields, projection, builders)
-}
-
-/// Reads the two rows twice into builders that are reserved once.
-fn read_reserved(
-    fields: &[Field],
-    avro_fields: &[AvroField],
-    projection: &[bool],
-    builders: &mut [MutableArray],
-) -> Result<Counts, Error>
-    requires lengths { length avro_fields.now ≡ length projection.now }
-    requires carried { CarriedList avro_fields.now }
-    requires fits { Fits fields.now avro_fields.now }
-    requires data_types { map builder_type builders.old ≡ kept_types fields.now projection.now }
-    requires suits { AllSuit (kept avro_fields.now projection.now) builders.old }
-    requires types_fit { All (λ b. TypesFit (shape b)) builders.old }
-    requires tight { All IsTight builders.old }
-    requires empty { AtNodes IsEmpty builders.old }
-{
-    reserve_all(builders)?;
-    read_twice(fields, avro_fields, projection, builders)
-}
-
-/// Reads the two rows twice into builders of their own.
-fn read_new_twice(
-    alloc: Global,
-    fields: &[Field],
-    avro_fields: &[AvroField],
-    projection: &[bool],
-) -> Result<Counts, Error> {
-    let mut builders = make_builders(alloc, fields, avro_fields, projection)?;
-    read_reserved(fields, avro_fields, projection, builders.as_mut_slice())
-}
-
-#[test]
-fn reserved_builders_are_filled_again(rt: HostRuntime) {
-    let avro_fields = avro_fields(&rt, rt.alloc());
-    let fields = fields(&rt, rt.alloc(), DataType::Int32);
-    let projection = [true, true];
-    let counts = read_new_twice(
-        rt.alloc(),
-        fields.as_slice(),
-        avro_fields.as_slice(),
-        &projection,
-    )
-    .expect(&rt, "two rows");
-    assert!(rt; counts.shown == 7 && counts.jumped == 0);
 }

@@ -2,9 +2,9 @@
 
 use crate::samples::{avro_field, or_null, record, text};
 use arrow_core::{Box, Error, Items, Metadata, Reason};
-use arrow_types::{DataType, Field, IntegerType};
+use arrow_types::{DataType, Field, IntegerType, TimeUnit};
 use avro_infer::infer_schema;
-use avro_schema::{AvroSchema, Enum, Record};
+use avro_schema::{AvroSchema, Enum, LongLogical, Record};
 use std::alloc::Global;
 use std::process::Abort;
 
@@ -87,4 +87,40 @@ fn map(rt: &impl Abort, alloc: Global) -> Record {
 fn a_map_has_no_column(rt: HostRuntime) {
     let refused = infer_schema(rt.alloc(), &map(&rt, rt.alloc())).err();
     assert!(rt; refused == Some(Error::NotYetImplemented(Reason::MapOrUnion)));
+}
+
+/// A record of a number, a string, strings or nulls, and a point in time.
+fn event(rt: &impl Abort, alloc: Global) -> Record {
+    let tag = or_null(rt, alloc, AvroSchema::String(None));
+    let tags = AvroSchema::Array(Box::new(alloc, tag).expect(rt, "memory"));
+    let when = AvroSchema::Long(Some(LongLogical::TimestampMillis));
+    let fields = vec![in alloc;
+        avro_field(rt, alloc, "id", AvroSchema::Long(None)),
+        avro_field(rt, alloc, "user", AvroSchema::String(None)),
+        avro_field(rt, alloc, "tags", tags),
+        avro_field(rt, alloc, "when", when),
+    ];
+    record(rt, alloc, fields.expect(rt, "memory"))
+}
+
+fn are_columns_of_events(fields: &[Field]) -> bool {
+    let [id, user, tags, when] = fields else {
+        return false;
+    };
+    matches!(id.data_type, DataType::Int64)
+        && matches!(user.data_type, DataType::Utf8)
+        && matches!(tags.data_type, DataType::List(_))
+        && matches!(
+            when.data_type,
+            DataType::Timestamp(TimeUnit::Millisecond, _)
+        )
+}
+
+#[test]
+fn events_have_four_columns(rt: HostRuntime) {
+    let record = event(&rt, rt.alloc());
+    let fields = infer_schema(rt.alloc(), &record)
+        .expect(&rt, "memory")
+        .fields;
+    assert!(rt; are_columns_of_events(fields.as_slice()));
 }

@@ -5,6 +5,8 @@
 #[cfg(test)]
 mod arrays;
 #[cfg(test)]
+mod lines;
+#[cfg(test)]
 mod refusals;
 #[cfg(test)]
 mod rows;

@@ -157,8 +157,13 @@ pub fn pairs(rt: &impl Abort, alloc: Global) -> Array {
 
 /// A struct of a long `a"` and a string `b`.
 pub fn structs(rt: &impl Abort, alloc: Global) -> Array {
+    structs_named(rt, alloc, "a\"")
+}
+
+/// A struct of a long of this name and a string `b`.
+pub fn structs_named(rt: &impl Abort, alloc: Global, name: &str) -> Array {
     let fields = [
-        field(rt, alloc, "a\"", DataType::Int64),
+        field(rt, alloc, name, DataType::Int64),
         field(rt, alloc, "b", DataType::LargeUtf8),
     ];
     let data_type = DataType::Struct(Items::from_vec(Vec::from_array(alloc, fields).expect(

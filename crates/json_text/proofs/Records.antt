@@ -1,5 +1,5 @@
 -- Structs of the slots of several children at one place.
-use Rattle.std.proofs.Common.{◌≡◌, ℕ, zero, suc, ◌+◌, ◌<◌, Bool, true, false, ◌&&◌, IsTrue, take, add-one, List, [], ◌∷◌, length, map, get_or, pos, refl, sym, ap, ◌∙◌, arith, subst}
+use Rattle.std.proofs.Common.{◌≡◌, ℕ, zero, suc, ◌+◌, ◌<◌, ◌≤◌, Bool, true, false, ◌&&◌, IsTrue, take, add-one, List, [], ◌∷◌, length, map, get_or, pos, refl, sym, ap, ◌∙◌, arith, subst}
 use Rattle.arrow_types.specs.declared.slot.Slot.{Slot}
 use Rattle.arrow_types.specs.declared.slot.Slot.TheVariants as slot
 use Rattle.arrow_array.specs.Dictionaries.{looked_up}
@@ -7,8 +7,9 @@ use Rattle.arrow_types.specs.declared.types.Field.{Field}
 use Rattle.arrow_array.specs.declared.array.Array.{Array}
 use Rattle.arrow_array.specs.Arrays.{array_type, array_slots}
 use Rattle.arrow_array.specs.Slots.{slot_at, is_held}
+use Rattle.arrow_array.specs.Depths.{children_depth}
 use Rattle.arrow_array.specs.Structs.{AreChildren, IsStructOf}
-use Rattle.arrow_types.specs.declared.types.DataType.{DataType, out-DataType}
+use Rattle.arrow_types.specs.declared.types.DataType.{DataType, out-DataType, size-DataType}
 use Rattle.arrow_types.specs.declared.types.DataType.TheOpen as open_type
 use Rattle.arrow_types.specs.declared.types.DataType.TheVariants as types
 use Rattle.arrow_types.specs.declared.types.DataType.TheViews.{outs-Struct}
@@ -67,6 +68,12 @@ struct_of_same f g e = let d : open_type.Struct f ≡ open_type.Struct g = sym (
 -- the children of a type of structs of these fields
 pub struct_children : (t : DataType) (fs : List Field) (cs : List Array) (n : ℕ) → t ≡ types.Struct fs → IsStructOf t cs n → AreChildren n fs cs
 struct_children t fs cs n e h = subst (λ z. AreChildren n z cs) (struct_of_same h.0 fs (sym h.1 ∙ e)) h.2
+
+-- a child's type is less deep than the deepest
+pub child_below : (cs : List Array) (k : ℕ) (c : Array) → k < length cs → c ≡ get_or cs k c → size-DataType (array_type c) + 1 ≤ children_depth cs
+child_below [] k c l e = absurd (omega (arith, l))
+child_below (b ∷ cs) zero c l e = let same : size-DataType (array_type c) ≡ size-DataType (array_type b) = ap (λ z. size-DataType (array_type z)) e in omega (arith, same)
+child_below (b ∷ cs) (suc k) c l e = omega (arith, child_below cs k c (omega (arith, l)) e)
 
 -- ---- dates in range
 

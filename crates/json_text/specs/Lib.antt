@@ -1,2 +1,3 @@
 pub mod JsonText
+pub mod PlainNames
 pub mod Refusals

@@ -1,9 +1,10 @@
 //! Text that grows in memory.
-ghost use Rattle.std.specs.Prelude.{◌≡◌, ◌++◌, ◌==◌, [], pos, codes, flat_map, OnOk, if◌then◌else◌};
+ghost use Rattle.std.specs.Prelude.{◌≡◌, ◌++◌, ◌==◌, [], pos, codes, OnOk, if◌then◌else◌};
 ghost use Rattle.std.specs.Bool.{OnFalse};
 ghost use Rattle.std.specs.Fmt.{signed_decimal};
-ghost use Rattle.arrow_base.specs.WrittenString.{escaped, json_string};
+ghost use Rattle.arrow_base.specs.WrittenString.{json_string};
 ghost use Rattle.json_text.specs.JsonText.{null};
+ghost use Rattle.json_text.specs.PlainNames.{IsUnescaped};
 
 use arrow_base::utf8::write_str;
 use itoa::{Buffer, Integer};
@@ -40,8 +41,8 @@ pub fn push_comma(out: &mut Vec<u8>, index: usize) -> Appended
 
 /// Whether a byte needs an escape. It has no early exit, so that bytes are compared together.
 #[inline]
-fn has_escape(string: &[u8]) -> bool
-    ensures { OnFalse result (flat_map escaped string.now ≡ string.now) }
+pub(crate) fn has_escape(string: &[u8]) -> bool
+    ensures { OnFalse result (IsUnescaped string.now) }
 {
     let mut found = false;
     for byte in string {
@@ -60,10 +61,36 @@ pub fn push_string(out: &mut Vec<u8>, string: &str) -> Appended
     if has_escape(string.as_bytes()) {
         return push_escaped(out, string);
     }
+    push_unescaped(out, string)
+}
+
+/// Appends the JSON string of a string that needs no escape.
+///
+/// `AllocError` where there is no memory.
+#[inline]
+fn push_unescaped(out: &mut Vec<u8>, string: &str) -> Appended
+    requires { IsUnescaped string.now }
+    ensures ok { OnOk result (out.new.items ≡ out.old.items ++ json_string string.now) }
+{
     out.push(b'"')?;
     out.extend_from_slice(string.as_bytes())?;
     out.push(b'"')?;
     Ok(())
+}
+
+/// Appends the JSON string of a name, which needs no escape unless it is said to need one.
+///
+/// `AllocError` where there is no memory.
+#[inline]
+pub(crate) fn push_name(out: &mut Vec<u8>, name: &str, escapes: bool) -> Appended
+    requires { OnFalse escapes (IsUnescaped name.now) }
+    ensures ok { OnOk result (out.new.items ≡ out.old.items ++ json_string name.now) }
+{
+    if escapes {
+        push_string(out, name)
+    } else {
+        push_unescaped(out, name)
+    }
 }
 
 fn push_escaped(out: &mut Vec<u8>, string: &str) -> Appended

@@ -1,5 +1,6 @@
 //! The text of one slot of an array.
 ghost use Rattle.std.specs.Prelude.{◌≡◌, ◌+◌, ◌<◌, ◌++◌, length, map, OnOk, if◌then◌else◌};
+ghost use Rattle.std.specs.Bool.{OnFalse};
 ghost use Rattle.arrow_types.specs.declared.types.DataType.TheVariants.{Struct as StructType};
 ghost use Rattle.arrow_array.specs.Arrays.{array_type, array_slots};
 ghost use Rattle.arrow_array.specs.Kinds.{IsStructType};
@@ -7,9 +8,10 @@ ghost use Rattle.arrow_array.specs.Lent.{IsPart, part_slots};
 ghost use Rattle.arrow_array.specs.Slots.{slot_at};
 ghost use Rattle.arrow_array.specs.Structs.{AreChildren, HaveSlots};
 ghost use Rattle.json_text.specs.JsonText.{text, array, object, field_members, null};
+ghost use Rattle.json_text.specs.PlainNames.{HasPlainNames, HavePlainNames};
 
 use crate::bytes::{
-    Appended, push, push_boolean_if, push_comma, push_null, push_signed_if, push_string,
+    Appended, push, push_boolean_if, push_comma, push_name, push_null, push_signed_if,
     push_string_if, push_unsigned_if, push_wide_if,
 };
 use crate::integers::push_number_if;
@@ -22,9 +24,23 @@ use arrow_types::{DataType, Field};
 /// without its point; and a zone that is no offset counts as none.
 ///
 /// `AllocError` where there is no memory.
-#[cycle(slots)]
 pub fn push_slot(out: &mut Vec<u8>, array: &Array, i: usize) -> Appended
     requires { i < length (array_slots array.now) }
+    ensures ok { OnOk result
+        (out.new.items
+        ≡ out.old.items ++ text (array_type array.now) (slot_at (array_slots array.now) i)) }
+{
+    push_slot_named(out, array, i, true)
+}
+
+/// The same where it is told whether names of members need an escape, as `escapes_names` tells it
+/// once for all slots.
+///
+/// `AllocError` where there is no memory.
+#[cycle(slots)]
+pub fn push_slot_named(out: &mut Vec<u8>, array: &Array, i: usize, escapes: bool) -> Appended
+    requires within { i < length (array_slots array.now) }
+    requires names { OnFalse escapes (HasPlainNames (array_type array.now)) }
     ensures ok { OnOk result
         (out.new.items
         ≡ out.old.items ++ text (array_type array.now) (slot_at (array_slots array.now) i)) }
@@ -94,15 +110,15 @@ pub fn push_slot(out: &mut Vec<u8>, array: &Array, i: usize) -> Appended
             let _ = array.value(i);
             push_null(out)
         }
-        Array::List(array) => push_list(out, array.is_valid(i), &array.value(i)),
-        Array::LargeList(array) => push_list(out, array.is_valid(i), &array.value(i)),
-        Array::FixedSizeList(array) => push_list(out, array.is_valid(i), &array.value(i)),
+        Array::List(array) => push_list(out, array.is_valid(i), &array.value(i), escapes),
+        Array::LargeList(array) => push_list(out, array.is_valid(i), &array.value(i), escapes),
+        Array::FixedSizeList(array) => push_list(out, array.is_valid(i), &array.value(i), escapes),
         Array::Struct(array) => {
             let fields = fields_of(array.data_type());
-            push_struct(out, array.is_valid(i), fields, array.values(), i)
+            push_struct(out, array.is_valid(i), fields, array.values(), i, escapes)
         }
         Array::Dictionary(array) => match array.keys().index(i) {
-            Some(index) => push_slot(out, array.values(), index),
+            Some(index) => push_slot_named(out, array.values(), index, true),
             None => push_null(out),
         },
     }
@@ -121,8 +137,9 @@ pub(crate) fn fields_of(data_type: &DataType) -> &[Field]
 
 /// Appends the text of a list, or `null` where there is none.
 #[cycle(slots)]
-fn push_list(out: &mut Vec<u8>, is_valid: bool, part: &Part<'_>) -> Appended
-    requires { IsPart part.now }
+fn push_list(out: &mut Vec<u8>, is_valid: bool, part: &Part<'_>, escapes: bool) -> Appended
+    requires part { IsPart part.now }
+    requires names { OnFalse escapes (HasPlainNames (array_type part.now.array.now)) }
     ensures ok { OnOk result
         (out.new.items
         ≡ out.old.items
@@ -134,7 +151,7 @@ fn push_list(out: &mut Vec<u8>, is_valid: bool, part: &Part<'_>) -> Appended
     push(out, b"[")?;
     for k in 0..part.end - part.start {
         push_comma(out, k)?;
-        push_slot(out, part.array, part.start + k)?;
+        push_slot_named(out, part.array, part.start + k, escapes)?;
     }
     push(out, b"]")
 }
@@ -148,9 +165,11 @@ fn push_struct(
     fields: &[Field],
     children: &[Array],
     i: usize,
+    escapes: bool,
 ) -> Appended
     requires children { (n : _) × AreChildren n fields.now children.now }
     requires slots { HaveSlots (i + 1) children.now }
+    requires names { OnFalse escapes (HavePlainNames fields.now) }
     ensures ok { OnOk result
         (out.new.items
         ≡ out.old.items
@@ -162,9 +181,9 @@ fn push_struct(
     push(out, b"{")?;
     for k in 0..children.len() {
         push_comma(out, k)?;
-        push_string(out, fields[k].name.as_str())?;
+        push_name(out, fields[k].name.as_str(), escapes)?;
         push(out, b":")?;
-        push_slot(out, &children[k], i)?;
+        push_slot_named(out, &children[k], i, escapes)?;
     }
     push(out, b"}")
 }

@@ -77,7 +77,7 @@ row_left keys arrays at count h none =
     let e : [] ≡ keyed_row keys arrays at ∷ keyed_rows keys arrays (at + 1) (count - (at + 1)) = sym none ∙ rows_begin keys arrays at count h in
     cc
 
--- behind the last row there is none to come
+-- after the last row there is none to come
 pub rows_none : (keys : List (List ℕ)) (arrays : List Array) (at n : ℕ) → n ≡ 0 → keyed_rows keys arrays at n ≡ []
 rows_none keys arrays at n e = ap (λ m. keyed_rows keys arrays at m) e
 

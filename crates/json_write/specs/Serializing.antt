@@ -23,7 +23,7 @@ abbrev pub keys_of : List (List ℕ) → List (List ℕ)
 keys_of [] = []
 keys_of (name ∷ names) = (json_string name ++ codes ":") ∷ map later_key names
 
--- cited by private contracts alone: the keys, each with its value behind it
+-- cited by private contracts alone: the keys, each with its value after it
 abbrev pub keyed : List (List ℕ) → List (List ℕ) → List ℕ
 keyed (key ∷ keys) (value ∷ values) = key ++ (value ++ keyed keys values)
 keyed _ _ = []
@@ -57,9 +57,9 @@ shown_of s = cond s.is_valid (Some s.buffer.items) None
 abbrev pub rows_of : RecordSerializer → List (List ℕ)
 rows_of s = keyed_rows (serializer_keys s) (serializer_arrays s) s.at (rows_left s)
 
--- one `advance`: the next row is shown, or nothing behind the last; where memory runs out nothing is shown, and no row comes any more
+-- one `advance`: the next row is shown, or nothing after the last; where memory runs out nothing is shown, and no row comes any more
 pub record Advances (before : RecordSerializer) (answer : Result (Unit {0}) Error) (after : RecordSerializer) : Type 0 where
   pub next : OnOk answer (MovesOn (rows_of before) (shown_of after) (rows_of after))
-  pub behind : rows_of before ≡ [] → answer ≡ Ok tt
+  pub after_the_last : rows_of before ≡ [] → answer ≡ Ok tt
   pub memory : IfErr answer (λ e. e ≡ OutOfMemory)
   pub stays : OnErr answer ((shown_of after ≡ None) × (rows_of after ≡ []))

@@ -12,7 +12,7 @@ ghost use Rattle.json_write.specs.Arrays.{array_refusal, array_texts, AddsGiven,
 
 use arrow_base::{Error, Result};
 use arrow_columns::Array;
-use json_text::{check, push_comma, push_slot};
+use json_text::{check, escapes_names, push_comma, push_slot_named};
 use lending::FallibleStreamingIterator;
 
 /// Shows, for each array that isn't empty, the JSON texts of its slots, with commas between them.
@@ -34,9 +34,10 @@ fn push_texts(out: &mut Vec<u8>, array: &Array) -> Result<()>
     ensures ok { IfOk result (λ _. out.new.items ≡ out.old.items ++ array_texts array.now) }
     ensures memory { IfErr result (λ e. e ≡ OutOfMemory) }
 {
+    let escapes = escapes_names(array.data_type());
     for i in 0..array.len() {
         push_comma(out, i)?;
-        push_slot(out, array, i)?;
+        push_slot_named(out, array, i, escapes)?;
     }
     Ok(())
 }

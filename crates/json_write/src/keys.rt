@@ -38,7 +38,10 @@ fn make_key(alloc: Global, index: usize, name: &str) -> Result<Vec<u8>>
     Ok(key)
 }
 
-fn make_keys(alloc: Global, fields: &[Field]) -> Result<Vec<Vec<u8>>>
+/// The keys of the fields.
+///
+/// `OutOfMemory` alone.
+pub(crate) fn make_keys(alloc: Global, fields: &[Field]) -> Result<Vec<Vec<u8>>>
     ensures ok { IfOk result
         (λ keys. map (λ v. v.items) keys.items ≡ keys_of (names_of fields.now)) }
     ensures memory { IfErr result (λ e. e ≡ OutOfMemory) }
@@ -51,6 +54,18 @@ fn make_keys(alloc: Global, fields: &[Field]) -> Result<Vec<Vec<u8>>>
     Ok(keys)
 }
 
+/// Whether there is one array for each field, and each has a JSON text. It takes no memory.
+pub(crate) fn check_chunk(fields: &[Field], arrays: &[Array]) -> Result<()>
+    ensures lengths { OnOk result (length fields.now ≡ length arrays.now) }
+    ensures refusal { MatchResult result (λ _. chunk_refusal fields.now arrays.now ≡ None)
+        (λ e. chunk_refusal fields.now arrays.now ≡ Some e) }
+{
+    if fields.len() != arrays.len() {
+        return Err(Error::InvalidArgumentError(Reason::Lengths));
+    }
+    check_all(arrays)
+}
+
 /// The keys of the fields, where there is one array for each, and each has a JSON text.
 pub(crate) fn prepare(alloc: Global, fields: &[Field], arrays: &[Array]) -> Result<Vec<Vec<u8>>>
     ensures keys { IfOk result
@@ -60,9 +75,6 @@ pub(crate) fn prepare(alloc: Global, fields: &[Field], arrays: &[Array]) -> Resu
     ensures err { IfErr result
         (λ e. (e ≡ OutOfMemory) ⊎ (chunk_refusal fields.now arrays.now ≡ Some e)) }
 {
-    if fields.len() != arrays.len() {
-        return Err(Error::InvalidArgumentError(Reason::Lengths));
-    }
-    check_all(arrays)?;
+    check_chunk(fields, arrays)?;
     make_keys(alloc, fields)
 }

@@ -4,10 +4,12 @@
 mod arrays;
 mod joined;
 mod keys;
+mod lines;
 mod record;
 mod rows;
 
 pub use arrays::Serializer;
 pub use arrow_base::utf8;
 pub use joined::write;
+pub use lines::LineEncoder;
 pub use record::RecordSerializer;

@@ -1,13 +1,15 @@
 //! Rows as JSON objects, one after another.
 ghost use Rattle.std.specs.Prelude.{◌≡◌, ◌≤◌, ◌⊎◌, ℕ, List, Option, Some, None, Result, length, map, IfOk, OnOk, IfErr};
+ghost use Rattle.std.specs.Bool.{OnFalse};
 ghost use Rattle.std.specs.Borrow.{sem};
 ghost use Rattle.std.specs.Io.BufRead.{Rests};
 ghost use Rattle.lending.specs.Lending.{Advanced, AdvancedNext, IsShown, IsNext};
 ghost use Rattle.arrow_core.specs.declared.error.Error.TheVariants.{OutOfMemory};
 ghost use Rattle.arrow_array.specs.Structs.{HaveSlots};
+ghost use Rattle.json_write.specs.Plain.{ArePlain, on_false_plain-prop};
 
 use crate::keys::prepare;
-use crate::rows::push_row;
+use crate::rows::{escape_names, push_row};
 use arrow_base::{Error, Result, Schema};
 use arrow_columns::{Array, Chunk};
 use lending::FallibleStreamingIterator;
@@ -22,9 +24,11 @@ pub struct RecordSerializer<'a> {
     at: usize,
     buffer: Vec<u8>,
     is_valid: bool,
+    escapes: bool,
     ghost lengths: { length keys.items ≡ length arrays.now },
     ghost slots: { HaveSlots count arrays.now },
     ghost within: { at ≤ count },
+    ghost names: { OnFalse escapes (ArePlain arrays.now) } by { on_false_plain-prop escapes arrays.now },
 }
 
 /// Lets go of a schema.
@@ -68,6 +72,7 @@ impl<'a> RecordSerializer<'a> {
                 at: 0,
                 buffer,
                 is_valid: false,
+                escapes: escape_names(arrays),
             }),
             Err(error) => Err(error),
         }
@@ -100,7 +105,8 @@ impl<'a> FallibleStreamingIterator for RecordSerializer<'a> {
             return Ok(());
         }
         self.buffer.clear();
-        match push_row(&mut self.buffer, self.keys.as_slice(), self.arrays, self.at) {
+        let keys = self.keys.as_slice();
+        match push_row(&mut self.buffer, keys, self.arrays, self.at, self.escapes) {
             Ok(()) => {
                 self.at += 1;
                 self.is_valid = true;

@@ -1,6 +1,7 @@
 use Rattle.std.proofs.Common.{◌≡◌, List, ℕ, codes}
 use Rattle.avro_grammar.specs.Parts.{Many}
-use Rattle.avro_container.specs.File.{Entry, last_of}
+use Rattle.avro_container.specs.File.{Entry}
+use Rattle.avro_container.specs.Kept.{last_of}
 use Rattle.avro_container.specs.FileForms.{entry}
 use Rattle.avro_container.specs.Taking.{state, Takes}
 use Rattle.avro_container.proofs.entries.take_entries.Given as goal

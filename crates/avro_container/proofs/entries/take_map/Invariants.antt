@@ -1,5 +1,6 @@
 use Rattle.std.proofs.Common.{◌≡◌, List, codes, None}
-use Rattle.avro_container.specs.File.{Entry, last_of}
+use Rattle.avro_container.specs.File.{Entry}
+use Rattle.avro_container.specs.Kept.{last_of}
 use Rattle.avro_container.specs.FileForms.{entry}
 use Rattle.avro_container.specs.Taking.{state}
 use Rattle.avro_container.proofs.Manies.{Along}

@@ -1,4 +1,5 @@
-use Rattle.std.proofs.Common.{◌≡◌, ◌∙◌, ap, length, rules}
+use Rattle.std.proofs.Common.{◌≡◌, ◌∙◌, ap, codes, length, rules}
+use Rattle.avro_container.proofs.Manies.{last_is}
 use Rattle.avro_container.proofs.Taken as taken
 use Rattle.avro_container.specs.File.{header_parts}
 use Rattle.avro_container.specs.FileForms.{entry, after_map}
@@ -29,6 +30,6 @@ returns-clause-ok g c =
     record {
       entries = all.entries;
       passed = rw same (taken.both_pass (blocks entry) after_map _ _ _ all.entries _ all.passed (taken.meaning_passes (raw 16) Any (header_parts all.entries) _ _ c.fill.new.bytes.items c.in_ok-fill.ensures.ok tt));
-      schema_is = all.schema_is;
-      codec_is = all.codec_is;
+      schema_is = all.schema_is ∙ last_is (codes "avro.schema") all.entries;
+      codec_is = all.codec_is ∙ last_is (codes "avro.codec") all.entries;
     }

@@ -18,8 +18,8 @@ loop-at-preserved g c = record {
 
 pub returns-in_err-extend_buffer-clause-stops : goal.returns-in_err-extend_buffer-clause-stops
 returns-in_err-extend_buffer-clause-stops g c =
-    taken.handed_on _ _ c.from_residual-in_err-extend_buffer.result c.from_residual-in_err-extend_buffer.ensures.1 (taken.no_memory (forms.raw c.args.n) _ _ _ _ c.loop-at.invariant.takes (filled.some_left _ _ c.loop-at.bytes.items c.loop-at-test.true) c.in_ok-not_full.ensures.ok c.in_err-extend_buffer.ensures.err)
+    taken.handed_on _ _ c.from_residual-in_err-extend_buffer.result c.from_residual-in_err-extend_buffer.ensures.1 (taken.no_memory (forms.raw c.args.n) _ _ _ _ c.loop-at.invariant.takes (filled.some_left _ _ c.loop-at.bytes.items c.loop-at-test.true) c.in_ok-not_used_up.ensures.ok c.in_err-extend_buffer.ensures.err)
 
-pub returns-in_err-not_full-clause-stops : goal.returns-in_err-not_full-clause-stops
-returns-in_err-not_full-clause-stops g c =
-    taken.handed_on _ _ c.from_residual.result c.from_residual.ensures.1 (taken.used_up (forms.raw c.args.n) _ _ _ _ c.loop-at.invariant.takes (filled.some_left _ _ c.loop-at.bytes.items c.loop-at-test.true) c.in_err-not_full.ensures.err.1 c.in_err-not_full.ensures.err.0)
+pub returns-in_err-not_used_up-clause-stops : goal.returns-in_err-not_used_up-clause-stops
+returns-in_err-not_used_up-clause-stops g c =
+    taken.handed_on _ _ c.from_residual.result c.from_residual.ensures.1 (taken.used_up (forms.raw c.args.n) _ _ _ _ c.loop-at.invariant.takes (filled.some_left _ _ c.loop-at.bytes.items c.loop-at-test.true) c.in_err-not_used_up.ensures.err.1 c.in_err-not_used_up.ensures.err.0)

@@ -1,10 +1,12 @@
-use Rattle.std.proofs.Common.{◌<◌, length, subst, sym, arith}
+use Rattle.std.proofs.Common.{◌∙◌, ◌<◌, length, subst, sym, arith}
+use Rattle.std.proofs.Math.Seq.{map-set_same}
 use Rattle.arrow_array.specs.Arrays.{array_type, array_slots}
 use Rattle.arrow_builders.specs.Fits.{TypesFit}
 use Rattle.arrow_builders.specs.MutableArrays.{builder_type, builder_slots}
 use Rattle.arrow_builders.specs.Shapes.{shape}
 use Rattle.arrow_builders.specs.Tight.{IsTight}
 use Rattle.avro_decode.proofs.Builders.{all_here, all_set}
+use Rattle.avro_decode.proofs.Frozen.{emptied_more, emptied_all}
 use Rattle.avro_decode.proofs.Wholes.{done_more}
 use Rattle.avro_decode.proofs.blocks.freeze.Goals as goal
 
@@ -16,8 +18,13 @@ loop-i-preserved c =
     let lt : c.loop-i.i < length c.loop-i.builders = omega (arith, c.loop-i-test.true, c.loop-i.auto.builders) in
     let fits = all_here (λ b. TypesFit (shape b)) c.loop-i.builders c.loop-i.i c.index-builders-i.result lt inv.types_fit in
     record {
+      shapes = map-set_same shape _ _ _ c.index-builders-i.result boxed.shape ∙ inv.shapes;
+      emptied = emptied_more c.loop-i.builders c.loop-i.i _ inv.emptied boxed.emptied;
       tight = all_set IsTight c.loop-i.builders c.loop-i.i _ inv.tight boxed.tight;
       types_fit = all_set (λ b. TypesFit (shape b)) c.loop-i.builders c.loop-i.i _ inv.types_fit (subst TypesFit (sym boxed.shape) fits);
       data_types = rw pushed (done_more array_type builder_type _ c.loop-i.builders c.loop-i.i _ c.index-builders-i.result _ _ lt inv.data_types boxed.array_type);
       slots = rw pushed (done_more array_slots builder_slots _ c.loop-i.builders c.loop-i.i _ c.index-builders-i.result _ _ lt inv.slots boxed.array_slots);
     }
+
+pub returns-clause-emptied : goal.returns-clause-emptied
+returns-clause-emptied c = emptied_all c.loop-i.builders c.loop-i.i (omega (arith, c.loop-i-test.false, c.loop-i.auto.builders)) c.loop-i.invariant.emptied

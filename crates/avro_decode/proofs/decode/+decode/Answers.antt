@@ -24,12 +24,12 @@ use Rattle.avro_decode.specs.Masks.{mask}
 use Rattle.avro_decode.specs.Growth.{Grows, AllOffsetsReach, HaveSpare, ChildrenGrow}
 use Rattle.avro_decode.specs.Suits.{Suits}
 use Rattle.arrow_builders.specs.Tight.{IsTight}
-use Rattle.avro_skip.proofs.Counting.{not_longer, forward_more, forward_none, moves_within, kept_then, kept_none, number_costs, number_first}
+use Rattle.avro_reference.proofs.Counting.{not_longer, forward_more, forward_none, moves_within, kept_then, kept_none, number_costs, number_first}
 use Rattle.avro_decode.proofs.Fields.{suit_length, suit_at, suit_same, part_at, part_next, part_all, children_none, children_then, children_set, reach_at, children_reach, spare_at, children_spare, record_reach, record_spare, record_grows, fields_begun, field_step, field_fault, fields_ended, push_length, record_fails}
 use Rattle.avro_decode.proofs.Going.{grows_on, grows_then, grows_first, offsets_on, offsets_then, offsets_less, spare_on, list_suits, large_list_suits, item_reach, large_item_reach, items_counted, large_items_counted, list_spare, list_grows, array_fails, list_order, list_gives}
 use Rattle.avro_decode.proofs.Nodes.{grows_wider, spare_less, grows_fewer, spare_fewer}
-use Rattle.avro_decode.proofs.Members.{null_gives, other_pair, no_index, suits_first, suits_second, second_gives, shorter_by, null_tight, record_tight, pushed_tight, record_gives}
-use Rattle.avro_skip.specs.Costs.{passed}
+use Rattle.avro_decode.proofs.Members.{null_gives, no_index, suits_first, suits_second, second_gives, shorter_by, null_tight, record_tight, pushed_tight, record_gives}
+use Rattle.avro_reference.specs.Costs.{passed}
 use Rattle.avro_flat.proofs.Pushes.{takes_none}
 use Rattle.avro_flat.proofs.Items.{items-done, items-next, items-err}
 use Rattle.avro_decode.proofs.Reading.{blocks-next, blocks-end, blocks-no_count, blocks-bad}

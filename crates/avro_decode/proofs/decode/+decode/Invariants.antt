@@ -6,7 +6,7 @@ use Rattle.avro_schema.specs.Number.{MovesForward}
 use Rattle.avro_reference.specs.Read.{items, blocks, read}
 use Rattle.avro_reference.specs.Listed.{read_fields_of}
 use Rattle.avro_decode.specs.Decoding.{grown}
-use Rattle.avro_skip.specs.Costs.{passed, CostsKept}
+use Rattle.avro_reference.specs.Costs.{passed, CostsKept}
 use Rattle.avro_decode.specs.Decoding.{all_blocks}
 use Rattle.avro_decode.specs.Masks.{mask}
 use Rattle.avro_decode.specs.Growth.{Grows, ChildrenGrow}

@@ -1,6 +1,6 @@
 use Rattle.std.proofs.Common.{◌≡◌, ◌∙◌, ◌-◌, ◌+◌, suc, sym, subst, arith}
 use Rattle.std.proofs.lemmas.Result.{err_from_is_err_and}
-use Rattle.avro_skip.proofs.Counting.{forward_more, forward_none, moves_within, kept_then}
+use Rattle.avro_reference.proofs.Counting.{forward_more, forward_none, moves_within, kept_then}
 use Rattle.avro_flat.proofs.Items.{items-done, items-next, items-err}
 use Rattle.avro_decode.specs.Suits.{Suits}
 use Rattle.avro_decode.proofs.Going.{grows_then, offsets_on, spare_on}

@@ -4,7 +4,7 @@ use Rattle.arrow_builders.specs.Shapes.{shape}
 use Rattle.arrow_builders.specs.Tight.{IsTight}
 use Rattle.avro_schema.specs.Number.{MovesForward}
 use Rattle.avro_reference.specs.Read.{items, read}
-use Rattle.avro_skip.specs.Costs.{passed, CostsKept}
+use Rattle.avro_reference.specs.Costs.{passed, CostsKept}
 use Rattle.avro_decode.specs.Masks.{mask}
 use Rattle.avro_decode.specs.Growth.{Grows}
 use Rattle.avro_decode.proofs.items.decode_each.Given as goal

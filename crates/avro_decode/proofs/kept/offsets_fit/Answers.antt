@@ -1,4 +1,4 @@
-use Rattle.std.proofs.Common.{◌≤◌, ◌⊎◌, inl, inr, IsTrue, refl, arith}
+use Rattle.std.proofs.Common.{◌≤◌, ◌⊎◌, inl, inr, refl, arith}
 use Rattle.avro_grammar.specs.ValidBlock.{small_limit}
 use Rattle.avro_decode.proofs.kept.offsets_fit.Goals as goal
 

@@ -1,7 +1,7 @@
 use Rattle.std.proofs.Common.{◌≡◌, ◌∙◌, to_z, of_z, arith}
 use Rattle.std.specs.Int.{w128}
 use Rattle.std.proofs.lemmas.Int.{ints}
-use Rattle.avro_skip.proofs.Counting.{drop_moves}
+use Rattle.avro_reference.proofs.Counting.{drop_moves}
 use Rattle.avro_flat.proofs.Decimals.{decimal_short, decimal_long, decimal_taken}
 use Rattle.avro_flat.proofs.decimal.take_decimal.Goals as goal
 

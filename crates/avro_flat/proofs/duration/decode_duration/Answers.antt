@@ -1,6 +1,6 @@
 use Rattle.std.proofs.Common.{◌∙◌, ap, arith}
 use Rattle.avro_reference.specs.Read.{push_one}
-use Rattle.avro_skip.proofs.Counting.{on_ok, drop_moves, take_costs}
+use Rattle.avro_reference.proofs.Counting.{on_ok, drop_moves, take_costs}
 use Rattle.avro_flat.proofs.Counted.{value_pushed, less_left}
 use Rattle.avro_flat.proofs.Durations.{duration_short, duration_taken, interval_is}
 use Rattle.avro_flat.proofs.Pushes.{number_fills}

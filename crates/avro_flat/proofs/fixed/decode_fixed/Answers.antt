@@ -1,7 +1,7 @@
 use Rattle.std.proofs.Common.{◌∙◌, sym, ap, length}
 use Rattle.std.proofs.lemmas.List.{length-take-le}
 use Rattle.arrow_flat.specs.Builders.{content_node}
-use Rattle.avro_skip.proofs.Counting.{on_ok, drop_moves, take_costs}
+use Rattle.avro_reference.proofs.Counting.{on_ok, drop_moves, take_costs}
 use Rattle.avro_flat.proofs.Sized.{fixed_short, fixed_given}
 use Rattle.avro_flat.proofs.Pushes.{fixed_fills, fixed_has_memory}
 use Rattle.avro_flat.proofs.fixed.decode_fixed.Goals as goal

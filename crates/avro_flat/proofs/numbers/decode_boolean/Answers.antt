@@ -1,4 +1,4 @@
-use Rattle.avro_skip.proofs.Counting.{byte_moves}
+use Rattle.avro_reference.proofs.Counting.{byte_moves}
 use Rattle.avro_flat.proofs.numbers.decode_boolean.Goals as goal
 
 pub returns-then-byte-gt1-clause-moves : goal.returns-then-byte-gt1-clause-moves

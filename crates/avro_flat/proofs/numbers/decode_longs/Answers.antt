@@ -1,6 +1,6 @@
 use Rattle.std.proofs.Common.{◌≡◌, ◌∙◌, ◌-◌, ◌+◌, suc, arith}
 use Rattle.std.proofs.lemmas.Result.{err_from_is_err_and}
-use Rattle.avro_skip.proofs.Counting.{forward_more, moves_within, kept_then}
+use Rattle.avro_reference.proofs.Counting.{forward_more, moves_within, kept_then}
 use Rattle.avro_flat.proofs.Filled.{fills_then, spare_then}
 use Rattle.avro_flat.proofs.Items.{items-done, items-next, items-err}
 use Rattle.avro_flat.proofs.numbers.decode_longs.Goals as goal

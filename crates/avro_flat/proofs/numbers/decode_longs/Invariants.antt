@@ -2,7 +2,7 @@ use Rattle.std.proofs.Common.{◌≡◌, ◌-◌, true}
 use Rattle.arrow_flat.specs.Builders.{plain_node}
 use Rattle.avro_schema.specs.Number.{MovesForward}
 use Rattle.avro_reference.specs.Read.{items, long_at}
-use Rattle.avro_skip.specs.Costs.{passed, CostsKept}
+use Rattle.avro_reference.specs.Costs.{passed, CostsKept}
 use Rattle.avro_flat.specs.Growing.{Fills}
 use Rattle.avro_flat.proofs.numbers.decode_longs.Given as goal
 

@@ -1,6 +1,6 @@
 use Rattle.std.proofs.Common.{◌∙◌}
 use Rattle.arrow_flat.specs.Builders.{content_node}
-use Rattle.avro_skip.proofs.Counting.{on_ok, number_first, drop_moves, string_costs}
+use Rattle.avro_reference.proofs.Counting.{on_ok, number_first, drop_moves, string_costs}
 use Rattle.avro_flat.proofs.Sized.{string_pushed}
 use Rattle.avro_flat.proofs.Pushes.{string_fills, string_reach, string_has_memory}
 use Rattle.avro_flat.proofs.strings.decode_string.Goals as goal

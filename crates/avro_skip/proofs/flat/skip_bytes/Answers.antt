@@ -1,4 +1,4 @@
-use Rattle.avro_skip.proofs.Counting.{drop_moves}
+use Rattle.avro_reference.proofs.Counting.{drop_moves}
 use Rattle.avro_skip.proofs.flat.skip_bytes.Goals as goal
 
 pub returns-then-jump-clause-moves : goal.returns-then-jump-clause-moves

@@ -1,4 +1,4 @@
-use Rattle.avro_skip.proofs.Counting.{number_first}
+use Rattle.avro_reference.proofs.Counting.{number_first}
 use Rattle.avro_skip.proofs.flat.skip_sized.Goals as goal
 
 pub returns-in-Some-clause-moves : goal.returns-in-Some-clause-moves

@@ -1,7 +1,7 @@
 use Rattle.std.proofs.Common.{rules, w64}
 use mir.Val.{SFits}
 use Rattle.std.proofs.lemmas.Int.{to_z-of_z}
-use Rattle.avro_skip.proofs.Counting.{number_first}
+use Rattle.avro_reference.proofs.Counting.{number_first}
 use Rattle.avro_skip.proofs.Flats.{stated_passes, stated_negative}
 use Rattle.avro_skip.proofs.flat.skip_sized_items.Goals as goal
 

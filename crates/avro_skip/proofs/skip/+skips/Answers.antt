@@ -8,7 +8,7 @@ use Rattle.avro_schema.proofs.schema.Schema.TheLaws.{the_size}
 use Rattle.avro_schema.specs.declared.schema.Schema.TheViews.{the_lemmas}
 use Rattle.avro_grammar.specs.Listed.{CarriedMembersOf}
 use Rattle.avro_reference.specs.Skip.{Bad, skip}
-use Rattle.avro_skip.proofs.Counting.{not_longer, forward_none, forward_more, moves_within, number_first}
+use Rattle.avro_reference.proofs.Counting.{not_longer, forward_none, forward_more, moves_within, number_first}
 use Rattle.avro_skip.proofs.Signed.{is_zero, is_least, not_is, not_as, block_none, block_positive, block_negative}
 use Rattle.avro_skip.proofs.Steps.{items_begun, items_next, items_ended, items_failed, fields_begun, fields_next, fields_ended, fields_failed, blocks_no_count, blocks_fault, blocks_begun, blocks_next, blocks_ended, blocks_fail}
 use Rattle.avro_skip.proofs.Unions.{two_of, members_size, first_member, second_member, union_carried, union_passes, array_carried, array_passes, record_carried, record_passes, record_shorter}

@@ -1,5 +1,4 @@
 -- The lines are those of the columns that were read.
-use Rattle.std.proofs.Common.{arith}
 use Rattle.std.proofs.lemmas.Result.{err_from_is_err_and}
 use Rattle.avrocat.specs.Blocks.{IsValid}
 use Rattle.avrocat.specs.declared.command.BlockWords.{BlockWords}

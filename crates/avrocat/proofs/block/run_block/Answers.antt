@@ -1,7 +1,6 @@
 -- What was read is what is shown, and what was written.
 use Rattle.std.proofs.lemmas.Result.{on_ok_weaker, err_from_is_err_and}
 use Rattle.avrocat.specs.Blocks.{ShowsBlock}
-use Rattle.avrocat.specs.Changes.{change_of}
 use Rattle.avrocat.proofs.Endings.{keeps_same}
 use Rattle.avrocat.proofs.RefusalLemmas.{not_read, by_what_was_read, write_fails}
 use Rattle.avrocat.proofs.block.run_block.Goals as goal

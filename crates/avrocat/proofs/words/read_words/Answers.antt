@@ -4,11 +4,13 @@ use Rattle.avrocat.proofs.words.read_words.Goals as goal
 
 pub returns-in_err-read_block-in-block-clause-usage :
     goal.returns-in_err-read_block-in-block-clause-usage
-returns-in_err-read_block-in-block-clause-usage c = λ e. no_block c.args.words.now (c.in_err-read_block-in-block.ensures.usage (search (rules, e)))
+returns-in_err-read_block-in-block-clause-usage c =
+    λ e. no_block c.args.words.now c.command-item.result _ false (begins c.args.words.now c.command-item.result (omega (arith, c.in-len1-up.len_at_least)) c.command-item.is) (search rules) (c.in_err-read_block-in-block.ensures.usage (search (rules, e)))
 
 pub returns-in_err-read_block-in-text-clause-usage :
     goal.returns-in_err-read_block-in-text-clause-usage
-returns-in_err-read_block-in-text-clause-usage c = λ e. no_block c.args.words.now (c.in_err-read_block-in-text.ensures.usage (search (rules, e)))
+returns-in_err-read_block-in-text-clause-usage c =
+    λ e. no_block c.args.words.now c.command-item.result _ true (begins c.args.words.now c.command-item.result (omega (arith, c.in-len1-up.len_at_least)) c.command-item.is) (search rules) (c.in_err-read_block-in-text.ensures.usage (search (rules, e)))
 
 pub returns-in_ok-read_block-in-block-clause-command :
     goal.returns-in_ok-read_block-in-block-clause-command

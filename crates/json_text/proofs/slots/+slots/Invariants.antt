@@ -14,8 +14,8 @@ invariant-push_list-loop-k l = l.out.items ≡ (l.fn.out.items ++ codes "[") ++ 
 abbrev pub invariant-push_struct-loop-k : goal.invariant-push_struct-loop-k
 invariant-push_struct-loop-k l = l.out.items ≡ (l.fn.out.items ++ codes "{") ++ joined (take l.k (field_members l.fields (map (λ slots. slot_at slots l.i) (map array_slots l.children))))
 
-abbrev pub decreases-push_slot : goal.decreases-push_slot
-decreases-push_slot l = 3 * size-DataType (array_type l.array.now) + 2
+abbrev pub decreases-push_slot_named : goal.decreases-push_slot_named
+decreases-push_slot_named l = 3 * size-DataType (array_type l.array.now) + 2
 
 abbrev pub decreases-push_list : goal.decreases-push_list
 decreases-push_list l = 3 * size-DataType (array_type l.part.now.array.now) + 3

@@ -11,4 +11,4 @@ loop-i-preserved c =
     let f = text (array_type c.args.array.now) in
     let xs = array_slots c.args.array.now in
     let within : c.loop-i.i < length xs = omega arith in
-    joined_more c.args.out.now.items _ _ _ _ (map f xs) c.loop-i.i (omega (arith, map_length f xs, within)) (map_at f xs c.loop-i.i slot.Null within) c.loop-i.invariant c.in_ok-push_comma.ensures.ok c.in_ok-push_slot.ensures.ok
+    joined_more c.args.out.now.items _ _ _ _ (map f xs) c.loop-i.i (omega (arith, map_length f xs, within)) (map_at f xs c.loop-i.i slot.Null within) c.loop-i.invariant c.in_ok-push_comma.ensures.ok c.in_ok-push_slot_named.ensures.ok

@@ -11,14 +11,14 @@ returns-in-Ok c =
     let keys = serializer_keys s in
     let bytes_of : Vec ℕ Global → List ℕ = λ v. v.items in
     let less : s.at < s.count = omega (arith, s.within, c.if-self.false) in
-    let made = row_made (map bytes_of c.as_slice.result.now) keys s.arrays.now s.at _ _ (ap (map bytes_of) c.as_slice.ensures.value) c.clear.ensures.items c.in-Ok.ensures.ok in
+    let made = row_made (map bytes_of c.as_slice-keys.result.now) keys s.arrays.now s.at _ _ (ap (map bytes_of) c.as_slice-keys.ensures.value) c.clear.ensures.items c.in-Ok.ensures.ok in
     let fewer = one_fewer s.at s.count less in
     let rest = keyed_rows keys s.arrays.now (s.at + 1) (s.count - (s.at + 1)) in
     let begins = rows_begin keys s.arrays.now s.at s.count less ∙ ap (λ x. x ∷ rest) (sym made) in
     record {
       steps = record {
         next = begins;
-        behind = λ _. refl;
+        after_the_last = λ _. refl;
         memory = tt;
         stays = tt;
       };
@@ -39,7 +39,7 @@ returns-in-Err c =
     record {
       steps = record {
         next = tt;
-        behind = λ empty. absurd (row_left (serializer_keys s) s.arrays.now s.at s.count less empty);
+        after_the_last = λ empty. absurd (row_left (serializer_keys s) s.arrays.now s.at s.count less empty);
         memory = refl;
         stays = (refl, rows_none (serializer_keys s) s.arrays.now s.count (s.count - s.count) none);
       };

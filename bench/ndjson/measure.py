@@ -1,0 +1,50 @@
+"""Turns three Avro files of some 25 MB, in blocks of 64 KiB, into JSON lines: flat events of ten fields, rows of forty fields (all
+of them, and one), and orders with lists of records. Beside the program run a plain Rust program for just these schemas, avro-c's
+avrocat (Debian's avro-bin) where it is installed, and Python's avro (Debian's python3-avro) on a twentieth of the rows."""
+
+import os
+import resource
+import subprocess
+
+from timing import PLAIN, compared, least_in_turn, seconds, work
+
+OURS = work + "/crates/avrocat/out/avrocat"
+AVRO_C = "/usr/bin/avrocat"
+PYTHON = """
+import json, sys
+from avro.datafile import DataFileReader
+from avro.io import DatumReader
+for row in DataFileReader(open(sys.argv[1], "rb"), DatumReader()):
+    print(json.dumps(row, default=str))
+"""
+
+
+def peak(words, given):
+    """The most memory of one run, in MB."""
+    with open(given) as source:
+        process = subprocess.Popen(words, stdin=source, stdout=subprocess.DEVNULL)
+        _, _, used = os.wait4(process.pid, 0)
+    return used.ru_maxrss / 1024
+
+
+for kind, rows in [("flat", 400_000), ("forty", 200_000), ("nested", 400_000)]:
+    given, few = work + "/" + kind, work + "/few"
+    for name, count in [(given, rows), (few, rows // 20)]:
+        with open(name, "wb") as out:
+            subprocess.run([PLAIN, "make", kind, str(count)], stdout=out, check=True)
+    size = os.path.getsize(given)
+    runs = [("all fields", [OURS, "ndjson"], [PLAIN, kind])]
+    if kind == "forty":
+        runs.append(("one field", [OURS, "ndjson", "20"], [PLAIN, kind, "one"]))
+    for what, ours, plain in runs:
+        first, second = least_in_turn([ours, plain], given)
+        assert first[1] == second[1]
+        print("%s, %s, %d rows, %d bytes, %d bytes of lines" % (kind, what, rows, size, len(first[1])))
+        print("  " + compared(first[0], second[0]) + ", %.0f MB/s, at most %.1f MB of memory" % (size / first[0] / 1e6, peak(ours, given)))
+    if os.path.exists(AVRO_C):
+        print("  avro-c's avrocat %.2f s, of all fields" % seconds([AVRO_C, given])[0])
+    try:
+        took = seconds(["/usr/bin/python3", "-c", PYTHON, few])[0]
+        print("  Python's avro %.2f s for a twentieth of the rows" % took)
+    except subprocess.CalledProcessError:
+        pass

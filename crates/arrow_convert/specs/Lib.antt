@@ -1,0 +1,7 @@
+pub mod Blocks
+pub mod Changes
+pub mod Keep
+pub mod Laws
+pub mod Refusals
+pub mod Shown
+pub mod Taken

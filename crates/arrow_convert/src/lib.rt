@@ -1,0 +1,12 @@
+//! Conversions between Avro files and JSON lines.
+#![tactic(auto)]
+
+mod blocks;
+mod fields;
+mod keep;
+mod laws;
+mod lines;
+mod ndjson;
+
+pub use laws::conversion_answers;
+pub use ndjson::avro_to_ndjson;

@@ -1,0 +1,14 @@
+use Rattle.std.proofs.Common.{ℕ, List, ◌++◌, ap, ◌∙◌}
+use Rattle.std.proofs.lemmas.Result.{on_ok_weaker}
+use Rattle.avro_encode.proofs.Appending.{flat_slot}
+use Rattle.avro_encode.proofs.append.append_plain.Goals as goal
+
+pub append_flat-requires : goal.append_flat-requires
+append_flat-requires c =
+    let p = flat_slot c.args.schema.now c.args.array.now _ c.requires.flat c.requires.types c.requires.slots c.requires.kind.0 in
+    record { within = c.requires.within; held = p.held; kind = p.kind; fits = p.fits }
+
+pub returns-clause-ok : goal.returns-clause-ok
+returns-clause-ok c =
+    let p = flat_slot c.args.schema.now c.args.array.now _ c.requires.flat c.requires.types c.requires.slots c.requires.kind.0 in
+    on_ok_weaker c.append_flat.result (λ e. e ∙ ap (λ (z : List ℕ). c.args.out.now.items ++ z) p.same) c.append_flat.ensures.ok

@@ -1,0 +1,3 @@
+pub mod Laws
+pub mod Projection
+pub mod Reader

@@ -1,0 +1,4 @@
+pub mod ByFields
+pub mod Columns
+pub mod Renamed
+pub mod Returned

@@ -1,0 +1,4 @@
+pub mod Back
+pub mod Listed
+pub mod Named
+pub mod Schemas

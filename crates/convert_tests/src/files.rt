@@ -1,0 +1,57 @@
+//! Files in memory.
+
+/// The header of a file of a record of one int, `a`. Its marker is sixteen bytes 1.
+pub static HEADER: &[u8] =
+    b"Obj\x01\x02\x16avro.schema\x82\x01{\"type\":\"record\",\"name\":\"t\",\"fields\":[{\"name\":\"a\",\"type\":\"int\"}]}\x00\x01\x01\x01\x01\x01\x01\x01\x01\x01\x01\x01\x01\x01\x01\x01\x01";
+
+/// A block of that file: the rows 1 and -2.
+pub static BLOCK: &[u8] =
+    b"\x04\x04\x02\x03\x01\x01\x01\x01\x01\x01\x01\x01\x01\x01\x01\x01\x01\x01\x01\x01";
+
+/// A file as a usual producer writes it: four fields, two blocks, and a codec that is named.
+pub static EVENTS: &[u8] =
+    b"Obj\x01\x04\x16avro.schema\x96\x04{\"type\":\"record\",\"name\":\"Event\",\"namespace\":\"com.example\",\"fields\":[{\"name\":\"id\",\"type\":\"long\"},{\"name\":\"user\",\"type\":\"string\"},{\"name\":\"tags\",\"type\":{\"type\":\"array\",\"items\":[\"null\",\"string\"]}},{\"name\":\"when\",\"type\":{\"type\":\"long\",\"logicalType\":\"timestamp-millis\"}}]}\x14avro.codec\x08null\x00\x01\x01\x01\x01\x01\x01\x01\x01\x01\x01\x01\x01\x01\x01\x01\x01\x040\x0e\x06ann\x04\x02\x02a\x00\x00\x90\xe2\x86\x82\x99c\x10\x06bob\x00\x00\x01\x01\x01\x01\x01\x01\x01\x01\x01\x01\x01\x01\x01\x01\x01\x01\x02\x14\x12\x04\xc3\xa9\x02\x02\x02x\x00\x01\x01\x01\x01\x01\x01\x01\x01\x01\x01\x01\x01\x01\x01\x01\x01\x01";
+
+/// A block of one row that states 2^63 - 1 items and has none of them.
+pub static FALSE_COUNT: &[u8] =
+    b"Obj\x01\x02\x16avro.schema\xb6\x01{\"type\":\"record\",\"name\":\"t\",\"fields\":[{\"name\":\"a\",\"type\":{\"type\":\"array\",\"items\":\"long\"}}]}\x00\x01\x01\x01\x01\x01\x01\x01\x01\x01\x01\x01\x01\x01\x01\x01\x01\x02\x14\xfe\xff\xff\xff\xff\xff\xff\xff\xff\x01\x01\x01\x01\x01\x01\x01\x01\x01\x01\x01\x01\x01\x01\x01\x01\x01";
+
+/// One timestamp of nanoseconds by a local clock: 1.
+pub static NANOSECONDS: &[u8] =
+    b"Obj\x01\x02\x16avro.schema\xe2\x01{\"type\":\"record\",\"name\":\"t\",\"fields\":[{\"name\":\"a\",\"type\":{\"type\":\"long\",\"logicalType\":\"local-timestamp-nanos\"}}]}\x00\x01\x01\x01\x01\x01\x01\x01\x01\x01\x01\x01\x01\x01\x01\x01\x01\x02\x02\x02\x01\x01\x01\x01\x01\x01\x01\x01\x01\x01\x01\x01\x01\x01\x01\x01";
+
+/// Two blocks: the last day of the year 9999, and the day after it.
+pub static DATES: &[u8] =
+    b"Obj\x01\x02\x16avro.schema\xbe\x01{\"type\":\"record\",\"name\":\"t\",\"fields\":[{\"name\":\"a\",\"type\":{\"type\":\"int\",\"logicalType\":\"date\"}}]}\x00\x01\x01\x01\x01\x01\x01\x01\x01\x01\x01\x01\x01\x01\x01\x01\x01\x02\x08\xc0\x82\xe6\x02\x01\x01\x01\x01\x01\x01\x01\x01\x01\x01\x01\x01\x01\x01\x01\x01\x02\x08\xc2\x82\xe6\x02\x01\x01\x01\x01\x01\x01\x01\x01\x01\x01\x01\x01\x01\x01\x01\x01";
+
+/// The header of a file of no fields.
+pub static NO_FIELD: &[u8] =
+    b"Obj\x01\x02\x16avro.schemaP{\"type\":\"record\",\"name\":\"t\",\"fields\":[]}\x00\x01\x01\x01\x01\x01\x01\x01\x01\x01\x01\x01\x01\x01\x01\x01\x01";
+
+/// A field that isn't carried.
+pub static MAP: &[u8] =
+    b"Obj\x01\x02\x16avro.schema\xb2\x01{\"type\":\"record\",\"name\":\"t\",\"fields\":[{\"name\":\"a\",\"type\":{\"type\":\"map\",\"values\":\"int\"}}]}\x00\x01\x01\x01\x01\x01\x01\x01\x01\x01\x01\x01\x01\x01\x01\x01\x01";
+
+/// A float, and an int.
+pub static FLOAT: &[u8] =
+    b"Obj\x01\x02\x16avro.schema\xba\x01{\"type\":\"record\",\"name\":\"t\",\"fields\":[{\"name\":\"a\",\"type\":\"float\"},{\"name\":\"b\",\"type\":\"int\"}]}\x00\x01\x01\x01\x01\x01\x01\x01\x01\x01\x01\x01\x01\x01\x01\x01\x01";
+
+/// Bytes, and an int.
+pub static BINARY: &[u8] =
+    b"Obj\x01\x02\x16avro.schema\xba\x01{\"type\":\"record\",\"name\":\"t\",\"fields\":[{\"name\":\"a\",\"type\":\"bytes\"},{\"name\":\"b\",\"type\":\"int\"}]}\x00\x01\x01\x01\x01\x01\x01\x01\x01\x01\x01\x01\x01\x01\x01\x01\x01";
+
+/// Three rows in two blocks, as Python's `avro` writes them: a union, a string, an enum, and a record
+/// with an array.
+pub static WRITTEN: &[u8] =
+    b"Obj\x01\x04\x14avro.codec\x08null\x16avro.schema\xca\x05{\"type\": \"record\", \"name\": \"r\", \"fields\": [{\"type\": [\"null\", \"long\"], \"name\": \"n\"}, {\"type\": \"string\", \"name\": \"s\"}, {\"type\": {\"type\": \"enum\", \"name\": \"k\", \"symbols\": [\"no\", \"yes\"]}, \"name\": \"e\"}, {\"type\": {\"type\": \"record\", \"name\": \"q\", \"fields\": [{\"type\": \"boolean\", \"name\": \"b\"}, {\"type\": {\"type\": \"array\", \"items\": \"int\"}, \"name\": \"l\"}]}, \"name\": \"p\"}]}\x000123456789abcdef\x02(\x00\x18a\"\\\x0a\x09\x01/\xc3\xa9\xe2\x98\x83\x02\x01\x04\x02\x03\x000123456789abcdef\x04J\x02\xff\xff\xff\xff\xff\xff\xff\xff\xff\x01\x00\x00\x00\x00\x02\xfe\xff\xff\xff\xff\xff\xff\xff\xff\x01\x02z\x00\x01\x02\xfe\xff\xff\xff\x0f\x000123456789abcdef";
+
+/// The lines that Python's `json` makes of the same rows.
+pub static WRITTEN_LINES: &[u8] =
+    b"{\"n\":null,\"s\":\"a\\\"\\\\\\n\\t\\u0001/\xc3\xa9\xe2\x98\x83\",\"e\":\"yes\",\"p\":{\"b\":true,\"l\":[1,-2]}}\x0a{\"n\":-9223372036854775808,\"s\":\"\",\"e\":\"no\",\"p\":{\"b\":false,\"l\":[]}}\x0a{\"n\":9223372036854775807,\"s\":\"z\",\"e\":\"no\",\"p\":{\"b\":true,\"l\":[2147483647]}}\x0a";
+
+/// One int, 3, under a name with characters that are escaped.
+pub static NAMES: &[u8] =
+    b"Obj\x01\x02\x16avro.schema\xaa\x01{\"type\":\"record\",\"name\":\"t\",\"fields\":[{\"name\":\"a\\\"b\\\\c\\n\\u0001\\u00e9\",\"type\":\"int\"}]}\x00\x01\x01\x01\x01\x01\x01\x01\x01\x01\x01\x01\x01\x01\x01\x01\x01\x02\x02\x06\x01\x01\x01\x01\x01\x01\x01\x01\x01\x01\x01\x01\x01\x01\x01\x01";
+
+/// The line that Python's `json` makes of it.
+pub static NAMES_LINE: &[u8] = b"{\"a\\\"b\\\\c\\n\\u0001\xc3\xa9\":3}\x0a";

@@ -1,0 +1,310 @@
+//! Avro files into JSON lines.
+
+use crate::files::{
+    BINARY, BLOCK, DATES, EVENTS, FALSE_COUNT, FLOAT, HEADER, MAP, NAMES, NAMES_LINE, NANOSECONDS,
+    NO_FIELD, WRITTEN, WRITTEN_LINES,
+};
+use arrow_base::{Bytes, Error, Items, MemorySink, MemorySource, Reason, Result};
+use arrow_convert::avro_to_ndjson;
+use std::alloc::Global;
+use std::process::Abort;
+
+/// The lines of `HEADER` and `BLOCK`.
+const TWO_LINES: &str = "{\"a\":1}\n{\"a\":-2}\n";
+
+/// What the events print.
+const EVENT_LINES: &str =
+    "{\"id\":7,\"user\":\"ann\",\"tags\":[\"a\",null],\"when\":\"2024-01-02T03:04:05+00:00\"}\n{\"id\":8,\"user\":\"bob\",\"tags\":[],\"when\":\"1970-01-01T00:00:00+00:00\"}\n{\"id\":9,\"user\":\"é\",\"tags\":[\"x\"],\"when\":\"1969-12-31T23:59:59.999+00:00\"}\n";
+
+/// How a file is read, and which calls fail, counted from 1: none where it is 0.
+#[derive(Clone, Copy)]
+struct How {
+    piece: usize,
+    limit: u64,
+    failing_read: u64,
+    failing_write: u64,
+}
+
+const PLAIN: How = How {
+    piece: 1000,
+    limit: 1000,
+    failing_read: 0,
+    failing_write: 0,
+};
+
+fn numbers(rt: &impl Abort, alloc: Global, number: u64) -> Items<u64> {
+    Items::try_from_slice(alloc, &[number]).expect(rt, "memory")
+}
+
+/// The pieces of a file, one after another.
+fn joined(rt: &impl Abort, alloc: Global, pieces: &[&[u8]]) -> Bytes {
+    let mut bytes = Bytes::new(alloc);
+    for piece in pieces {
+        bytes.push_slice(piece).expect(rt, "memory");
+    }
+    bytes
+}
+
+/// Whether the conversion answers so, and the sink then holds this text.
+fn gives(
+    rt: &impl Abort,
+    alloc: Global,
+    file: &[&[u8]],
+    keep: Option<&[usize]>,
+    how: How,
+    answer: Result<u64>,
+    held: &[u8],
+) -> bool {
+    let failing_read = numbers(rt, alloc, how.failing_read);
+    let bytes = joined(rt, alloc, file);
+    let mut source = MemorySource::new(bytes, how.piece.max(1), failing_read);
+    let failing_write = numbers(rt, alloc, how.failing_write);
+    let mut sink = MemorySink::with_room(alloc, 400, how.piece.max(1), failing_write).expect(
+        rt, "memory",
+    );
+    let given = avro_to_ndjson(alloc, &mut source, &mut sink, keep, how.limit);
+    given == answer && sink.held() == held
+}
+
+#[test]
+fn rows_become_lines(rt: HostRuntime) {
+    let alloc = rt.alloc();
+    let empty = b"\x00\x00\x01\x01\x01\x01\x01\x01\x01\x01\x01\x01\x01\x01\x01\x01\x01\x01";
+    let two = TWO_LINES.as_bytes();
+    assert!(rt; gives(&rt, alloc, &[HEADER, BLOCK], None, PLAIN, Ok(2), two));
+    assert!(rt; gives(&rt, alloc, &[HEADER, empty, BLOCK], None, PLAIN, Ok(2), two));
+    assert!(rt; gives(&rt, alloc, &[HEADER], None, PLAIN, Ok(0), b""));
+    let events = EVENT_LINES.as_bytes();
+    assert!(rt; gives(&rt, alloc, &[EVENTS], None, PLAIN, Ok(3), events));
+    let single = How { piece: 1, ..PLAIN };
+    assert!(rt; gives(&rt, alloc, &[EVENTS], None, single, Ok(3), events));
+    let users = "{\"user\":\"ann\"}\n{\"user\":\"bob\"}\n{\"user\":\"é\"}\n".as_bytes();
+    assert!(rt; gives(&rt, alloc, &[EVENTS], Some(&[1]), PLAIN, Ok(3), users));
+    let nano = b"{\"a\":\"1970-01-01 00:00:00.000000001\"}\n";
+    assert!(rt; gives(&rt, alloc, &[NANOSECONDS], None, PLAIN, Ok(1), nano));
+}
+
+#[test]
+fn lines_are_those_of_another_program(rt: HostRuntime) {
+    let alloc = rt.alloc();
+    assert!(rt; gives(&rt, alloc, &[WRITTEN], None, PLAIN, Ok(3), WRITTEN_LINES));
+    assert!(rt; gives(&rt, alloc, &[NAMES], None, PLAIN, Ok(1), NAMES_LINE));
+}
+
+#[test]
+fn numbers_are_refused_before_floats(rt: HostRuntime) {
+    let alloc = rt.alloc();
+    let numbers = Err(Error::InvalidArgumentError(Reason::KeepNumber));
+    assert!(rt; gives(&rt, alloc, &[FLOAT], Some(&[0, 0]), PLAIN, numbers, b""));
+}
+
+#[test]
+fn lines_before_a_refused_block_are_written(rt: HostRuntime) {
+    let alloc = rt.alloc();
+    let rows = b"\x04\x02\x02\x01\x01\x01\x01\x01\x01\x01\x01\x01\x01\x01\x01\x01\x01\x01\x01";
+    let bytes = b"\x02\x04\x02\x03\x01\x01\x01\x01\x01\x01\x01\x01\x01\x01\x01\x01\x01\x01\x01\x01";
+    let two = TWO_LINES.as_bytes();
+    let fault = |reason: Reason| Err(Error::ExternalFormat(reason));
+    let few = fault(Reason::Rows);
+    let wrong = fault(Reason::BlockBytes);
+    assert!(rt;
+        gives(
+            &rt,
+            alloc,
+            &[HEADER, BLOCK, rows, BLOCK],
+            None,
+            PLAIN,
+            few,
+            two
+        )
+    );
+    assert!(rt;
+        gives(
+            &rt,
+            alloc,
+            &[HEADER, BLOCK, bytes, BLOCK],
+            None,
+            PLAIN,
+            wrong,
+            two
+        )
+    );
+}
+
+#[test]
+fn fields_that_cannot_be_shown_are_refused(rt: HostRuntime) {
+    let alloc = rt.alloc();
+    let argument = |reason: Reason| Err(Error::InvalidArgumentError(reason));
+    let missing = |reason: Reason| Err(Error::NotYetImplemented(reason));
+    let numbers = argument(Reason::KeepNumber);
+    assert!(rt; gives(&rt, alloc, &[EVENTS], Some(&[4]), PLAIN, numbers, b""));
+    assert!(rt; gives(&rt, alloc, &[EVENTS], Some(&[1, 1]), PLAIN, numbers, b""));
+    assert!(rt;
+        gives(
+            &rt,
+            alloc,
+            &[EVENTS],
+            Some(&[]),
+            PLAIN,
+            argument(Reason::NothingKept),
+            b""
+        )
+    );
+    assert!(rt;
+        gives(
+            &rt,
+            alloc,
+            &[NO_FIELD],
+            None,
+            PLAIN,
+            missing(Reason::NoField),
+            b""
+        )
+    );
+    assert!(rt;
+        gives(
+            &rt,
+            alloc,
+            &[MAP],
+            None,
+            PLAIN,
+            missing(Reason::NotCarried),
+            b""
+        )
+    );
+    assert!(rt;
+        gives(
+            &rt,
+            alloc,
+            &[FLOAT],
+            None,
+            PLAIN,
+            missing(Reason::Float),
+            b""
+        )
+    );
+    assert!(rt; gives(&rt, alloc, &[FLOAT], Some(&[1]), PLAIN, Ok(0), b""));
+    assert!(rt;
+        gives(
+            &rt,
+            alloc,
+            &[BINARY],
+            None,
+            PLAIN,
+            missing(Reason::NoJsonText),
+            b""
+        )
+    );
+    assert!(rt; gives(&rt, alloc, &[BINARY], Some(&[1]), PLAIN, Ok(0), b""));
+}
+
+#[test]
+fn whole_blocks_before_a_wrong_one_are_written(rt: HostRuntime) {
+    let alloc = rt.alloc();
+    let other = b"\x04\x04\x02\x03\x01\x01\x01\x01\x01\x01\x01\x01\x01\x01\x01\x01\x01\x01\x01\x02";
+    let marker = Err(Error::ExternalFormat(Reason::Marker));
+    assert!(rt; gives(&rt, alloc, &[HEADER, other], None, PLAIN, marker, b""));
+    let two = TWO_LINES.as_bytes();
+    assert!(rt;
+        gives(
+            &rt,
+            alloc,
+            &[HEADER, BLOCK, other],
+            None,
+            PLAIN,
+            marker,
+            two
+        )
+    );
+    let wrong = Err(Error::ExternalFormat(Reason::BlockBytes));
+    assert!(rt; gives(&rt, alloc, &[FALSE_COUNT], None, PLAIN, wrong, b""));
+    let range = Err(Error::InvalidArgumentError(Reason::DateRange));
+    assert!(rt;
+        gives(
+            &rt,
+            alloc,
+            &[DATES],
+            None,
+            PLAIN,
+            range,
+            b"{\"a\":\"9999-12-31\"}\n"
+        )
+    );
+    let limit = |limit: u64| How { limit, ..PLAIN };
+    let exceeded = Err(Error::LimitExceeded);
+    assert!(rt;
+        gives(
+            &rt,
+            alloc,
+            &[HEADER, BLOCK],
+            None,
+            limit(120),
+            exceeded,
+            b""
+        )
+    );
+    assert!(rt; gives(&rt, alloc, &[HEADER, BLOCK], None, limit(121), Ok(2), two));
+}
+
+#[test]
+fn a_file_that_is_cut_is_refused(rt: HostRuntime) {
+    let alloc = rt.alloc();
+    let fault = |reason: Reason| Err(Error::ExternalFormat(reason));
+    for k in 0..101usize {
+        let reason = if k < 4 { Reason::Magic } else { Reason::Header };
+        let file = HEADER.get(..k).unwrap_or(HEADER);
+        assert!(rt;
+            gives(&rt, alloc, &[file], None, PLAIN, fault(reason), b""),
+            "{k}"
+        );
+    }
+    assert!(rt; gives(&rt, alloc, &[HEADER], None, PLAIN, Ok(0), b""));
+    for k in 1..20usize {
+        let file = [HEADER, BLOCK.get(..k).unwrap_or(BLOCK)];
+        let container = fault(Reason::Container);
+        assert!(rt;
+            gives(&rt, alloc, &file, None, PLAIN, container, b""),
+            "{k}"
+        );
+    }
+}
+
+#[test]
+fn a_failing_read_ends_it(rt: HostRuntime) {
+    let alloc = rt.alloc();
+    let fault = Err(Error::ReadFault { line: None });
+    for failing_read in 1..123u64 {
+        let how = How {
+            piece: 1,
+            failing_read,
+            ..PLAIN
+        };
+        // The last one is the read that would show the end.
+        let held = if failing_read == 122 { TWO_LINES } else { "" };
+        let file = [HEADER, BLOCK];
+        assert!(rt;
+            gives(&rt, alloc, &file, None, how, fault, held.as_bytes()),
+            "{failing_read}"
+        );
+    }
+}
+
+#[test]
+fn a_failing_write_leaves_a_prefix(rt: HostRuntime) {
+    let alloc = rt.alloc();
+    for failing_write in 1..18u64 {
+        let how = How {
+            piece: 1,
+            failing_write,
+            ..PLAIN
+        };
+        let before = (failing_write - 1) as usize;
+        let held = TWO_LINES.as_bytes().get(..before).unwrap_or(b"");
+        let file = [HEADER, BLOCK];
+        let fault = Err(Error::WriteFault);
+        assert!(rt;
+            gives(&rt, alloc, &file, None, how, fault, held),
+            "{failing_write}"
+        );
+    }
+}

@@ -1,0 +1,84 @@
+//! Rows as JSON lines: one JSON object after another, each with a line feed (RFC 8259, section 4).
+ghost use Rattle.std.specs.Prelude.{◌≡◌, ◌++◌, ◌⊎◌, IsSome, None, Some, codes, flat_map, length, map, IfOk, OnOk, IfErr};
+ghost use Rattle.arrow_core.specs.Errors.{OnlyOutOfMemory};
+ghost use Rattle.arrow_core.specs.declared.error.Error.TheVariants.{OutOfMemory};
+ghost use Rattle.arrow_array.specs.Structs.{HaveSlots};
+ghost use Rattle.json_write.specs.Rows.{chunk_refusal, names_of, objects};
+ghost use Rattle.json_write.specs.Serializing.{keys_of, keyed_rows};
+
+use crate::keys::{check_chunk, make_keys};
+use crate::rows::{escape_names, push_row};
+use arrow_base::{Field, Result};
+use arrow_columns::{Array, Chunk};
+use arrow_core::Items;
+use json_text::{Appended, push};
+use std::alloc::Global;
+
+/// Writes the rows of chunks as lines. It is made once for the fields, and takes chunk after chunk.
+#[derive(Drop)]
+pub struct LineEncoder {
+    fields: Items<Field>,
+    keys: Vec<Vec<u8>>,
+    ghost keys_are: { map (λ key. key.items) keys.items ≡ keys_of (names_of fields) },
+}
+
+/// Appends the object of each of the first `count` rows, and a line feed after each.
+///
+/// `AllocError` where there is no memory.
+fn push_rows(out: &mut Vec<u8>, keys: &[Vec<u8>], arrays: &[Array], count: usize) -> Appended
+    requires lengths { length keys.now ≡ length arrays.now }
+    requires slots { HaveSlots count arrays.now }
+    ensures ok { OnOk result
+        (out.new.items
+        ≡ out.old.items
+        ++ flat_map (λ row. row ++ codes "\n") (keyed_rows (map (λ key. key.items) keys.now) arrays.now 0 count)) }
+{
+    let escapes = escape_names(arrays);
+    for i in 0..count {
+        push_row(out, keys, arrays, i, escapes)?;
+        push(out, b"\n")?;
+    }
+    Ok(())
+}
+
+impl LineEncoder {
+    /// An encoder of rows under these fields. The names are escaped once, here.
+    ///
+    /// `OutOfMemory` alone.
+    pub fn new(alloc: Global, fields: Items<Field>) -> Result<LineEncoder>
+        ensures fields { IfOk result (λ encoder. encoder.fields ≡ fields) }
+        ensures memory { OnlyOutOfMemory result }
+    {
+        match make_keys(alloc, fields.as_slice()) {
+            Ok(keys) => Ok(LineEncoder { fields, keys }),
+            Err(error) => Err(error),
+        }
+    }
+
+    /// Appends a line for each row of the chunk, in order: a JSON object with a member for each
+    /// field, in order, under the field's name, and a line feed. A value's text is that of its
+    /// array's type, whatever the field's is.
+    ///
+    /// `InvalidArgumentError(Lengths)` where there are more or fewer fields than arrays. Then for
+    /// each array in order: `NotYetImplemented(NoJsonText)` where its type has no JSON text,
+    /// `InvalidArgumentError(ZoneOffset)` where the zone of a timestamp, at any depth, is no
+    /// offset, and `InvalidArgumentError(DateRange)` where it shows a date or a timestamp whose
+    /// year isn't one of 0 to 9999. After any of these `out` is as it was. `OutOfMemory`, and then
+    /// part of the lines may have been appended.
+    pub fn push(&self, out: &mut Vec<u8>, chunk: &Chunk) -> Result<()>
+        ensures ok { OnOk result
+            (out.new.items
+            ≡ out.old.items
+            ++ flat_map (λ row. row ++ codes "\n") (objects (names_of self.now.fields) chunk.now)) }
+        ensures accepted { OnOk result (chunk_refusal self.now.fields chunk.now ≡ None) }
+        ensures err { IfErr result
+            (λ e. (e ≡ OutOfMemory) ⊎ (chunk_refusal self.now.fields chunk.now ≡ Some e)) }
+        ensures unchanged { IsSome (chunk_refusal self.now.fields chunk.now)
+            → out.new.items ≡ out.old.items }
+    {
+        let arrays = chunk.arrays();
+        check_chunk(self.fields.as_slice(), arrays)?;
+        push_rows(out, self.keys.as_slice(), arrays, chunk.len())?;
+        Ok(())
+    }
+}

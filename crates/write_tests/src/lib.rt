@@ -1,0 +1,7 @@
+//! Tests of the Avro writer, in a crate of their own, so that `avro_write` is proved once.
+#![tactic(auto)]
+
+#[cfg(test)]
+mod calls;
+#[cfg(test)]
+mod rows;
