@@ -3,13 +3,13 @@ of them, and one), and orders with lists of records. Beside the program run a pl
 avrocat (Debian's avro-bin) where it is installed, and Python's avro (Debian's python3-avro) on a twentieth of the rows."""
 
 import os
-import resource
 import subprocess
 
 from timing import PLAIN, compared, least_in_turn, seconds, work
 
 OURS = work + "/crates/avrocat/out/avrocat"
 AVRO_C = "/usr/bin/avrocat"
+TIME = "/usr/bin/time"
 PYTHON = """
 import json, sys
 from avro.datafile import DataFileReader
@@ -20,11 +20,12 @@ for row in DataFileReader(open(sys.argv[1], "rb"), DatumReader()):
 
 
 def peak(words, given):
-    """The most memory of one run, in MB."""
+    """The most memory of one run, by GNU time (Debian's time), whose own is small: a child of this program would be charged its memory."""
+    if not os.path.exists(TIME):
+        return "memory not measured"
     with open(given) as source:
-        process = subprocess.Popen(words, stdin=source, stdout=subprocess.DEVNULL)
-        _, _, used = os.wait4(process.pid, 0)
-    return used.ru_maxrss / 1024
+        told = subprocess.run([TIME, "-f", "%M"] + words, stdin=source, stdout=subprocess.DEVNULL, stderr=subprocess.PIPE, check=True).stderr
+    return "at most %.1f MB of memory" % (int(told) / 1024)
 
 
 for kind, rows in [("flat", 400_000), ("forty", 200_000), ("nested", 400_000)]:
@@ -40,7 +41,7 @@ for kind, rows in [("flat", 400_000), ("forty", 200_000), ("nested", 400_000)]:
         first, second = least_in_turn([ours, plain], given)
         assert first[1] == second[1]
         print("%s, %s, %d rows, %d bytes, %d bytes of lines" % (kind, what, rows, size, len(first[1])))
-        print("  " + compared(first[0], second[0]) + ", %.0f MB/s, at most %.1f MB of memory" % (size / first[0] / 1e6, peak(ours, given)))
+        print("  " + compared(first[0], second[0]) + ", %.0f MB/s, %s" % (size / first[0] / 1e6, peak(ours, given)))
     if os.path.exists(AVRO_C):
         print("  avro-c's avrocat %.2f s, of all fields" % seconds([AVRO_C, given])[0])
     try:
