@@ -2,16 +2,25 @@ import java.io.File;
 import java.io.FileOutputStream;
 import java.nio.charset.StandardCharsets;
 import org.apache.avro.Schema;
+import org.apache.avro.file.DataFileReader;
 import org.apache.avro.file.DataFileWriter;
 import org.apache.avro.generic.GenericData;
+import org.apache.avro.generic.GenericDatumReader;
 import org.apache.avro.generic.GenericDatumWriter;
 import org.apache.avro.generic.GenericRecord;
 
 /**
- * Writes a file of cards by Debian's libavro-java, with blocks of one row and of two, and an entry of its own in the
- * metadata. The word is the file's name. `avro_samples.py` runs it.
+ * Debian's libavro-java at files of cards. `avro_samples.py` runs it, by these words:
+ *
+ * <ul>
+ * <li>`write FILE` writes a file of blocks of one row and of two, with an entry of its own in the metadata;
+ * <li>`copy FILE COPY` copies a file's blocks as they are, also one of no rows, which no writer makes by itself;
+ * <li>`show FILE` prints the rows of a file as JSON, a line each.
+ * </ul>
  */
 public class AvroSamples {
+    static final byte[] MARKER = "0123456789abcdef".getBytes(StandardCharsets.US_ASCII);
+
     static final String SCHEMA =
         "{\"type\":\"record\",\"name\":\"Card\",\"namespace\":\"org.cards\",\"doc\":\"A card.\",\"fields\":["
             + "{\"name\":\"suit\",\"type\":{\"type\":\"enum\",\"name\":\"Suit\",\"namespace\":\"org.suits\",\"doc\":\"Its suit.\","
@@ -30,15 +39,46 @@ public class AvroSamples {
         writer.append(card);
     }
 
-    public static void main(String[] words) throws Exception {
+    static DataFileWriter<GenericRecord> created(Schema schema, String name) throws Exception {
+        DataFileWriter<GenericRecord> writer = new DataFileWriter<>(new GenericDatumWriter<GenericRecord>(schema));
+        writer.setMeta("writer", "AvroSamples");
+        return writer.create(schema, new FileOutputStream(new File(name)), MARKER);
+    }
+
+    static DataFileReader<GenericRecord> opened(String name) throws Exception {
+        return new DataFileReader<>(new File(name), new GenericDatumReader<GenericRecord>());
+    }
+
+    static void write(String name) throws Exception {
         Schema schema = new Schema.Parser().parse(SCHEMA);
-        try (DataFileWriter<GenericRecord> writer = new DataFileWriter<>(new GenericDatumWriter<GenericRecord>(schema))) {
-            writer.setMeta("writer", "AvroSamples");
-            writer.create(schema, new FileOutputStream(new File(words[0])), "0123456789abcdef".getBytes(StandardCharsets.US_ASCII));
+        try (DataFileWriter<GenericRecord> writer = created(schema, name)) {
             append(writer, schema, "HEARTS", "ab", "first", 64);
             writer.sync();
             append(writer, schema, "SPADES", "cd", null, -1);
             append(writer, schema, "HEARTS", "ef", "third", 1700000000000L);
+        }
+    }
+
+    static void copy(String from, String to) throws Exception {
+        try (DataFileReader<GenericRecord> reader = opened(from); DataFileWriter<GenericRecord> writer = created(reader.getSchema(), to)) {
+            writer.appendAllFrom(reader, false);
+        }
+    }
+
+    static void show(String name) throws Exception {
+        try (DataFileReader<GenericRecord> reader = opened(name)) {
+            for (GenericRecord card : reader) {
+                System.out.println(card);
+            }
+        }
+    }
+
+    public static void main(String[] words) throws Exception {
+        switch (words[0]) {
+            case "write": write(words[1]); break;
+            case "copy": copy(words[1], words[2]); break;
+            case "show": show(words[1]); break;
+            default: throw new IllegalArgumentException(words[0]);
         }
     }
 }

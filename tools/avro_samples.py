@@ -1,16 +1,27 @@
 #!/usr/bin/env python3
-"""Writes crates/file_tests/src/samples.rt: files that Debian's python3-avro, avro-c and Java's avro
-wrote, as byte strings, and the bytes of the blocks of cards as python3-avro encodes them. Each file of
-cards is read again by python3-avro and by avro-c's `avrocat`.
+"""Writes files that Debian's python3-avro, avro-c and Java's avro wrote, as byte strings: those that
+`file_tests` reads, with the bytes of the blocks of cards as python3-avro encodes them, and those that
+`convert_tests` turns into lines, with the lines that other programs make of them.
+
+The lines are those of python3-avro's reader, `json` and `datetime`. Of the same files avro-c's `avrocat` and
+Java's `toString` show the same rows, in another form, which is looked at here: `avrocat` names the member
+of a union, as in {"string": "first"}, and shows a fixed type as a string; Java shows it as an array of numbers, and a
+timestamp as a number; both leave spaces. A fixed type has no line in the conversion, so it is left out of the rows.
+
+A block of no rows is put into Java's file by hand, and copied from there by Java's `appendAllFrom`, since no writer
+makes one of its own accord. python3-avro reads on behind it; Java's reader stops there, and avro-c's takes a row
+from it, so these two aren't asked.
 
 Use: apt-get install python3-avro libavro-dev avro-bin libavro-java gcc default-jdk-headless, then
-/usr/bin/python3 tools/avro_samples.py, from anywhere. Each file has the sync marker `0123456789abcdef`, so
-that the same bytes come each time.
+/usr/bin/python3 tools/avro_samples.py, from anywhere; or with --check, which writes nothing, and fails where a file
+differs. Each file has the sync marker `0123456789abcdef`, so that the same bytes come each time.
 """
+import datetime
 import io
 import json
 import os
 import subprocess
+import sys
 import tempfile
 
 import avro.datafile
@@ -30,6 +41,34 @@ SCHEMA = {
     ],
 }
 
+ROW = {
+    "type": "record",
+    "name": "r",
+    "fields": [
+        {"name": "n", "type": ["null", "long"]},
+        {"name": "s", "type": "string"},
+        {"name": "e", "type": {"type": "enum", "name": "k", "symbols": ["no", "yes"]}},
+        {
+            "name": "p",
+            "type": {
+                "type": "record",
+                "name": "q",
+                "fields": [
+                    {"name": "b", "type": "boolean"},
+                    {"name": "l", "type": {"type": "array", "items": "int"}},
+                ],
+            },
+        },
+    ],
+}
+
+ROWS = [
+    [{"n": None, "s": 'a"\\\n\t\x01/é☃', "e": "yes", "p": {"b": True, "l": [1, -2]}}],
+    [
+        {"n": -(2**63), "s": "", "e": "no", "p": {"b": False, "l": []}},
+        {"n": 2**63 - 1, "s": "z", "e": "no", "p": {"b": True, "l": [2**31 - 1]}},
+    ],
+]
 
 CARD = {
     "type": "record",
@@ -63,47 +102,91 @@ class Kept(io.BytesIO):
         self.kept = self.getvalue()
 
 
-def written(blocks, codec):
+def written(schema, blocks, codec="null"):
     avro.datafile.randbytes = lambda n: MARKER[:n]
     target = Kept()
-    schema = avro.schema.parse(json.dumps(SCHEMA))
+    schema = avro.schema.parse(json.dumps(schema))
     writer = avro.datafile.DataFileWriter(target, avro.io.DatumWriter(), schema, codec=codec)
-    start = 0
-    for count in blocks:
-        for row in rows(start, count):
+    for block in blocks:
+        for row in block:
             writer.append(row)
         writer.sync()
-        start += count
     writer.close()
     return target.kept
 
 
+def run(command):
+    return subprocess.run(command, check=True, stdout=subprocess.PIPE, stderr=subprocess.DEVNULL, text=True).stdout
+
+
+def java(*words):
+    path = ":".join(f"/usr/share/java/{jar}.jar" for jar in JARS)
+    return run(["java", "-cp", path, os.path.join(TOOLS, "AvroSamples.java"), *words])
+
+
+def bytes_of(name):
+    with open(name, "rb") as source:
+        return source.read()
+
+
+def shown(value):
+    """A timestamp's text."""
+    return value.isoformat(timespec="milliseconds" if value.microsecond else "seconds")
+
+
+def lines(rows):
+    """The rows as lines, by Python's `json`."""
+    return "".join(json.dumps(row, default=shown, ensure_ascii=False, separators=(",", ":")) + "\n" for row in rows)
+
+
+def cards(data):
+    """The cards of a file, by python3-avro."""
+    with avro.datafile.DataFileReader(io.BytesIO(data), avro.io.DatumReader()) as reader:
+        read = list(reader)
+    for card, wanted in zip(read, CARDS, strict=True):
+        assert dict(card, played=number(card["played"])) == wanted, card
+    return read
+
+
+def number(played):
+    return round(played.timestamp() * 1000) if isinstance(played, datetime.datetime) else played
+
+
+def without_id(card):
+    return {name: value for name, value in card.items() if name != "id"}
+
+
 def from_c(folder):
+    """The file of avro-c, once `avrocat` has shown its cards."""
     program = os.path.join(folder, "samples")
-    subprocess.run(["gcc", "-o", program, os.path.join(TOOLS, "avro_samples.c"), "-lavro"], check=True)
-    return cards([program], folder)
+    name = os.path.join(folder, "c.avro")
+    run(["gcc", "-o", program, os.path.join(TOOLS, "avro_samples.c"), "-lavro"])
+    run([program, name])
+    for line, card in zip(run(["avrocat", name]).splitlines(), CARDS, strict=True):
+        row = json.loads(line)
+        row["note"] = row["note"] and row["note"]["string"]
+        assert row == dict(card, id=card["id"].decode()), line
+    return bytes_of(name)
 
 
 def from_java(folder):
-    path = ":".join(f"/usr/share/java/{jar}.jar" for jar in JARS)
-    return cards(["java", "-cp", path, os.path.join(TOOLS, "AvroSamples.java")], folder)
+    """The file of Java's avro, once its reader has shown its cards."""
+    name = os.path.join(folder, "java.avro")
+    java("write", name)
+    for line, card in zip(java("show", name).splitlines(), CARDS, strict=True):
+        assert json.loads(line) == dict(card, id=list(card["id"])), line
+    return bytes_of(name)
 
 
-def cards(command, folder):
-    """The file of cards that a command writes, once others have read the cards in it."""
-    name = os.path.join(folder, "cards.avro")
-    subprocess.run(command + [name], check=True, stderr=subprocess.DEVNULL)
-    with open(name, "rb") as source:
-        data = source.read()
-    with avro.datafile.DataFileReader(io.BytesIO(data), avro.io.DatumReader()) as reader:
-        for card, read in zip(CARDS, reader, strict=True):
-            played = read["played"]
-            if hasattr(played, "timestamp"):
-                read["played"] = round(played.timestamp() * 1000)
-            assert card == read, read
-    lines = subprocess.run(["avrocat", name], check=True, capture_output=True, text=True).stdout.splitlines()
-    assert [json.loads(line)["id"] for line in lines] == ["ab", "cd", "ef"]
-    return data
+def copied_by_java(data, folder):
+    """Java's copy of the file, with a block of no rows between its two."""
+    name = os.path.join(folder, "gap.avro")
+    copy = os.path.join(folder, "copy.avro")
+    header, first, second, end = data.split(MARKER)
+    with open(name, "wb") as target:
+        target.write(MARKER.join([header, first, bytes(2), second, end]))
+    java("copy", name, copy)
+    return bytes_of(copy)
 
 
 def encoded(some):
@@ -128,25 +211,51 @@ def literal(data):
     return f'b"{text}"'
 
 
+def module(name, title, statics):
+    """The path and the text of a module of byte strings."""
+    text = f"//! {title}, by `tools/avro_samples.py`.\n"
+    for static, comment, data in statics:
+        line = f"pub static {static}: &[u8] = {literal(data)};"
+        if len(line) > 100:
+            line = line.replace(" = ", " =\n    ", 1)
+        text += f"\n/// {comment}\n{line}\n"
+    return os.path.join(TOP, "crates", name), text
+
+
 def main():
-    samples = [
-        ("NO_BLOCKS", "A file without blocks, of python3-avro.", written([], "null")),
-        ("TWO_BLOCKS", "Blocks of two rows and of three, of python3-avro.", written([2, 3], "null")),
-        ("DEFLATED", "A block of one row, compressed, of python3-avro.", written([1], "deflate")),
-    ]
     with tempfile.TemporaryDirectory() as folder:
-        samples.append(("CARDS_OF_C", "Blocks of one card and of two, of avro-c.", from_c(folder)))
-        samples.append(("CARDS_OF_JAVA", "Blocks of one card and of two, of Java's avro.", from_java(folder)))
-    samples.append(("ONE_CARD", "The bytes of the first block of cards.", encoded(CARDS[:1])))
-    samples.append(("TWO_CARDS", "The bytes of the second.", encoded(CARDS[1:])))
-    path = os.path.join(TOP, "crates", "file_tests", "src", "samples.rt")
-    with open(path, "w") as target:
-        target.write("//! Files that other programs wrote, by `tools/avro_samples.py`.\n")
-        for name, comment, data in samples:
-            line = f"pub static {name}: &[u8] = {literal(data)};"
-            if len(line) > 100:
-                line = line.replace(" = ", " =\n    ", 1)
-            target.write(f"\n/// {comment}\n{line}\n")
+        of_c = from_c(folder)
+        of_java = from_java(folder)
+        gap = copied_by_java(of_java, folder)
+    written_rows = written(ROW, ROWS)
+    modules = [
+        module("file_tests/src/samples.rt", "Files that other programs wrote", [
+            ("NO_BLOCKS", "A file without blocks, of python3-avro.", written(SCHEMA, [])),
+            ("TWO_BLOCKS", "Blocks of two rows and of three, of python3-avro.", written(SCHEMA, [rows(0, 2), rows(2, 3)])),
+            ("DEFLATED", "A block of one row, compressed, of python3-avro.", written(SCHEMA, [rows(0, 1)], "deflate")),
+            ("CARDS_OF_C", "Blocks of one card and of two, of avro-c.", of_c),
+            ("CARDS_OF_JAVA", "Blocks of one card and of two, of Java's avro.", of_java),
+            ("CARDS_AND_NONE", "Blocks of one card, of none and of two, as Java's avro copied them.", gap),
+            ("ONE_CARD", "The bytes of the first block of cards.", encoded(CARDS[:1])),
+            ("TWO_CARDS", "The bytes of the last one.", encoded(CARDS[1:])),
+        ]),
+        module("convert_tests/src/written.rt", "Files that other programs wrote, and what others make of their rows", [
+            ("WRITTEN", "Rows in two blocks, of python3-avro: a union, a string, an enum, and a record with an array.", written_rows),
+            ("WRITTEN_LINES", "The lines that Python's `json` makes of the rows.", lines(sum(ROWS, [])).encode()),
+            ("CARDS_OF_C", "Cards in two blocks, of avro-c.", of_c),
+            ("CARD_LINES", "The lines of their suits, notes and numbers, as python3-avro reads them.", lines(map(without_id, cards(of_c))).encode()),
+            ("CARDS_OF_JAVA", "Cards in two blocks, of Java's avro, with times in place of numbers.", of_java),
+            ("TIMED_LINES", "The lines of their suits, notes and times, as python3-avro reads them.", lines(map(without_id, cards(of_java))).encode()),
+            ("CARDS_AND_NONE", "The same with a block of no rows between the two, as Java's avro copied them.", gap),
+        ]),
+    ]
+    assert cards(gap) == cards(of_java)
+    for path, text in modules:
+        if "--check" not in sys.argv[1:]:
+            with open(path, "w", encoding="utf-8") as target:
+                target.write(text)
+        elif bytes_of(path) != text.encode():
+            sys.exit(f"{path} differs: run tools/avro_samples.py")
 
 
 if __name__ == "__main__":

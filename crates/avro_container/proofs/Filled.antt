@@ -1,5 +1,5 @@
 -- A vector that is filled from a place on.
-use Rattle.std.proofs.Common.{◌≡◌, ℕ, ◌+◌, ◌<◌, ◌≤◌, true, false, ℤ, pos, negsuc, List, ◌++◌, length, take, drop, refl, sym, ◌∙◌, ap, subst, append_assoc, length-append, take-append-drop, arith}
+use Rattle.std.proofs.Common.{◌≡◌, ℕ, ◌+◌, ◌-◌, ◌<◌, ◌≤◌, max, true, false, ℤ, pos, negsuc, List, ◌++◌, length, take, drop, refl, sym, ◌∙◌, ap, subst, append_assoc, length-append, take-append-drop, arith}
 use Rattle.std.specs.Int.Signed.{lt_z}
 use Rattle.std.proofs.lemmas.Bool.{ltb-true}
 use Rattle.std.specs.Prelude.{nat_abs}
@@ -32,6 +32,18 @@ filling a b c at n old new p q = subst (Takes a c) (sym q.appended) (takes_more 
 
 pub some_left : (at n : ℕ) (xs : List ℕ) → at < n → length (take at xs) < n
 some_left at n xs l = omega (arith, length-take at xs, l)
+
+-- ---- how long it gets: no longer than it was, or than what was taken and a piece
+
+-- once a piece was asked for behind what was taken, and more was taken or not
+pub still_grown : (a b : State) (after at was len more : ℕ) (xs : List ℕ) → Takes a b (take at xs) → at ≤ length xs → after ≤ b.limit
+    → len ≤ max was (a.limit - b.limit + 65536) → more ≤ max len (at + 65536) → more ≤ max was (a.limit - after + 65536)
+still_grown a b after at was len more xs t l k g m =
+    pieces a.limit b.limit after at was len more (omega (arith, t.limit, length-take-le at xs l)) k g m
+  where
+    pieces : (limit before after at was len more : ℕ) → limit ≡ at + before → after ≤ before
+        → len ≤ max was (limit - before + 65536) → more ≤ max len (at + 65536) → more ≤ max was (limit - after + 65536)
+    pieces limit before after at was len more e k g m = omega (arith, e, k, g, m)
 
 -- ---- numbers of 0 or more
 

@@ -1,5 +1,5 @@
 -- A file means one thing, and the canonical file is a file.
-use Rattle.std.proofs.Common.{◌≡◌, ℕ, zero, suc, ◌^◌, ◌<◌, pos, List, [], ◌∷◌, ◌++◌, length, codes, Some, None, get_or, refl, sym, ◌∙◌, ap, subst, append_assoc, arith}
+use Rattle.std.proofs.Common.{◌≡◌, ℕ, zero, suc, ◌^◌, ◌<◌, pos, List, [], ◌∷◌, ◌++◌, length, codes, Some, get_or, refl, sym, ◌∙◌, ap, subst, append_assoc, arith}
 use Rattle.std.proofs.lemmas.List.{append-nil, append_cancel_left}
 use Rattle.avro_schema.specs.Number.{AreGroups, Number}
 use Rattle.avro_grammar.specs.Parts.{Grammar, Then, Meaning, Raw, Many, BlockOf, Blocks}

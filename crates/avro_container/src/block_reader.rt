@@ -1,15 +1,14 @@
 //! The blocks of a file, one after another.
-ghost use Rattle.std.specs.Prelude.{◌≡◌, ◌≢◌, ◌<◌, ◌≤◌, ◌-◌, take, drop, length, IfOk, OnOk, IfErr, IfSome, Some, None, Ok, Err, IsTrue, MatchResult, true, false, not};
+ghost use Rattle.std.specs.Prelude.{◌≡◌, ◌≢◌, ◌<◌, ◌≤◌, ◌-◌, take, drop, length, max, vec_len, ◌+◌, IfOk, OnOk, IfErr, IfSome, Some, None, Ok, Err, IsTrue, MatchResult, true, false, not};
 ghost use Rattle.std.specs.Bool.{OnTrue, OnFalse};
 ghost use Rattle.avro_container.specs.File.{the_block};
 ghost use Rattle.avro_container.specs.FileForms.{marked_block};
 ghost use Rattle.avro_container.specs.Taking.{state_of, Passed, Stopped};
 
 use crate::parts::{Allowance, Stop, count, fill};
-use arrow_base::{Bytes, Error, Reason, Result, Source};
+use arrow_base::{Error, Reason, Result, Source};
 use avro_schema::Block;
 use std::alloc::Global;
-use std::mem;
 
 // How many bytes a sync marker has.
 const MARKER: usize = 16;
@@ -28,6 +27,8 @@ fn take_block<S: Source>(
     ensures fewer { OnOk result (allowed.new.limit < allowed.old.limit) }
     ensures stops { IfErr result (Stopped marked_block
         (state_of S.left S.faults source.old allowed.old) (state_of S.left S.faults source.new allowed.new)) }
+    ensures grown { vec_len bytes.new
+        ≤ max (vec_len bytes.old) (allowed.old.limit - allowed.new.limit + 65536) }
     ensures same { S.whose source.new ≡ S.whose source.old }
 {
     let rows = count(source, allowed)?;
@@ -48,7 +49,6 @@ fn is_marker(bytes: &[u8], marker: &[u8; MARKER]) -> bool
 /// source that stands after the file's header.
 #[derive(Drop)]
 pub struct BlockReader<S> {
-    alloc: Global,
     source: S,
     marker: [u8; 16],
     limit: u64,
@@ -62,14 +62,13 @@ impl<S: Source> BlockReader<S> {
     /// A reader of blocks that are followed by `marker`. It takes at most `byte_limit` bytes of
     /// the source, over all calls together, and one more where it answers `LimitExceeded`. Numbers
     /// are read byte by byte: hand in a source that buffers, if a read is dear. It takes no memory.
-    pub fn new(alloc: Global, reader: S, marker: [u8; 16], byte_limit: u64) -> BlockReader<S>
+    pub fn new(_alloc: Global, reader: S, marker: [u8; 16], byte_limit: u64) -> BlockReader<S>
         ensures source { source_of result ≡ reader }
         ensures marker { marker_of result ≡ marker }
         ensures limit { limit_of result ≡ byte_limit }
         ensures open { IsOpen result }
     {
         BlockReader {
-            alloc,
             source: reader,
             marker,
             limit: byte_limit,
@@ -86,9 +85,10 @@ impl<S: Source> BlockReader<S> {
     /// one; `ExternalFormat(Marker)` where a block is followed by sixteen other bytes than the
     /// marker; `OutOfMemory`. An error is answered before any byte is taken past the part that shows
     /// it, and no byte is taken past the block. After an error it is answered again by each call.
-    /// After false or an error nothing is promised of what `block` holds. A block's bytes are read
-    /// into the memory that `block` has. The buffer is filled in pieces of at most 65536 bytes, each
-    /// asked for once the ones before it were read; no clause says so.
+    /// A block's bytes are read into the memory that `block` has, which it keeps whatever is answered;
+    /// after false or an error nothing is promised of what bytes it holds. The buffer is filled in
+    /// pieces of at most 65536 bytes, each asked for once the ones before it were read: so `block` never
+    /// has more than 65536 bytes beyond those that it had, or that this call took (`grown`).
     pub fn next(&mut self, block: &mut Block) -> Result<bool>
         ensures failed { IfSome (failure_of self.old)
             (λ e. (result ≡ Err e) × (self.new ≡ self.old)) }
@@ -103,6 +103,10 @@ impl<S: Source> BlockReader<S> {
             (λ more. (has_ended self.new ≡ not more) × (failure_of self.new ≡ None))
             (λ e. failure_of self.new ≡ Some e) }
         ensures fewer { IfOk result (λ more. IsTrue more → limit_of self.new < limit_of self.old) }
+        // The limit falls by the bytes that were taken, the one past it aside.
+        ensures grown { length block.new.bytes
+            ≤ max (length block.old.bytes) (limit_of self.old - limit_of self.new + 65536) }
+        ensures never_falls { S.faults (source_of self.old) ≤ S.faults (source_of self.new) }
         ensures marker { marker_of self.new ≡ marker_of self.old }
         ensures same { S.whose (source_of self.new) ≡ S.whose (source_of self.old) }
     {
@@ -128,17 +132,19 @@ impl<S: Source> BlockReader<S> {
         ensures err { IfErr result (NoBlock (marker_of self.old)
             (reader_state S.left S.faults self.old) (reader_state S.left S.faults self.new)) }
         ensures fewer { IfOk result (λ more. IsTrue more → limit_of self.new < limit_of self.old) }
+        ensures grown { length block.new.bytes
+            ≤ max (length block.old.bytes) (limit_of self.old - limit_of self.new + 65536) }
         ensures kept { (marker_of self.new ≡ marker_of self.old)
             × (has_ended self.new ≡ has_ended self.old)
             × (failure_of self.new ≡ failure_of self.old) }
         ensures same { S.whose (source_of self.new) ≡ S.whose (source_of self.old) }
     {
-        let mut bytes = mem::replace(&mut block.bytes, Bytes::new(self.alloc)).into_vec();
+        let bytes = block.bytes.as_mut_vec();
         let mut allowed = Allowance {
             limit: self.limit,
             size_left: None,
         };
-        let taken = take_block(&mut self.source, &mut allowed, &mut bytes);
+        let taken = take_block(&mut self.source, &mut allowed, bytes);
         let before = self.limit;
         self.limit = allowed.limit;
         match taken {
@@ -149,7 +155,6 @@ impl<S: Source> BlockReader<S> {
                 }
                 bytes.truncate(at);
                 block.number_of_rows = rows;
-                block.bytes = Bytes::from_vec(bytes);
                 Ok(true)
             }
             Err(Stop::Ended) => {

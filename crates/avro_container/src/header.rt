@@ -125,8 +125,9 @@ pub struct Header {
 /// `NotYetImplemented(Codec)` where the header is whole and names another codec than `null`;
 /// `OutOfMemory`. An error is answered before any byte is taken past the part that shows it, and no
 /// byte is taken past the header. The buffer is filled in pieces of at most 65536 bytes, each asked
-/// for once the ones before it were read; no clause says so. Numbers are read byte by byte: hand in
-/// a source that buffers, if a read is dear.
+/// for once the ones before it were read; no clause says so, since the buffers are its own, and what
+/// they hold at last is the schema's text alone. Numbers are read byte by byte: hand in a source that
+/// buffers, if a read is dear.
 pub fn read_header<S: Source>(
     alloc: Global,
     source: &mut S,

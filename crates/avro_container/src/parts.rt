@@ -1,5 +1,5 @@
 //! The parts of a file: bytes, numbers, and numbers of bytes, taken from a source one after another.
-ghost use Rattle.std.specs.Prelude.{◌≡◌, ◌<◌, ◌≤◌, ◌+◌, max, [], ◌∷◌, take, length, vec_len, ◌++◌, IfOk, OnOk, IfErr, Some};
+ghost use Rattle.std.specs.Prelude.{◌≡◌, ◌<◌, ◌≤◌, ◌+◌, ◌-◌, max, [], ◌∷◌, take, length, vec_len, ◌++◌, IfOk, OnOk, IfErr, Some};
 ghost use Rattle.std.specs.Int.{IsInRange};
 ghost use Rattle.avro_container.specs.Forms.{raw, count as a_count, number as a_number, sized as a_sized};
 ghost use Rattle.avro_container.specs.OneRead.{Stops, TakesMore, Allows};
@@ -49,6 +49,7 @@ pub(crate) fn take_some<S: Source>(
         (take n buffer.new)) }
     ensures stops { IfErr result (Stops
         (state_of S.left S.faults source.old allowed.old) (state_of S.left S.faults source.new allowed.new)) }
+    ensures never_rises { allowed.new.limit ≤ allowed.old.limit }
     ensures same { S.whose source.new ≡ S.whose source.old }
 {
     let most = allowed.most(buffer.len().min(PIECE))?;
@@ -98,6 +99,7 @@ impl Allowance {
         requires allowed { Allows self.old.limit self.old.size_left n }
         ensures ok { IfOk result (λ k. (k ≡ n) × (self.old.limit ≡ n + self.new.limit) × SizeFalls self.old.size_left self.new.size_left n) }
         ensures err { IfErr result (λ e. (e ≡ TheStop.Limit) × (self.old.limit ≡ 0) × (n ≡ 1)) }
+        ensures never_rises { self.new.limit ≤ self.old.limit }
     {
         if self.limit == 0 {
             return Err(Stop::Limit);
@@ -172,6 +174,7 @@ fn fill_some<S: Source>(
     ensures stops { IfErr result (Stops
         (state_of S.left S.faults source.old allowed.old) (state_of S.left S.faults source.new allowed.new)) }
     ensures len { vec_len bytes.new ≡ vec_len bytes.old }
+    ensures never_rises { allowed.new.limit ≤ allowed.old.limit }
     ensures same { S.whose source.new ≡ S.whose source.old }
 {
     let n = take_some(source, allowed, &mut bytes[at..])?;
@@ -184,7 +187,7 @@ fn extend_buffer(bytes: &mut Vec<u8>, at: usize, n: usize) -> Result<(), Stop>
     requires { (at ≤ vec_len bytes.old) × (vec_len bytes.old ≤ n) × (at < n) }
     ensures ok { OnOk result (at < vec_len bytes.new) }
     ensures within { OnOk result (vec_len bytes.new ≤ n) }
-    ensures piece { OnOk result (vec_len bytes.new ≤ max (vec_len bytes.old) (at + PIECE)) }
+    ensures piece { vec_len bytes.new ≤ max (vec_len bytes.old) (at + PIECE) }
     ensures kept { OnOk result (take at bytes.new.items ≡ take at bytes.old.items) }
     ensures err { IfErr result (λ e. e ≡ TheStop.Memory) }
 {
@@ -207,6 +210,8 @@ pub(crate) fn fill<S: Source>(
         bytes.new.items) }
     ensures stops { IfErr result (Stopped (raw n)
         (state_of S.left S.faults source.old allowed.old) (state_of S.left S.faults source.new allowed.new)) }
+    ensures grown { vec_len bytes.new
+        ≤ max (vec_len bytes.old) (allowed.old.limit - allowed.new.limit + PIECE) }
     ensures same { S.whose source.new ≡ S.whose source.old }
 {
     bytes.truncate(n);

@@ -15,6 +15,7 @@ pub mod Nodes
 pub mod OneField
 pub mod Pairs
 pub mod Reading
+pub mod Reserved
 pub mod RowCosts
 pub mod RowSteps
 pub mod Sets

@@ -27,6 +27,7 @@ ghost use Rattle.avro_decode.specs.Suits.{AllSuit};
 use crate::fault::BlockFault;
 use crate::kept::offsets_fit;
 use crate::prepare::make_builders;
+use crate::reserve::reserve_rows;
 use crate::rows::decode_block;
 use arrow_array::{Array, Chunk};
 use arrow_builders::MutableArray;
@@ -100,6 +101,7 @@ pub(crate) fn decode_into(
     ensures err { IfErr result (BytesRefused block.now.number_of_rows fields.now avro_fields.now
         projection.now block.now.bytes) }
 {
+    reserve_rows(block, avro_fields.len(), builders);
     let mut cursor = SliceCursor::new(block.bytes.as_slice());
     let rows = block.number_of_rows;
     deserialize_into(&mut cursor, rows, fields, avro_fields, projection, builders)?;
@@ -184,6 +186,8 @@ pub fn deserialize_into<'a, C: Cursor<'a>>(
 }
 
 /// Reads the rows of a whole block from a cursor that is lent once.
+// What goes over the rows is inlined here, where the cursor's fields are at hand, and has all registers.
+#[inline(never)]
 fn decode_lent<'a, C: Cursor<'a>>(
     cursor: &mut C,
     rows: usize,

@@ -11,6 +11,7 @@ mod kept;
 mod laws;
 mod make;
 mod prepare;
+mod reserve;
 mod rows;
 
 pub use blocks::{deserialize, deserialize_into};

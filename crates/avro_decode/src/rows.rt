@@ -25,6 +25,7 @@ use avro_schema::{AvroField, AvroSchema};
 use avro_skip::{SkipFault, skip_value};
 
 /// Reads the rows of a whole block.
+#[inline(always)]
 pub fn decode_block<C: Ahead>(
     cursor: &mut C,
     rows: usize,
@@ -60,6 +61,7 @@ pub fn decode_block<C: Ahead>(
 
 /// Reads so many rows. Where there is one field and it is kept, they are the items of one column,
 /// and no field has to be found again for each row.
+#[inline(always)]
 fn decode_rows<C: Ahead>(
     cursor: &mut C,
     rows: usize,
@@ -91,6 +93,7 @@ fn decode_rows<C: Ahead>(
     decode_each_row(cursor, rows, avro_fields, projection, builders)
 }
 
+#[inline(always)]
 fn decode_each_row<C: Ahead>(
     cursor: &mut C,
     rows: usize,

@@ -12,13 +12,17 @@ use Rattle.arrow_array.specs.Arrays.{array_type, array_slots}
 use Rattle.arrow_array.specs.Slots.{slot_at}
 use Rattle.avro_schema.specs.declared.schema.AvroField.{AvroField}
 use Rattle.avro_schema.specs.declared.schema.Record.{Record as TheRecord, out-Record}
-use Rattle.avro_schema.specs.declared.schema.Schema.{Schema, Array, Union, Union', Record}
+use Rattle.avro_schema.specs.declared.schema.Schema.{Schema, Null, Boolean, Int, Long, Float, Double, Bytes, String, Enum, Fixed, Array, Array', Map', Union, Union', Record}
 use Rattle.avro_encode.specs.Plain.{parts_of, one_block, plain}
 use Rattle.avro_encode.specs.Pairs.{IsCounted, Pairs}
-use Rattle.avro_encode.specs.Listed.{plain_union_of, plain_fields_of, PairsUnionOf, PairsFieldsOf, slots_across}
+use Rattle.avro_encode.specs.Listed.{IsBesideNull, index_of, plain_union_of, plain_fields_of, PairsUnionOf, PairsFieldsOf, slots_across}
 use Rattle.avro_encode.proofs.PlainLaw.{parts_list, parts_struct}
 use Rattle.avro_encode.proofs.ByLists.{plain_array, plain_union_is, plain_record_is, pairs_array, pairs_union, pairs_record}
-use Rattle.std.specs.Prelude.{Bool, true, IsTrue, map, min, ◌-◌}
+use Rattle.std.specs.Prelude.{Bool, true, false, cond, if◌then◌else◌, IsTrue, map, min, ◌-◌, ◌⊎◌, pos}
+use Rattle.std.proofs.Common.{inl, inr}
+use Rattle.std.proofs.lemmas.Bool.{false≢true}
+use Rattle.avro_container.specs.Shortest.{shortest}
+use Rattle.avro_grammar.specs.Encodes.{IsNull, is_null}
 use Rattle.std.proofs.Common.{length-take, length-drop}
 use Rattle.arrow_types.specs.declared.types.DataType.{DataType}
 use Rattle.arrow_types.specs.Layouts.{physical_type}
@@ -43,6 +47,106 @@ member_pairs s members given x e same p = subst (λ (ms : List Schema). PairsUni
 
 pub member_plain : (s : Schema) (members given : List Schema) (x : Slot) → s ≡ Union members → given ≡ members → plain_union_of given x ≡ plain s x
 member_plain s members given x e same = ap (λ (ms : List Schema). plain_union_of ms x) same ∙ sym (plain_union_is members x) ∙ ap (λ z. plain z x) (sym e)
+
+pub two_members : (members : List Schema) (t : DataType) → PairsMemberTypeOf members t → length members ≡ 2
+two_members [] t h = absurd h
+two_members (s ∷ []) t h = absurd h
+two_members (s ∷ u ∷ []) t h = refl
+two_members (s ∷ u ∷ v ∷ more) t h = absurd h
+
+null_is : (s : Schema) → IsNull s → is_null s ≡ true
+null_is Null h = refl
+null_is (Array' shape item) h = absurd h
+null_is (Union' shape members) h = absurd h
+null_is (Map' shape value) h = absurd h
+null_is (Record r) h = absurd h
+null_is Boolean h = absurd h
+null_is (Int l) h = absurd h
+null_is (Long l) h = absurd h
+null_is Float h = absurd h
+null_is Double h = absurd h
+null_is (Bytes l) h = absurd h
+null_is (String l) h = absurd h
+null_is (Enum e) h = absurd h
+null_is (Fixed f) h = absurd h
+
+no_null_type : (s : Schema) (t : DataType) → PairsType s t → is_null s ≡ false
+no_null_type Null t h = absurd h
+no_null_type _ t h = refl
+
+no_null_slot : (s : Schema) (x : Slot) → Pairs s x → is_null s ≡ false
+no_null_slot Null x h = absurd h
+no_null_slot _ x h = refl
+
+-- the member beside null is the second where null is the first
+module _ (s u m : Schema) (b : Bool) (h : IsBesideNull (s ∷ u ∷ []) b m) where
+  member_is : (n : Bool) → is_null s ≡ n → m ≡ (if n then u else s)
+  member_is n e = h.1 ∙ ap (λ k. if k then u else s) (h.0 ∙ e)
+
+  held_not_null : (x : Slot) → x ≡ slot.Null → is_held x ≡ true → ⊥
+  held_not_null x e held = false≢true (sym (ap is_held e) ∙ held)
+
+  pair_types : (t : DataType) → (IsNull s × IsNoUnion u × PairsType u t) ⊎ (IsNull u × IsNoUnion s × PairsType s t) → IsNoUnion m × PairsType m t
+  pair_types t (inl p) = subst (λ z. IsNoUnion z × PairsType z t) (sym (member_is true (null_is s p.0))) (p.1, p.2)
+  pair_types t (inr p) = subst (λ z. IsNoUnion z × PairsType z t) (sym (member_is false (no_null_type s t p.2))) (p.1, p.2)
+
+  pair_slot : (x : Slot) → is_held x ≡ true → (IsNull s × IsNoUnion u × ((x ≡ slot.Null) ⊎ Pairs u x)) ⊎ (IsNull u × IsNoUnion s × ((x ≡ slot.Null) ⊎ Pairs s x)) → Pairs m x
+  pair_slot x held (inl p) = subst (λ z. Pairs z x) (sym (member_is true (null_is s p.0))) (held_pairs u p.2)
+    where
+      held_pairs : (z : Schema) → (x ≡ slot.Null) ⊎ Pairs z x → Pairs z x
+      held_pairs z (inl e) = absurd (held_not_null x e held)
+      held_pairs z (inr q) = q
+  pair_slot x held (inr p) = from p.2
+    where
+      from : (x ≡ slot.Null) ⊎ Pairs s x → Pairs m x
+      from (inl e) = absurd (held_not_null x e held)
+      from (inr q) = subst (λ z. Pairs z x) (sym (member_is false (no_null_slot s x q))) q
+
+  plain_null : (x : Slot) → is_held x ≡ false → plain_union_of (s ∷ u ∷ []) x ≡ index_of b false
+  plain_null x e = ap (λ z. cond (is_null s) (cond z (shortest (pos 1) ++ plain u x) (shortest (pos 0))) (cond z (shortest (pos 0) ++ plain s x) (shortest (pos 1)))) e ∙ ap (λ z. index_of z false) (sym h.0)
+
+  value_of : (x : Slot) (n : Bool) → cond n (shortest (pos 1) ++ plain u x) (shortest (pos 0) ++ plain s x) ≡ index_of n true ++ plain (if n then u else s) x
+  value_of x true = refl
+  value_of x false = refl
+
+  plain_value : (x : Slot) → is_held x ≡ true → plain_union_of (s ∷ u ∷ []) x ≡ index_of b true ++ plain m x
+  plain_value x e =
+      ap (λ z. cond (is_null s) (cond z (shortest (pos 1) ++ plain u x) (shortest (pos 0))) (cond z (shortest (pos 0) ++ plain s x) (shortest (pos 1)))) e
+      ∙ value_of x (is_null s) ∙ ap (λ z. index_of z true ++ plain (if z then u else s) x) (sym h.0) ∙ ap (λ z. index_of b true ++ plain z x) (sym h.1)
+
+pub beside_types : (members : List Schema) (b : Bool) (m : Schema) (t : DataType) → IsBesideNull members b m → PairsMemberTypeOf members t → IsNoUnion m × PairsType m t
+beside_types [] b m t h p = absurd h
+beside_types (s ∷ []) b m t h p = absurd h
+beside_types (s ∷ u ∷ []) b m t h p = pair_types s u m b h t p
+beside_types (s ∷ u ∷ v ∷ more) b m t h p = absurd h
+
+pub beside_pairs : (members : List Schema) (b : Bool) (m : Schema) (x : Slot) → IsBesideNull members b m → is_held x ≡ true → PairsUnionOf members x → Pairs m x
+beside_pairs [] b m x h held p = absurd h
+beside_pairs (s ∷ []) b m x h held p = absurd h
+beside_pairs (s ∷ u ∷ []) b m x h held p = pair_slot s u m b h x held p
+beside_pairs (s ∷ u ∷ v ∷ more) b m x h held p = absurd h
+
+pub beside_null_plain : (members : List Schema) (b : Bool) (m : Schema) (x : Slot) → IsBesideNull members b m → is_held x ≡ false → plain_union_of members x ≡ index_of b false
+beside_null_plain [] b m x h held = absurd h
+beside_null_plain (s ∷ []) b m x h held = absurd h
+beside_null_plain (s ∷ u ∷ []) b m x h held = plain_null s u m b h x held
+beside_null_plain (s ∷ u ∷ v ∷ more) b m x h held = absurd h
+
+pub beside_value_plain : (members : List Schema) (b : Bool) (m : Schema) (x : Slot) → IsBesideNull members b m → is_held x ≡ true → plain_union_of members x ≡ index_of b true ++ plain m x
+beside_value_plain [] b m x h held = absurd h
+beside_value_plain (s ∷ []) b m x h held = absurd h
+beside_value_plain (s ∷ u ∷ []) b m x h held = plain_value s u m b h x held
+beside_value_plain (s ∷ u ∷ v ∷ more) b m x h held = absurd h
+
+-- the index of a null, and of a value, and what is appended after it
+pub null_appended : (members : List Schema) (b held : Bool) (m : Schema) (x : Slot) (old now : List ℕ) → IsBesideNull members b m → held ≡ is_held x → held ≡ false → now ≡ old ++ index_of b held → now ≡ old ++ plain_union_of members x
+null_appended members b held m x old now h same e f =
+    f ∙ ap (λ z. old ++ index_of b z) e ∙ ap (λ (z : List ℕ). old ++ z) (sym (beside_null_plain members b m x h (sym same ∙ e)))
+
+pub value_appended : (members : List Schema) (b held : Bool) (m : Schema) (x : Slot) (old now next : List ℕ) → IsBesideNull members b m → held ≡ is_held x → held ≡ true → now ≡ old ++ index_of b held → next ≡ now ++ plain m x → next ≡ old ++ plain_union_of members x
+value_appended members b held m x old now next h same e f g =
+    g ∙ ap (λ (z : List ℕ). z ++ plain m x) (f ∙ ap (λ z. old ++ index_of b z) e) ∙ append_assoc old (index_of b true) (plain m x)
+    ∙ ap (λ (z : List ℕ). old ++ z) (sym (beside_value_plain members b m x h (sym same ∙ e)))
 
 -- ---- a list
 

@@ -1,8 +1,9 @@
 pub mod Appending
 pub mod ByLists
+pub mod EvenSizes
 pub mod FlatPairs
+pub mod Groups
 pub mod Milliseconds
-pub mod OneByte
 pub mod PlainLaw
 pub mod TwosComplement
 pub mod TypesByLists

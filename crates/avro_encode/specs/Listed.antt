@@ -1,7 +1,7 @@
 -- The encoding and the pairs of unions and records in terms of the lists of members and of fields that code
 -- sees. Private contracts and the law of
 -- tables cite these; the definitions go by recursion on a schema.
-use Rattle.std.specs.Prelude.{◌≡◌, pos, cond, List, [], ◌∷◌, ◌++◌, ◌⊎◌, ℕ, map, Option, Some, None}
+use Rattle.std.specs.Prelude.{◌≡◌, Bool, if◌then◌else◌, pos, cond, List, [], ◌∷◌, ◌++◌, ◌⊎◌, ℕ, map, Option, Some, None}
 use Rattle.std.specs.List.{AllZip}
 use Rattle.arrow_types.specs.declared.slot.Slot.{Slot}
 use Rattle.arrow_types.specs.declared.slot.Slot.TheVariants as slot
@@ -25,6 +25,19 @@ plain_union_of (s ∷ u ∷ []) x =
     (cond (is_held x) (shortest (pos 1) ++ plain u x) (shortest (pos 0)))
     (cond (is_held x) (shortest (pos 0) ++ plain s x) (shortest (pos 1)))
 plain_union_of _ x = []
+
+-- the byte of an index below: 0, or 2 for the index 1
+abbrev pub index_byte : Bool → Bool → ℕ
+index_byte null_first held = if held then (if null_first then 2 else 0) else (if null_first then 0 else 2)
+
+-- a null has the index at which null stands, and a value the other
+abbrev pub index_of : Bool → Bool → List ℕ
+index_of null_first held = if held then (if null_first then shortest (pos 1) else shortest (pos 0)) else (if null_first then shortest (pos 0) else shortest (pos 1))
+
+-- in a union of two, whether null is the first, and the other member
+abbrev pub IsBesideNull : List Schema → Bool → Schema → Type 0
+IsBesideNull (s ∷ u ∷ []) null_first member = (null_first ≡ is_null s) × (member ≡ (if null_first then u else s))
+IsBesideNull _ null_first member = ⊥
 
 abbrev pub plain_fields_of : List AvroField → List Slot → List ℕ
 plain_fields_of [] xs = []

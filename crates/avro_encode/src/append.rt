@@ -1,7 +1,6 @@
 //! Slots of any array.
 ghost use Rattle.std.specs.Prelude.{◌≡◌, ◌+◌, ◌<◌, ◌++◌, length, map, OnOk};
 ghost use Rattle.std.specs.List.{AllByRecursion};
-ghost use Rattle.arrow_core.specs.Errors.{OnlyOutOfMemory};
 ghost use Rattle.arrow_types.specs.declared.slot.Slot.TheVariants as slot;
 ghost use Rattle.arrow_array.specs.Arrays.{array_slots, array_type};
 ghost use Rattle.arrow_array.specs.Kinds.{array_kind};
@@ -12,7 +11,7 @@ ghost use Rattle.arrow_array.specs.Structs.{HaveSlots};
 ghost use Rattle.avro_grammar.specs.Carried.{IsNoUnion};
 ghost use Rattle.avro_grammar.specs.Encodes.{is_null as is_null_schema};
 ghost use Rattle.avro_encode.specs.Flat.{HasNoParts, IsListKind, IsStructKind};
-ghost use Rattle.avro_encode.specs.Listed.{PairsFieldsOf, PairsMemberTypeOf, PairsTypesOf, PairsUnionOf, plain_fields_of, plain_union_of, slots_across};
+ghost use Rattle.avro_encode.specs.Listed.{PairsFieldsOf, PairsMemberTypeOf, PairsTypesOf, PairsUnionOf, IsBesideNull, index_byte, index_of, plain_fields_of, plain_union_of, slots_across};
 ghost use Rattle.avro_encode.specs.Pairs.{IsCounted, Pairs};
 ghost use Rattle.avro_encode.specs.PairTypes.{PairsType};
 ghost use Rattle.avro_encode.specs.Plain.{one_block, parts_of, plain};
@@ -21,29 +20,76 @@ ghost use Rattle.avro_encode.specs.Steps.{PairsList, PairsStruct};
 use crate::flat::append_flat;
 use crate::numbers::append_number;
 use arrow_array::{Array, Part};
-use arrow_core::Result;
 use avro_schema::{AvroField, AvroSchema};
+use std::alloc::AllocError;
 
 /// Whether a schema is null's.
-#[inline]
+#[inline(always)]
 fn is_null(schema: &AvroSchema) -> bool
     ensures { result ≡ is_null_schema schema.now }
 {
     matches!(schema, AvroSchema::Null)
 }
 
+/// Whether null is the first member of a union of two, and the member beside it.
+#[inline(always)]
+fn beside_null(members: &[AvroSchema]) -> (bool, &AvroSchema)
+    requires { length members.now ≡ 2 }
+    ensures { IsBesideNull members.now result.0 result.1.now }
+{
+    let [first, second] = members else {
+        unreachable!()
+    };
+    if is_null(first) {
+        (true, second)
+    } else {
+        (false, first)
+    }
+}
+
+/// The byte of the index at which null stands, or of a value's member beside it.
+#[inline(always)]
+fn index_byte(null_first: bool, held: bool) -> u8
+    ensures { result ≡ index_byte null_first held }
+{
+    if held {
+        if null_first { 2 } else { 0 }
+    } else if null_first {
+        0
+    } else {
+        2
+    }
+}
+
+/// Appends the index at which null stands, or that of a value's member beside it. Each takes one
+/// byte. `AllocError` alone.
+#[inline(always)]
+fn append_index(null_first: bool, held: bool, out: &mut Vec<u8>) -> Result<(), AllocError>
+    ensures ok { OnOk result (out.new.items ≡ out.old.items ++ index_of null_first held) }
+{
+    out.push(index_byte(null_first, held))?;
+    Ok(())
+}
+
 /// Appends the canonical encoding of slot `i` of an array whose type pairs with the schema, where
 /// the slot does too. It takes no memory but the bytes'.
 ///
-/// `OutOfMemory` alone, and then the bytes are only to be dropped.
+/// `AllocError` where there is no memory, and then the bytes are only to be dropped.
+// It is inlined wherever a slot is appended, so that a flat one, beneath a union too, takes no call
+// into the cycle: `append_list` and `append_struct`, which the others go through, are not.
 #[cycle(append)]
-pub fn append_slot(array: &Array, i: usize, schema: &AvroSchema, out: &mut Vec<u8>) -> Result<()>
+#[inline(always)]
+pub fn append_slot(
+    array: &Array,
+    i: usize,
+    schema: &AvroSchema,
+    out: &mut Vec<u8>,
+) -> Result<(), AllocError>
     requires within { i < length (array_slots array.now) }
     requires types { PairsType schema.now (array_type array.now) }
     requires slots { Pairs schema.now (slot_at (array_slots array.now) i) }
     ensures ok { OnOk result (out.new.items
         ≡ out.old.items ++ plain schema.now (slot_at (array_slots array.now) i)) }
-    ensures memory { OnlyOutOfMemory result }
 {
     match schema {
         AvroSchema::Union(members) => append_member(array, i, members.as_slice(), out),
@@ -53,40 +99,43 @@ pub fn append_slot(array: &Array, i: usize, schema: &AvroSchema, out: &mut Vec<u
 
 /// Appends the index of the member in a union, and its value.
 #[cycle(append)]
-fn append_member(array: &Array, i: usize, members: &[AvroSchema], out: &mut Vec<u8>) -> Result<()>
+#[inline(always)]
+fn append_member(
+    array: &Array,
+    i: usize,
+    members: &[AvroSchema],
+    out: &mut Vec<u8>,
+) -> Result<(), AllocError>
     requires within { i < length (array_slots array.now) }
     requires types { PairsMemberTypeOf members.now (array_type array.now) }
     requires slots { PairsUnionOf members.now (slot_at (array_slots array.now) i) }
     ensures ok { OnOk result (out.new.items
         ≡ out.old.items ++ plain_union_of members.now (slot_at (array_slots array.now) i)) }
-    ensures memory { OnlyOutOfMemory result }
 {
-    let [first, second] = members else {
-        unreachable!()
-    };
-    let null_first = is_null(first);
-    if !array.is_valid(i) {
-        return append_number(if null_first { 0 } else { 1 }, out);
+    let (null_first, member) = beside_null(members);
+    let held = array.is_valid(i);
+    append_index(null_first, held, out)?;
+    if !held {
+        return Ok(());
     }
-    if null_first {
-        append_number(1, out)?;
-        append_value(array, i, second, out)
-    } else {
-        append_number(0, out)?;
-        append_value(array, i, first, out)
-    }
+    append_value(array, i, member, out)
 }
 
 /// Appends a slot that isn't null, under a schema that is no union.
 #[cycle(append)]
-fn append_value(array: &Array, i: usize, schema: &AvroSchema, out: &mut Vec<u8>) -> Result<()>
+#[inline(always)]
+fn append_value(
+    array: &Array,
+    i: usize,
+    schema: &AvroSchema,
+    out: &mut Vec<u8>,
+) -> Result<(), AllocError>
     requires within { i < length (array_slots array.now) }
     requires no_union { IsNoUnion schema.now }
     requires types { PairsType schema.now (array_type array.now) }
     requires slots { Pairs schema.now (slot_at (array_slots array.now) i) }
     ensures ok { OnOk result (out.new.items
         ≡ out.old.items ++ plain schema.now (slot_at (array_slots array.now) i)) }
-    ensures memory { OnlyOutOfMemory result }
 {
     // It tells how slots of the type lie in memory.
     let _ = array.data_type();
@@ -98,8 +147,13 @@ fn append_value(array: &Array, i: usize, schema: &AvroSchema, out: &mut Vec<u8>)
 }
 
 /// Appends a slot that isn't null, under a schema without others in it.
-#[inline]
-fn append_plain(array: &Array, i: usize, schema: &AvroSchema, out: &mut Vec<u8>) -> Result<()>
+#[inline(always)]
+fn append_plain(
+    array: &Array,
+    i: usize,
+    schema: &AvroSchema,
+    out: &mut Vec<u8>,
+) -> Result<(), AllocError>
     requires within { i < length (array_slots array.now) }
     requires flat { HasNoParts schema.now }
     requires kind { IsOfKind (array_kind array.now) (array_type array.now) }
@@ -107,20 +161,24 @@ fn append_plain(array: &Array, i: usize, schema: &AvroSchema, out: &mut Vec<u8>)
     requires slots { Pairs schema.now (slot_at (array_slots array.now) i) }
     ensures ok { OnOk result (out.new.items
         ≡ out.old.items ++ plain schema.now (slot_at (array_slots array.now) i)) }
-    ensures memory { OnlyOutOfMemory result }
 {
     append_flat(array, i, out)
 }
 
 /// Appends a list.
 #[cycle(append)]
-fn append_list(array: &Array, i: usize, item: &AvroSchema, out: &mut Vec<u8>) -> Result<()>
+#[inline(never)]
+fn append_list(
+    array: &Array,
+    i: usize,
+    item: &AvroSchema,
+    out: &mut Vec<u8>,
+) -> Result<(), AllocError>
     requires within { i < length (array_slots array.now) }
     requires kind { IsListKind (array_kind array.now) }
     requires pairs { PairsList item.now array.now (slot_at (array_slots array.now) i) }
     ensures ok { OnOk result (out.new.items
         ≡ out.old.items ++ one_block (plain item.now) (parts_of (slot_at (array_slots array.now) i))) }
-    ensures memory { OnlyOutOfMemory result }
 {
     match array {
         Array::List(array) => append_items(&array.value(i), item, out),
@@ -131,14 +189,13 @@ fn append_list(array: &Array, i: usize, item: &AvroSchema, out: &mut Vec<u8>) ->
 
 /// Appends the items of a list as one block, and the end of blocks.
 #[cycle(append)]
-fn append_items(part: &Part<'_>, item: &AvroSchema, out: &mut Vec<u8>) -> Result<()>
+fn append_items(part: &Part<'_>, item: &AvroSchema, out: &mut Vec<u8>) -> Result<(), AllocError>
     requires part { IsPart part.now }
     requires types { PairsType item.now (array_type part.now.array.now) }
     requires counted { IsCounted (part_slots part.now) }
     requires slots { AllByRecursion (Pairs item.now) (part_slots part.now) }
     ensures ok { OnOk result (out.new.items
         ≡ out.old.items ++ one_block (plain item.now) (part_slots part.now)) }
-    ensures memory { OnlyOutOfMemory result }
 {
     let count = part.end - part.start;
     if count > 0 {
@@ -152,13 +209,18 @@ fn append_items(part: &Part<'_>, item: &AvroSchema, out: &mut Vec<u8>) -> Result
 
 /// Appends a struct.
 #[cycle(append)]
-fn append_struct(array: &Array, i: usize, fields: &[AvroField], out: &mut Vec<u8>) -> Result<()>
+#[inline(never)]
+fn append_struct(
+    array: &Array,
+    i: usize,
+    fields: &[AvroField],
+    out: &mut Vec<u8>,
+) -> Result<(), AllocError>
     requires within { i < length (array_slots array.now) }
     requires kind { IsStructKind (array_kind array.now) }
     requires pairs { PairsStruct fields.now array.now (slot_at (array_slots array.now) i) }
     ensures ok { OnOk result (out.new.items
         ≡ out.old.items ++ plain_fields_of fields.now (parts_of (slot_at (array_slots array.now) i))) }
-    ensures memory { OnlyOutOfMemory result }
 {
     match array {
         Array::Struct(array) => append_fields(array.values(), i, fields, out),
@@ -173,13 +235,12 @@ fn append_fields(
     i: usize,
     fields: &[AvroField],
     out: &mut Vec<u8>,
-) -> Result<()>
+) -> Result<(), AllocError>
     requires within { HaveSlots (i + 1) children.now }
     requires types { PairsTypesOf fields.now (map array_type children.now) }
     requires slots { PairsFieldsOf fields.now (slots_across children.now i) }
     ensures ok { OnOk result (out.new.items
         ≡ out.old.items ++ plain_fields_of fields.now (slots_across children.now i)) }
-    ensures memory { OnlyOutOfMemory result }
 {
     for k in 0..fields.len() {
         append_slot(&children[k], i, &fields[k].schema, out)?;

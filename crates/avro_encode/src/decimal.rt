@@ -1,11 +1,10 @@
 //! Decimals (Avro 1.11, "Decimal").
 ghost use Rattle.std.specs.Prelude.{◌≡◌, ◌<◌, ◌-◌, ◌≤◌, ◌++◌, ◌^◌, length, drop, OnOk};
-ghost use Rattle.arrow_core.specs.Errors.{OnlyOutOfMemory};
 ghost use Rattle.avro_encode.specs.Decimals.{high_first, even_size, decimal};
 ghost use Rattle.avro_encode.specs.Plain.{counted};
 
 use crate::numbers::append_counted;
-use arrow_core::Result;
+use std::alloc::AllocError;
 
 /// How many bytes a positive decimal takes: the least even number that leaves its top bit clear.
 fn even_size(number: u128) -> usize
@@ -47,10 +46,9 @@ fn high_first(number: u128, size: usize) -> [u8; 16]
     bytes
 }
 
-/// Appends the bytes of a decimal after their length. `OutOfMemory` alone.
-pub(crate) fn append_decimal(number: i128, out: &mut Vec<u8>) -> Result<()>
+/// Appends the bytes of a decimal after their length. `AllocError` alone.
+pub(crate) fn append_decimal(number: i128, out: &mut Vec<u8>) -> Result<(), AllocError>
     ensures ok { OnOk result (out.new.items ≡ out.old.items ++ counted (decimal number)) }
-    ensures memory { OnlyOutOfMemory result }
 {
     if number == 0 {
         return append_counted(&[], out);

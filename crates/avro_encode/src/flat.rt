@@ -1,6 +1,5 @@
 //! Slots with nothing beneath them.
-ghost use Rattle.std.specs.Prelude.{◌≡◌, ◌<◌, ◌++◌, length, IsTrue, OnOk};
-ghost use Rattle.arrow_core.specs.Errors.{OnlyOutOfMemory};
+ghost use Rattle.std.specs.Prelude.{◌≡◌, ◌<◌, ◌++◌, ◌∷◌, [], cond, length, IsTrue, OnOk};
 ghost use Rattle.arrow_array.specs.Arrays.{array_slots};
 ghost use Rattle.arrow_array.specs.Kinds.{array_kind};
 ghost use Rattle.arrow_array.specs.Slots.{is_held, slot_at};
@@ -12,34 +11,45 @@ use crate::decimal::append_decimal;
 use crate::duration::append_duration;
 use crate::numbers::{append_bytes, append_counted, append_number};
 use arrow_array::{Array, PrimitiveArray};
-use arrow_core::Result;
 use arrow_types::MonthsDaysNs;
+use std::alloc::AllocError;
 
-/// Appends an interval, which isn't null. `OutOfMemory` alone.
-fn append_interval(array: &PrimitiveArray<MonthsDaysNs>, i: usize, out: &mut Vec<u8>) -> Result<()>
+/// Appends an interval, which isn't null. `AllocError` alone.
+fn append_interval(
+    array: &PrimitiveArray<MonthsDaysNs>,
+    i: usize,
+    out: &mut Vec<u8>,
+) -> Result<(), AllocError>
     requires within { i < length array.now.slots }
     requires fits { PairsDuration (slot_at array.now.slots i) }
     ensures ok { OnOk result (out.new.items
         ≡ out.old.items ++ plain_duration (parts_of (slot_at array.now.slots i))) }
-    ensures memory { OnlyOutOfMemory result }
 {
     let interval = array.value(i);
     append_duration(interval.months, interval.days, interval.ns, out)
 }
 
-/// Appends slot `i` of the array, which isn't null, by the array's kind alone. `OutOfMemory` alone.
-#[inline]
-pub(crate) fn append_flat(array: &Array, i: usize, out: &mut Vec<u8>) -> Result<()>
+/// Appends the byte of a boolean. `AllocError` alone.
+#[inline(always)]
+fn append_boolean(value: bool, out: &mut Vec<u8>) -> Result<(), AllocError>
+    ensures ok { OnOk result (out.new.items ≡ out.old.items ++ cond value 1 0 ∷ []) }
+{
+    out.push(u8::from(value))?;
+    Ok(())
+}
+
+/// Appends slot `i` of the array, which isn't null, by the array's kind alone. `AllocError` alone.
+#[inline(always)]
+pub(crate) fn append_flat(array: &Array, i: usize, out: &mut Vec<u8>) -> Result<(), AllocError>
     requires within { i < length (array_slots array.now) }
     requires held { IsTrue (is_held (slot_at (array_slots array.now) i)) }
     requires kind { IsFlatKind (array_kind array.now) }
     requires fits { FitsFlat (array_kind array.now) (slot_at (array_slots array.now) i) }
     ensures ok { OnOk result (out.new.items
         ≡ out.old.items ++ flat_plain (array_kind array.now) (slot_at (array_slots array.now) i)) }
-    ensures memory { OnlyOutOfMemory result }
 {
     match array {
-        Array::Boolean(array) => append_bytes(&[u8::from(array.value(i))], out),
+        Array::Boolean(array) => append_boolean(array.value(i), out),
         Array::Int32(array) => append_number(array.value(i) as i64, out),
         Array::Int64(array) => append_number(array.value(i), out),
         Array::Int128(array) => append_decimal(array.value(i), out),

@@ -10,4 +10,4 @@ mod laws;
 mod numbers;
 
 pub use append::append_slot;
-pub use laws::canonical_encoding;
+pub use laws::{canonical_encoding, decimal_sizes};

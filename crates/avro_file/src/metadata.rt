@@ -58,7 +58,7 @@ fn read_root(alloc: Global, text: &[u8]) -> Result<Record>
 /// `NotYetImplemented(RootNotRecord)` where the schema is no record. `OutOfMemory` may come at any
 /// time. An error is answered before any byte is taken past the part that shows it, and no byte is
 /// taken past the header. The buffer is filled in pieces of at most 65536 bytes, each asked for once
-/// the ones before it were read; no clause says so.
+/// the ones before it were read; no clause says so, since the buffer is its own, and dropped at last.
 pub fn read_metadata<S: Source>(
     alloc: Global,
     source: &mut S,

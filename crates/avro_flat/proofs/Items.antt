@@ -1,5 +1,5 @@
 -- One step of reading items.
-use Rattle.std.proofs.Common.{◌≡◌, ℕ, zero, suc, List, Option, Some, None, refl, sym}
+use Rattle.std.proofs.Common.{◌≡◌, ℕ, zero, suc, List, Option, Some, None, sym}
 use Rattle.arrow_types.specs.declared.slot.Slot.{Slot}
 use Rattle.avro_reference.specs.Prefix.{Reader}
 use Rattle.avro_reference.specs.Read.{push_one, items}

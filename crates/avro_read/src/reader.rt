@@ -1,6 +1,6 @@
 //! The blocks of a file as chunks, one after another.
 
-ghost use Rattle.std.specs.Prelude.{◌≡◌, ◌≢◌, ◌⊎◌, length, None, Some, OnOk, IfOk, IfErr, IfSome, IsOk};
+ghost use Rattle.std.specs.Prelude.{◌≡◌, ◌≢◌, ◌⊎◌, ◌<◌, ◌≤◌, length, None, Some, OnOk, IfOk, IfErr, IfSome, IsOk};
 ghost use Rattle.std.specs.Option.{ForNone};
 ghost use Rattle.arrow_core.specs.declared.error.Error.TheVariants.{OutOfMemory};
 ghost use Rattle.avro_schema.specs.declared.schema.Record.{out-Record};
@@ -115,6 +115,10 @@ impl<S: Source> Reader<S> {
         ensures next { IsOpen self.old → Next (projected_of self.old) (marker_of self.old)
             (state_of S.left S.faults self.old) (state_of S.left S.faults self.new) result }
         ensures open { IsOpen self.old → IfSome result (λ answer. IsOk answer → IsOpen self.new) }
+        // A block has a byte at least.
+        ensures fewer { IfSome result
+            (λ answer. IsOk answer → limit_of self.new < limit_of self.old) }
+        ensures never_falls { S.faults (source_of self.old) ≤ S.faults (source_of self.new) }
         ensures now { IsOpen self.old → reader_failure self.new ≡ error_in result }
         ensures none { result ≡ None → HasEnded self.new ⊎ (reader_failure self.old ≢ None) }
         ensures projected { projected_of self.new ≡ projected_of self.old }

@@ -1,7 +1,9 @@
 -- Flat values that are skipped, as the code passes them.
-use Rattle.std.proofs.Common.{◌≡◌, ℕ, ◌+◌, ◌-◌, ◌<◌, ◌≤◌, ℤ, pos, negsuc, List, length, Option, Some, None, Result, Ok, Err, refl, ap, ◌∙◌, arith}
+use Rattle.std.proofs.Common.{◌≡◌, ℕ, ◌+◌, ◌-◌, ◌<◌, ◌≤◌, ℤ, pos, negsuc, List, [], ◌∷◌, length, Option, Some, None, Result, Ok, Err, refl, ap, ◌∙◌, arith}
 use Rattle.std.specs.Prelude.{OnOk}
 use Rattle.std.proofs.lemmas.Option.{some_pair_parts}
+use Rattle.std.proofs.lemmas.Bool.{le-ltb}
+use Rattle.avro_schema.specs.Counts.{risen}
 use Rattle.avro_schema.specs.declared.schema.Schema.{Schema}
 use Rattle.avro_grammar.specs.AndThen.{◌>>=◌}
 use Rattle.avro_grammar.specs.Encodes.{IsNull}
@@ -38,6 +40,21 @@ module _ {X Y : Type 0} (rest : X → List ℕ) (shown calls : X → ℕ) where
   pub raw_shorter : (n : ℕ) (x y : X) (r : Result Y SkipFault) → 0 < n → OnOk r (length (rest y) + n ≡ length (rest x)) → OnOk r (length (rest y) < length (rest x))
   raw_shorter n x y (Ok z) some d = omega (arith, some, d)
   raw_shorter n x y (Err k) some d = tt
+
+-- ---- a byte
+
+module _ {X : Type 0} (rest : X → List ℕ) (shown calls : X → ℕ) where
+  pub byte_passes : (x y : X) (b : ℕ) → rest x ≡ b ∷ rest y → shown y ≡ risen (shown x) 1 → calls y ≡ risen (calls x) 1 → (p : Passed) × (skip_raw 1 1 (rest x) ≡ Ok (p, rest y)) × Costs rest shown calls x y p.seen p.hidden
+  unfolding skip_raw jump_at
+  byte_passes x y b e s c = (
+    seen_only 1,
+    rw (e, le-ltb (length (b ∷ rest y)) 1 (omega arith)) refl,
+    record { few_shown = omega (arith, s); few_calls = omega (arith, ap length e, c) },
+  )
+
+pub byte_bad : (bytes : List ℕ) → bytes ≡ [] → skip_raw 1 1 bytes ≡ Err Bad
+unfolding skip_raw jump_at
+byte_bad bytes e = rw e refl
 
 -- ---- a length and so many bytes
 

@@ -2,7 +2,7 @@
 
 ghost use Rattle.std.specs.Prelude.{◌≡◌, ◌+◌, ◌<◌, ◌≤◌, length, Some, None, MatchResult, OnOk};
 ghost use Rattle.avro_grammar.specs.Skips.{fixed_size as fixed_size_of};
-ghost use Rattle.avro_reference.specs.Skip.{skip, jump_at, skip_number as skip_number_at, skip_sized as skip_sized_at};
+ghost use Rattle.avro_reference.specs.Skip.{skip, jump_at, skip_raw, skip_number as skip_number_at, skip_sized as skip_sized_at};
 ghost use Rattle.avro_reference.specs.Costs.{Moves};
 ghost use Rattle.avro_reference.specs.Lengths.{as_length};
 ghost use Rattle.avro_skip.specs.Skipping.{IsCarriedFlat, Passes, PassesMore, Jumps, sized_items_at};
@@ -25,7 +25,7 @@ pub fn skip_flat<A: Ahead>(cursor: &mut A, schema: &AvroSchema) -> Result<(), Sk
         (skip schema.now (A.rest cursor.old)) }
 {
     match schema {
-        AvroSchema::Boolean => skip_bytes(cursor, 1),
+        AvroSchema::Boolean => skip_byte(cursor),
         AvroSchema::Int(_) | AvroSchema::Long(_) | AvroSchema::Enum(_) => skip_number(cursor),
         AvroSchema::Float => skip_bytes(cursor, 4),
         AvroSchema::Double => skip_bytes(cursor, 8),
@@ -104,6 +104,22 @@ fn block_size(size: i64) -> Result<usize, SkipFault>
     match usize::try_from(size) {
         Ok(length) => Ok(length),
         Err(_) => Err(SkipFault::NegativeSize),
+    }
+}
+
+/// Skips a boolean, which is one byte: to look at it costs less than to pass it unseen.
+#[inline(always)]
+#[tactic(auto, using(crate::proofs::Sets::bytes))]
+fn skip_byte<A: Ahead>(cursor: &mut A) -> Result<(), SkipFault>
+    ensures same { A.whose cursor.new ≡ A.whose cursor.old }
+    ensures moves { Moves A.rest A.calls cursor.old cursor.new }
+    ensures shorter { OnOk result (length (A.rest cursor.new) < length (A.rest cursor.old)) }
+    ensures passes { Passes A.rest A.shown A.calls cursor.old cursor.new result
+        (skip_raw 1 1 (A.rest cursor.old)) }
+{
+    match cursor.byte() {
+        Some(_) => Ok(()),
+        None => Err(SkipFault::Bytes),
     }
 }
 

@@ -1,7 +1,9 @@
+pub mod CleanColumns
 pub mod Columns
 pub mod Flawed
-pub mod Moves
+pub mod Items
 pub mod Paired
+pub mod RowsLaw
 pub mod Serializable
 pub mod TableLaw
 pub mod TypePairs

@@ -4,6 +4,8 @@ use Rattle.std.proofs.lemmas.Bool.{and_parts, false≢true}
 use Rattle.std.proofs.lemmas.Option.{none-some, same_Some}
 use Rattle.arrow_types.specs.declared.types.DataType.{DataType, Row_of-Field, end_of-Field, more_of-Field}
 use Rattle.arrow_types.specs.declared.types.DataType as types
+use Rattle.arrow_types.specs.declared.types.Field.{Field}
+use Rattle.std.specs.List.{AllByRecursion}
 use Rattle.arrow_types.specs.declared.types.TimeUnit.TheVariants as unit
 use Rattle.arrow_types.specs.declared.types.IntervalUnit.TheVariants as interval
 use Rattle.avro_schema.specs.declared.schema.AvroField.{AvroField}
@@ -13,14 +15,14 @@ use Rattle.avro_grammar.specs.AndThen.{◌>>=◌}
 use Rattle.avro_grammar.specs.Carried.{IsNoUnion}
 use Rattle.avro_grammar.proofs.Basics.{bind_some}
 use Rattle.avro_record.specs.Listed.{named_all}
-use Rattle.avro_record.specs.Named.{named, named_record, nameless_in}
-use Rattle.avro_record.specs.Schemas.{can_serialize, can_serialize_row, has_field, item_schema, optional, plain_field, plain_record, record_name, row_schemas, schema_of, structs_in, timestamp}
+use Rattle.avro_record.specs.Named.{named, named_record, named_root, nameless_in}
+use Rattle.avro_record.specs.Schemas.{can_serialize, can_serialize_row, column_schema, columns_fields, has_field, item_schema, optional, plain_field, plain_record, record_name, row_schemas, schema_of, structs_in, timestamp}
 use Rattle.avro_record.proofs.Renamed.{array_named, record_named, union_named}
-use Rattle.avro_encode.specs.Listed.{PairsItemOf, PairsListOf, PairsTypesOf}
+use Rattle.avro_encode.specs.Listed.{PairsColumns, PairsItemOf, PairsListOf, PairsTypesOf}
 use Rattle.avro_encode.specs.PairTypes.{PairsType, first_type, row_types}
 use Rattle.avro_encode.proofs.ByLists.{moved}
 use Rattle.avro_encode.proofs.TypesByLists.{array_type_is, record_type_is, union_type_is}
-use Rattle.avro_write.specs.Laws.{SerializablePairs}
+use Rattle.avro_write.specs.Laws.{RecordPairs, SerializablePairs}
 
 -- a schema of a type that can be serialized, and what it is once its fixed types have names
 record Paired (s : Schema) (t : DataType) : Type 0 where
@@ -122,3 +124,37 @@ mutual
 
 pub serializable_pairs : SerializablePairs
 serializable_pairs b null k n t s e h = let p = pair b k t s e h in (optional_types b null s t p, optional_named b null n s t p)
+
+-- ---- the record of columns
+
+abbrev CanAll : List Field → Type 0
+CanAll = AllByRecursion (λ f. can_serialize f.data_type ≡ true)
+
+columns_pair : (b : Bool) (k : ℕ) (columns : List Field) (fs : List AvroField) → columns_fields b k columns ≡ Some fs → CanAll columns → PairsColumns fs columns × ((n : ℕ) → PairsColumns (named_all n fs) columns)
+columns_pair b k [] fs e h =
+    let same = same_Some _ fs e in (subst (λ (gs : List AvroField). PairsColumns gs []) same tt, λ n. subst (λ (gs : List AvroField). PairsColumns (named_all n gs) []) same tt)
+columns_pair b k (f ∷ rest) fs e h =
+    let q = bind_some (column_schema b k f) (λ s. columns_fields b (k + structs_in f.data_type) rest >>= λ more. Some (plain_field f.name s ∷ more)) fs e in
+    let r = bind_some (columns_fields b (k + structs_in f.data_type) rest) (λ more. Some (plain_field f.name q.0 ∷ more)) fs q.2 in
+    let made_of = bind_some (schema_of b k f.data_type) (λ s. Some (optional b f.is_nullable s)) q.0 q.1 in
+    let p = pair b k f.data_type made_of.0 made_of.1 h.0 in
+    let is = same_Some _ q.0 made_of.2 in
+    let more = columns_pair b (k + structs_in f.data_type) rest r.0 r.1 h.1 in
+    let same = same_Some _ fs r.2 in (
+      subst (λ (gs : List AvroField). PairsColumns gs (f ∷ rest)) same (subst (λ z. PairsType z f.data_type) is (optional_types b f.is_nullable made_of.0 f.data_type p), more.0),
+      λ n. subst (λ (gs : List AvroField). PairsColumns (named_all n gs) (f ∷ rest)) same
+          (subst (λ z. PairsType (named n z) f.data_type) is (optional_named b f.is_nullable n made_of.0 f.data_type p), more.1 (n + nameless_in q.0)),
+    )
+
+-- the fields of a record, and those once its fixed types have names
+root_fields : (name : List ℕ) (fs : List AvroField) → (out-Record (named_root name (plain_record [] fs))).fields ≡ named_all 0 fs
+root_fields name fs = ap (λ o. o.fields) (out-roll-Record _) ∙ named_fields_are 0 [] fs
+
+pub record_pairs : RecordPairs
+record_pairs b columns r e h =
+    let q = bind_some (columns_fields b 0 columns) (λ fs. Some (plain_record [] fs)) r e in
+    let p = columns_pair b 0 columns q.0 q.1 h in
+    let same = same_Some _ r q.2 in (
+      subst (λ z. PairsColumns (out-Record z).fields columns) same (subst (λ (fs : List AvroField). PairsColumns fs columns) (sym (ap (λ o. o.fields) (out-roll-Record _))) p.0),
+      λ name. subst (λ z. PairsColumns (out-Record (named_root name z)).fields columns) same (subst (λ (fs : List AvroField). PairsColumns fs columns) (sym (root_fields name q.0)) (p.1 0)),
+    )

@@ -1,15 +1,11 @@
 -- The rows of several serializers.
-use Rattle.std.specs.Prelude.{ℕ, zero, suc, List, [], ◌++◌, map, drop, flat_map, slice_index_or}
+use Rattle.std.specs.Prelude.{ℕ, List, [], flat_map, slice_index_or}
+use Rattle.std.specs.List.{range_with_len}
 
--- the first item of a column, if there is one
-abbrev pub first : List (List ℕ) → List ℕ
-first column = slice_index_or column 0 []
+-- row i: item i of each column, in order
+abbrev pub row : ℕ → List (List (List ℕ)) → List ℕ
+row i columns = flat_map (λ column. slice_index_or column i []) columns
 
--- one row: the first item of each column, in order
-abbrev pub row : List (List (List ℕ)) → List ℕ
-row columns = flat_map first columns
-
--- n rows: one, and then the rows of what is left of each column
+-- n rows, one after another
 abbrev pub rows : ℕ → List (List (List ℕ)) → List ℕ
-rows zero columns = []
-rows (suc n) columns = row columns ++ rows n (map (drop 1) columns)
+rows n columns = flat_map (λ i. row i columns) (range_with_len 0 n)

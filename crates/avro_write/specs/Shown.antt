@@ -1,10 +1,11 @@
 -- Which flaws the members of a union and the fields of a record show, in terms of the lists that code sees, and
 -- which kinds of arrays hold intervals. Private contracts alone cite these.
-use Rattle.std.specs.Prelude.{Bool, false, ◌||◌, List, [], ◌∷◌, if◌then◌else◌}
+use Rattle.std.specs.Prelude.{◌≡◌, ℕ, ◌<◌, Bool, true, false, ◌||◌, List, [], ◌∷◌, length, if◌then◌else◌}
 use Rattle.arrow_types.specs.declared.physical.PhysicalType.{PhysicalType}
 use Rattle.arrow_types.specs.declared.physical.PhysicalType.TheVariants as physical
 use Rattle.arrow_types.specs.declared.physical.PrimitiveType.TheVariants as primitive
 use Rattle.arrow_types.specs.declared.slot.Slot.{Slot}
+use Rattle.arrow_array.specs.Slots.{is_held, slot_at}
 use Rattle.avro_schema.specs.declared.schema.AvroField.{AvroField}
 use Rattle.avro_schema.specs.declared.schema.Schema.{Schema}
 use Rattle.avro_grammar.specs.Encodes.{is_null}
@@ -23,3 +24,11 @@ fields_show_of f (a ∷ fields) (x ∷ xs) = shows f a.schema x || fields_show_o
 abbrev pub IsIntervalKind : PhysicalType → Type 0
 IsIntervalKind (physical.Primitive primitive.MonthDayNano) = Unit {0}
 IsIntervalKind _ = ⊥
+
+-- each slot has P
+abbrev pub EachSlot : List Slot → (Slot → Type 0) → Type 0
+EachSlot slots P = (i : ℕ) → i < length slots → P (slot_at slots i)
+
+-- no slot but a null passes a test
+abbrev pub NoValueShows : (Slot → Bool) → List Slot → Type 0
+NoValueShows p slots = EachSlot slots (λ x. is_held x ≡ true → p x ≡ false)

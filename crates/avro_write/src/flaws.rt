@@ -17,6 +17,7 @@ ghost use Rattle.avro_encode.specs.Plain.{parts_of};
 ghost use Rattle.avro_write.specs.Flaws.{column_shows as column_shows_of, fixed_flaw, has_whole, is_whole as is_whole_of, null_flaw, shows as shows_of};
 ghost use Rattle.avro_write.specs.Shown.{IsIntervalKind, fields_show_of, member_shows_of};
 
+use crate::clean::is_clean;
 use arrow_array::{Array, Part, PrimitiveArray};
 use arrow_types::MonthsDaysNs;
 use avro_schema::{AvroField, AvroSchema, Fixed, FixedLogical};
@@ -38,7 +39,7 @@ fn is_null_flaw(flaw: Flaw) -> bool
 }
 
 /// Whether a schema is null's.
-fn is_null(schema: &AvroSchema) -> bool
+pub(crate) fn is_null(schema: &AvroSchema) -> bool
     ensures { result ≡ is_null_schema schema.now }
 {
     matches!(schema, AvroSchema::Null)
@@ -49,6 +50,9 @@ pub(crate) fn column_shows(array: &Array, schema: &AvroSchema, flaw: Flaw) -> bo
     requires types { PairsType schema.now (array_type array.now) }
     ensures { result ≡ column_shows_of flaw schema.now array.now }
 {
+    if is_clean(array, schema, flaw) {
+        return false;
+    }
     for i in 0..array.len() {
         if shows(array, i, schema, flaw) {
             return true;

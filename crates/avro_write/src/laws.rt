@@ -1,5 +1,5 @@
 //! Laws of the pairs of columns and schemas.
-ghost use Rattle.avro_write.specs.Laws.{SerializablePairs, TableEncodes, TableTells};
+ghost use Rattle.avro_write.specs.Laws.{RecordPairs, RowsAreTable, RowsEncode, SerializablePairs, TableEncodes, TableTells};
 
 /// Where `can_serialize` is true of a type, it pairs with the schema that `to_record_with` gives a
 /// column of it, and with what `name_types` makes of that. So `new_serializer` refuses an array of
@@ -9,6 +9,8 @@ ghost use Rattle.avro_write.specs.Laws.{SerializablePairs, TableEncodes, TableTe
 /// The function does nothing: its contract is the law.
 pub fn serializable_pairs()
     ensures law { SerializablePairs }
+    // The same of the fields of the record that it gives for columns, in order.
+    ensures columns { RecordPairs }
 {}
 
 /// The canonical encodings of rows, one after another, are those rows by the grammar; so equal bytes
@@ -18,4 +20,13 @@ pub fn serializable_pairs()
 pub fn canonical_tables()
     ensures encodes { TableEncodes }
     ensures tells { TableTells }
+{}
+
+/// What `serialize` makes of serializers of columns, each with all of its items left, are the
+/// canonical encodings of the table of those columns; so they are that table's rows by the grammar.
+///
+/// The function does nothing: its contract is the law.
+pub fn serialized_tables()
+    ensures table { RowsAreTable }
+    ensures encodes { RowsEncode }
 {}

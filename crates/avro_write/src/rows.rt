@@ -1,39 +1,53 @@
 //! Rows of several columns.
-ghost use Rattle.std.specs.Prelude.{◌≡◌, ◌<◌, ◌++◌, [], length, OnOk, OnErr, map, drop, All};
+ghost use Rattle.std.specs.Prelude.{◌≡◌, ◌<◌, ◌++◌, [], length, OnOk, OnErr, map, All};
 ghost use Rattle.arrow_core.specs.Errors.{OnlyOutOfMemory};
 ghost use Rattle.avro_write.specs.Rows.{row, rows};
 
 use crate::serializer::BoxSerializer;
-use arrow_core::Result;
+use arrow_core::{Error, Result};
 use avro_schema::Block;
+use std::alloc::AllocError;
 
-/// Appends one row: the next item of each serializer, in order.
-fn append_row(serializers: &mut [BoxSerializer<'_>], out: &mut Vec<u8>) -> Result<()>
-    requires left { All (λ s. 0 < length s.left) serializers.old }
+/// Appends row `i`: that item of each serializer, in order. `AllocError` alone.
+#[inline(always)]
+fn append_row(
+    serializers: &[BoxSerializer<'_>],
+    i: usize,
+    out: &mut Vec<u8>,
+) -> std::result::Result<(), AllocError>
+    requires left { All (λ s. i < length s.left) serializers.now }
     ensures ok { OnOk result (out.new.items
-        ≡ out.old.items ++ row (map (λ s. s.left) serializers.old)) }
-    ensures rest { OnOk result (map (λ s. s.left) serializers.new
-        ≡ map (drop 1) (map (λ s. s.left) serializers.old)) }
-    ensures memory { OnlyOutOfMemory result }
+        ≡ out.old.items ++ row i (map (λ s. s.left) serializers.now)) }
 {
     for k in 0..serializers.len() {
-        serializers[k].append_next(out)?;
+        serializers[k].append_item(i, out)?;
     }
     Ok(())
 }
 
-/// Appends so many rows.
-fn append_rows(serializers: &mut [BoxSerializer<'_>], count: usize, out: &mut Vec<u8>) -> Result<()>
-    requires left { All (λ s. length s.left ≡ count) serializers.old }
+/// Appends so many rows. `AllocError` alone.
+fn append_rows(
+    serializers: &[BoxSerializer<'_>],
+    count: usize,
+    out: &mut Vec<u8>,
+) -> std::result::Result<(), AllocError>
+    requires left { All (λ s. length s.left ≡ count) serializers.now }
     ensures ok { OnOk result (out.new.items
-        ≡ out.old.items ++ rows count (map (λ s. s.left) serializers.old)) }
-    ensures rest { OnOk result (All (λ s. s.left ≡ []) serializers.new) }
-    ensures memory { OnlyOutOfMemory result }
+        ≡ out.old.items ++ rows count (map (λ s. s.left) serializers.now)) }
 {
     for i in 0..count {
-        append_row(serializers, out)?;
+        append_row(serializers, i, out)?;
     }
     Ok(())
+}
+
+/// Leaves no item to be shown.
+fn end_all(serializers: &mut [BoxSerializer<'_>])
+    ensures { All (λ s. s.left ≡ []) serializers.new }
+{
+    for k in 0..serializers.len() {
+        serializers[k].end();
+    }
 }
 
 /// Fills a block with the rows that serializers show, each row in the order of the serializers, in
@@ -51,9 +65,14 @@ pub fn serialize(serializers: &mut [BoxSerializer<'_>], block: &mut Block) -> Re
     ensures memory { OnlyOutOfMemory result }
 {
     block.bytes.clear();
-    let answer = append_rows(serializers, block.number_of_rows, block.bytes.as_mut_vec());
-    if answer.is_err() {
-        block.bytes.clear();
+    match append_rows(serializers, block.number_of_rows, block.bytes.as_mut_vec()) {
+        Ok(()) => {
+            end_all(serializers);
+            Ok(())
+        }
+        Err(_) => {
+            block.bytes.clear();
+            Err(Error::OutOfMemory)
+        }
     }
-    answer
 }

@@ -1,11 +1,10 @@
 //! The canonical encodings of an array's slots, one after another.
-ghost use Rattle.std.specs.Prelude.{◌≡◌, ◌<◌, ◌++◌, ℕ, List, [], Option, Some, None, Result, length, map, drop, All, IfErr, IfOk, OnErr, OnOk};
+ghost use Rattle.std.specs.Prelude.{◌≡◌, ◌<◌, ◌++◌, ℕ, List, [], Option, Some, None, Result, length, map, drop, slice_index_or, All, IfErr, IfOk, OnErr, OnOk};
 ghost use Rattle.arrow_core.specs.Errors.{OnlyOutOfMemory};
 ghost use Rattle.arrow_array.specs.Arrays.{array_slots};
 ghost use Rattle.avro_encode.specs.Pairs.{Pairs};
 ghost use Rattle.avro_encode.specs.Plain.{plain};
 ghost use Rattle.avro_write.specs.Flaws.{IsAccepted, IsRefused};
-ghost use Rattle.avro_write.specs.Rows.{first};
 
 use crate::flaws::{Flaw, column_shows};
 use crate::pairs::pairs;
@@ -14,7 +13,7 @@ use arrow_core::{Error, Reason, Result};
 use avro_encode::append_slot;
 use avro_schema::AvroSchema;
 use lending::StreamingIterator;
-use std::alloc::Global;
+use std::alloc::{AllocError, Global};
 use std::marker::Model;
 
 /// Shows the canonical encodings of an array's slots under a schema, one after another, from a
@@ -91,22 +90,29 @@ impl<'a> BoxSerializer<'a> {
         self.array.len() - self.next
     }
 
-    /// Appends the next item, in place of showing it. After an error there is no further item.
+    /// Appends the item before which `k` others are still to be shown, and shows none.
     ///
-    /// `OutOfMemory` alone.
-    #[inline]
-    pub(crate) fn append_next(&mut self, out: &mut Vec<u8>) -> Result<()>
-        requires left { 0 < length self.old.left }
-        ensures ok { OnOk result (out.new.items ≡ out.old.items ++ first self.old.left) }
-        ensures rest { OnOk result (self.new.left ≡ drop 1 self.old.left) }
-        ensures none { OnErr result (self.new.left ≡ []) }
-        ensures memory { OnlyOutOfMemory result }
+    /// `AllocError` alone.
+    #[inline(always)]
+    pub(crate) fn append_item(
+        &self,
+        k: usize,
+        out: &mut Vec<u8>,
+    ) -> std::result::Result<(), AllocError>
+        requires left { k < length self.now.left }
+        ensures ok { OnOk result (out.new.items
+            ≡ out.old.items ++ slice_index_or self.now.left k []) }
     {
-        let index = self.next;
+        // It tells that the index is a number.
+        let _ = self.array.len();
+        append_slot(self.array, self.next + k, &self.schema, out)
+    }
+
+    /// Leaves no item to be shown. What is shown stays.
+    pub(crate) fn end(&mut self)
+        ensures { self.new.left ≡ [] }
+    {
         self.next = self.array.len();
-        append_slot(self.array, index, &self.schema, out)?;
-        self.next = index + 1;
-        Ok(())
     }
 }
 

@@ -8,7 +8,7 @@ use Rattle.avro_grammar.specs.ValidBlock.{kept}
 use Rattle.avro_decode.specs.Columns.{AreColumns, kept_types}
 use Rattle.avrocat.specs.Shown.{shown}
 use Rattle.avrocat.specs.declared.command.BlockWords.{BlockWords}
-use Rattle.avrocat.specs.Blocks.{IsValid, ShowsBlock}
+use Rattle.avrocat.specs.Blocks.{IsValid, ShowsColumns}
 
 mapped : {A B : Type 0} (f : A → B) (xs : List A) → length (map f xs) ≡ length xs
 mapped f [] = refl
@@ -37,7 +37,7 @@ pub block_shown : (block : BlockWords) (fields : List Field) (bytes text before 
     → IsValid block bytes → length fields ≡ length block.avro_fields → map array_type chunk ≡ kept_types fields block.projection
     → AreColumns block.rows block.avro_fields block.projection bytes (map array_slots chunk)
     → arrays ≡ chunk → now ≡ names → names ≡ map (λ f. f.name) (kept block.avro_fields block.projection) → before ≡ [] → text ≡ before ++ shown now (map array_slots arrays)
-    → ShowsBlock block bytes text
+    → ShowsColumns block bytes text
 block_shown block fields bytes text before arrays chunk names now valid same types read is lent told none written = record {
   valid = valid;
   columns = map array_slots chunk;

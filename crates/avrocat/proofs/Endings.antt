@@ -15,7 +15,7 @@ use Rattle.arrow_convert.specs.Changes.{Change, Failed}
 use Rattle.avrocat.specs.Commands.{Stands, Done, Fails, CanBeDone, Due, Refused}
 use Rattle.avrocat.specs.Input.{byte_limit, TakesAll, PassesLimit, Tells, TellsTooMany}
 use Rattle.avrocat.specs.Note.{error_note, Notes}
-use Rattle.avrocat.specs.Refusals.{IsWrong, CannotBeShown, BlockFails, CanBeShown, BlockDue}
+use Rattle.avrocat.specs.Refusals.{IsWrong, BlockCannotBeShown, BlockCommandFails, BlockCanBeShown, BlockDue}
 use Rattle.avrocat.proofs.NdjsonEndings.{tells_one, ndjson_due_once, ndjson_never_due, ndjson_fails_in_memory, ndjson_fails_as_due, ndjson_done_not_due}
 use Rattle.avrocat.proofs.OneMeaning.{one_command}
 
@@ -150,7 +150,7 @@ pub one_due : (command : Command) (source : Change) (one other : Error) → Due 
 one_due (Block block) source one other h d = one_because block source one other (because block source one h) (because block source other d)
 one_due (Ndjson numbers) source one other h d = ndjson_due_once numbers source one other h d
 
-right_because : (block : BlockWords) (source : Change) (e : Error) → CanBeShown block source → Because block source e → ⊥
+right_because : (block : BlockWords) (source : Change) (e : Error) → BlockCanBeShown block source → Because block source e → ⊥
 right_because block source e (bytes, tells, valid) (inl h) = not_both source bytes h.1 tells
 right_because block source e (bytes, tells, valid) (inr (others, told, h)) =
     valid_is_right block bytes valid e (subst (λ z. IsWrong block z e) (sym (tells_one source bytes others tells.told told.told)) h)
@@ -166,7 +166,7 @@ abbrev Steady : Change → Type 0
 Steady source = (Failed source → ⊥) × ((bytes : List ℕ) × (source.bytes ≡ Some bytes))
 
 -- of such a source only what is due comes, out of memory aside
-told_wrong : (block : BlockWords) (source : Change) (e : Error) → Steady source → CannotBeShown block source e → (e ≡ OutOfMemory) ⊎ BlockDue block source e
+told_wrong : (block : BlockWords) (source : Change) (e : Error) → Steady source → BlockCannotBeShown block source e → (e ≡ OutOfMemory) ⊎ BlockDue block source e
 told_wrong block source (ReadFault None) s h = absurd (s.0 h)
 told_wrong block source LimitExceeded (steady, (bytes, told)) h = inr (record { bytes = bytes; told = told; beyond = beyond; steady = steady })
   where
@@ -195,16 +195,16 @@ told_wrong block source (OutOfSpec r) (steady, (bytes, told)) (taken, all, h) =
     inr (taken, record { told = told ∙ ap Some (sym same); within = all.within; steady = steady }, h)
 
 -- what was shown of such a source can be shown
-told_right : (block : BlockWords) (source : Change) (bytes : List ℕ) → Steady source → TakesAll source.bytes source.bytes_after bytes → IsValid block bytes → CanBeShown block source
+told_right : (block : BlockWords) (source : Change) (bytes : List ℕ) → Steady source → TakesAll source.bytes source.bytes_after bytes → IsValid block bytes → BlockCanBeShown block source
 told_right block source bytes (steady, (told_bytes, told)) all valid =
     let same = takes_told source.bytes source.bytes_after told_bytes bytes told all in
     (bytes, record { told = told ∙ ap Some (sym same); within = all.within; steady = steady }, valid)
 
 -- a failed block had no memory, or its error was due, or its sink failed on what can be shown
 abbrev Ending : BlockWords → Change → Change → Error → Type 0
-Ending block source sink e = ((e ≡ OutOfMemory) ⊎ BlockDue block source e) ⊎ (Failed sink × CanBeShown block source)
+Ending block source sink e = ((e ≡ OutOfMemory) ⊎ BlockDue block source e) ⊎ (Failed sink × BlockCanBeShown block source)
 
-ending : (block : BlockWords) (source sink : Change) (e : Error) → Steady source → BlockFails block source sink e → Ending block source sink e
+ending : (block : BlockWords) (source sink : Change) (e : Error) → Steady source → BlockCommandFails block source sink e → Ending block source sink e
 ending block source sink WriteFault s h = inr (h.failed, told_right block source h.bytes s h.read h.shows.valid)
 ending block source sink (InvalidArgumentError r) s h = inl (told_wrong block source (InvalidArgumentError r) s h.1)
 ending block source sink (NotYetImplemented r) s h = inl (told_wrong block source (NotYetImplemented r) s h.1)
@@ -215,7 +215,7 @@ ending block source sink LimitExceeded s h = inl (told_wrong block source LimitE
 ending block source sink (ReadFault line) s h = inl (told_wrong block source (ReadFault line) s h.1)
 ending block source sink OutOfMemory s h = inl (inl refl)
 
-steady_can : (block : BlockWords) (source : Change) → CanBeShown block source → Steady source
+steady_can : (block : BlockWords) (source : Change) → BlockCanBeShown block source → Steady source
 steady_can block source (bytes, tells, valid) = (tells.steady, (bytes, tells.told))
 
 steady_because : (block : BlockWords) (source : Change) (e : Error) → Because block source e → Steady source

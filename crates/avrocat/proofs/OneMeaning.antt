@@ -7,7 +7,7 @@ use Rattle.avrocat.specs.declared.command.BlockWords.{BlockWords}
 use Rattle.avrocat.specs.declared.command.Command.{Command}
 use Rattle.avrocat.specs.declared.command.Command.TheVariants.{Block, Ndjson}
 use Rattle.avrocat.specs.Commands.{Stands}
-use Rattle.avrocat.specs.Words.{AreFields, AreNumbers, block_word, IsBlock}
+use Rattle.avrocat.specs.Words.{AreFields, AreKeepWords, block_word, IsBlock}
 use Rattle.avrocat.proofs.NumberWords.{one_numbers}
 use Rattle.avrocat.proofs.WordsLemmas.{words_head, block_is_not_ndjson}
 
@@ -51,7 +51,7 @@ pub one_command : (words : List (List ℕ)) (one other : Command) → Stands wor
 one_command words (Block block) (Block other) h d = ap Block (one_block words block other h d)
 one_command words (Block block) (Ndjson numbers) (ws, is, h) (vs, at, d) = absurd (block_is_not_ndjson block.large (ap (words_head []) (sym is ∙ at)))
 one_command words (Ndjson numbers) (Block block) (ws, is, h) (vs, at, d) = absurd (block_is_not_ndjson block.large (ap (words_head []) (sym at ∙ is)))
-one_command words (Ndjson numbers) (Ndjson others) (ws, is, h) (vs, at, d) = ap Ndjson (one_numbers vs numbers others (subst (λ z. AreNumbers z numbers) (ap (drop 1) (sym is ∙ at)) h) d)
+one_command words (Ndjson numbers) (Ndjson others) (ws, is, h) (vs, at, d) = ap Ndjson (one_numbers vs numbers others (subst (λ z. AreKeepWords z numbers) (ap (drop 1) (sym is ∙ at)) h) d)
 
 -- ---- what blocks that words name have
 

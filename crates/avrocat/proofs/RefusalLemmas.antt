@@ -12,10 +12,10 @@ use Rattle.avro_grammar.specs.Types.{Fits}
 use Rattle.avro_decode.specs.Refusals.{BelongTogether, FieldsRefused, BytesRefused, BlockRefused}
 use Rattle.arrow_base.specs.Outside.{AppendsPrefix}
 use Rattle.avrocat.specs.declared.command.BlockWords.{BlockWords}
-use Rattle.avrocat.specs.Blocks.{AreColumnsOf, ShowsBlock}
+use Rattle.avrocat.specs.Blocks.{AreColumnsOf, ShowsColumns}
 use Rattle.arrow_convert.specs.Changes.{Change, Failed}
 use Rattle.avrocat.specs.Input.{byte_limit, TakesAll, NotRead}
-use Rattle.avrocat.specs.Refusals.{IsWrong, BlockFails}
+use Rattle.avrocat.specs.Refusals.{IsWrong, BlockCommandFails}
 use Rattle.avrocat.proofs.ColumnLemmas.{forms_fit}
 
 zip_length : {A B : Type 0} (R : A → B → Type 0) (xs : List A) (ys : List B) → AllZip R xs ys → length xs ≡ length ys
@@ -82,23 +82,23 @@ of_block block fields keeps bytes given answer same_fields same_keeps same_bytes
     (λ i. (record { rows = block.rows; avro_fields = same_fields i; projection = same_keeps i; large = block.large }, same_bytes i)) h
 
 module _ (block : BlockWords) (source sink : Change) where
-  pub not_read : (e : Error) → Keeps sink.bytes sink.bytes_after → NotRead source e → BlockFails block source sink e
+  pub not_read : (e : Error) → Keeps sink.bytes sink.bytes_after → NotRead source e → BlockCommandFails block source sink e
   not_read (ReadFault None) keeps h = (keeps, h)
   not_read LimitExceeded keeps h = (keeps, h)
   not_read OutOfMemory keeps h = (keeps, tt)
   not_read _ keeps h = absurd h
 
   pub by_what_was_read : (e : Error) (bytes : List ℕ) → Keeps sink.bytes sink.bytes_after → TakesAll source.bytes source.bytes_after bytes → (e ≡ OutOfMemory) ⊎ IsWrong block bytes e
-      → BlockFails block source sink e
-  by_what_was_read e bytes keeps all (inl h) = subst (BlockFails block source sink) (sym h) (keeps, tt)
+      → BlockCommandFails block source sink e
+  by_what_was_read e bytes keeps all (inl h) = subst (BlockCommandFails block source sink) (sym h) (keeps, tt)
   by_what_was_read (NotYetImplemented r) bytes keeps all (inr h) = (keeps, (bytes, all, h))
   by_what_was_read (ExternalFormat r) bytes keeps all (inr h) = (keeps, (bytes, all, h))
   by_what_was_read (OutOfSpec r) bytes keeps all (inr h) = (keeps, (bytes, all, h))
   by_what_was_read Overflow bytes keeps all (inr h) = (keeps, (bytes, all, h))
   by_what_was_read _ bytes keeps all (inr h) = absurd h
 
-  pub write_fails : (answer : Result Unit Error) (bytes text : List ℕ) → TakesAll source.bytes source.bytes_after bytes → ShowsBlock block bytes text
-      → IfErr answer (λ e. e ≡ WriteFault) → OnErr answer (AppendsPrefix sink.bytes sink.bytes_after text) → OnErr answer (Failed sink) → IfErr answer (BlockFails block source sink)
+  pub write_fails : (answer : Result Unit Error) (bytes text : List ℕ) → TakesAll source.bytes source.bytes_after bytes → ShowsColumns block bytes text
+      → IfErr answer (λ e. e ≡ WriteFault) → OnErr answer (AppendsPrefix sink.bytes sink.bytes_after text) → OnErr answer (Failed sink) → IfErr answer (BlockCommandFails block source sink)
   write_fails (Ok _) bytes text all shows only prefix cause = tt
   write_fails (Err e) bytes text all shows only prefix cause =
-      subst (BlockFails block source sink) (sym only) (record { bytes = bytes; text = text; read = all; shows = shows; prefix = prefix; failed = cause })
+      subst (BlockCommandFails block source sink) (sym only) (record { bytes = bytes; text = text; read = all; shows = shows; prefix = prefix; failed = cause })

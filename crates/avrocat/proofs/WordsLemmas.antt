@@ -6,7 +6,7 @@ use Rattle.avro_schema.specs.declared.schema.AvroField.{AvroField}
 use Rattle.field_words.specs.Fields.{IsField}
 use Rattle.field_words.specs.Names.{IsRows}
 use Rattle.avrocat.specs.Commands.{Stands, IsUsage}
-use Rattle.avrocat.specs.Words.{AreFields, AreNumbers, IsRest, block_word}
+use Rattle.avrocat.specs.Words.{AreFields, AreKeepWords, IsRest, block_word}
 use Rattle.avrocat.specs.declared.command.BlockWords.{BlockWords}
 use Rattle.avrocat.specs.declared.command.Command.TheVariants.{Block, Ndjson}
 
@@ -83,9 +83,9 @@ pub no_block : (words : List (List ℕ)) (word : List ℕ) (rest : List (List �
 no_block words word rest large e is none (Block block) (ws, at, h) = none block (subst (λ z. IsRest z block) (ap (drop 1) (sym at ∙ e)) h)
 no_block words word rest large e is none (Ndjson numbers) (ws, at, h) = block_is_not_ndjson large (sym is ∙ ap (words_head word) (sym e ∙ at))
 
-pub no_ndjson : (words : List (List ℕ)) (word : List ℕ) (rest : List (List ℕ)) → words ≡ word ∷ rest → word ≡ codes "ndjson" → ((numbers : List ℕ) → AreNumbers rest numbers → ⊥) → IsUsage words
+pub no_ndjson : (words : List (List ℕ)) (word : List ℕ) (rest : List (List ℕ)) → words ≡ word ∷ rest → word ≡ codes "ndjson" → ((numbers : List ℕ) → AreKeepWords rest numbers → ⊥) → IsUsage words
 no_ndjson words word rest e is none (Block block) (ws, at, h) = block_is_not_ndjson block.large (sym (ap (words_head word) (sym e ∙ at)) ∙ is)
-no_ndjson words word rest e is none (Ndjson numbers) (ws, at, h) = none numbers (subst (λ z. AreNumbers z numbers) (ap (drop 1) (sym at ∙ e)) h)
+no_ndjson words word rest e is none (Ndjson numbers) (ws, at, h) = none numbers (subst (λ z. AreKeepWords z numbers) (ap (drop 1) (sym at ∙ e)) h)
 
 pub other_word : (words : List (List ℕ)) (word : List ℕ) (rest : List (List ℕ)) → words ≡ word ∷ rest → (word ≡ codes "block" → ⊥) → (word ≡ codes "block-large" → ⊥) → (word ≡ codes "ndjson" → ⊥) → IsUsage words
 other_word words word rest e other another no_ndjson (Block block) (ws, is, h) = from block.large (ap (words_head word) (sym e ∙ is))

@@ -29,7 +29,7 @@ pub record IsValid (block : BlockWords) (bytes : List ℕ) : Type 0 where
   pub valid : ValidBlock block.rows bytes fields block.avro_fields block.projection
 
 -- and the text is the lines of the columns of the kept fields
-pub record ShowsBlock (block : BlockWords) (bytes text : List ℕ) : Type 0 where
+pub record ShowsColumns (block : BlockWords) (bytes text : List ℕ) : Type 0 where
   pub valid : IsValid block bytes
   pub columns : List (List Slot)
   pub read : AreColumns block.rows block.avro_fields block.projection bytes columns
@@ -41,5 +41,5 @@ pub record BlockDone (block : BlockWords) (source sink : Change) : Type 0 where
   pub bytes : List ℕ
   pub text : List ℕ
   pub read : TakesAll source.bytes source.bytes_after bytes
-  pub shows : ShowsBlock block bytes text
+  pub shows : ShowsColumns block bytes text
   pub written : Appends sink.bytes sink.bytes_after text

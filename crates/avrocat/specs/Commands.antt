@@ -10,7 +10,7 @@ use Rattle.avrocat.specs.Blocks.{BlockDone}
 use Rattle.arrow_convert.specs.Changes.{Change}
 use Rattle.avrocat.specs.Ndjson.{NdjsonDone, NdjsonFails, HasLines, NdjsonDue}
 use Rattle.avrocat.specs.Note.{error_note, Notes}
-use Rattle.avrocat.specs.Refusals.{BlockFails, CanBeShown, BlockDue}
+use Rattle.avrocat.specs.Refusals.{BlockCommandFails, BlockCanBeShown, BlockDue}
 use Rattle.avrocat.specs.Words.{IsBlock, IsNdjson}
 
 -- the words stand for the command
@@ -29,13 +29,13 @@ Done (Ndjson numbers) source sink = NdjsonDone numbers source sink
 
 -- why the command fails by this error
 abbrev pub Fails : Command → Change → Change → Error → Type 0
-Fails (Block block) source sink e = BlockFails block source sink e
+Fails (Block block) source sink e = BlockCommandFails block source sink e
 Fails (Ndjson numbers) source sink e = NdjsonFails numbers source sink e
 
 -- The command is done wherever there is memory and the sink doesn't fail: the source doesn't fail, and
 -- tells what the command can be done on.
 abbrev pub CanBeDone : Command → Change → Type 0
-CanBeDone (Block block) source = CanBeShown block source
+CanBeDone (Block block) source = BlockCanBeShown block source
 CanBeDone (Ndjson numbers) source = HasLines numbers source
 
 -- The command fails by this error wherever there is memory: the source doesn't fail, and tells what

@@ -4,6 +4,7 @@ use Rattle.std.specs.Io.KnownBytes.{Consumes, IsAtEnd}
 use Rattle.arrow_core.specs.declared.error.Error.{Error}
 use Rattle.arrow_core.specs.declared.error.Error.TheVariants.{LimitExceeded, ReadFault, OutOfMemory}
 use Rattle.arrow_convert.specs.Changes.{Change, Failed}
+use Rattle.arrow_convert.specs.Laws.{IsTold}
 
 -- the most bytes that the program takes
 abbrev pub byte_limit : ℕ
@@ -27,10 +28,8 @@ NotRead source OutOfMemory = ⊤
 NotRead source _ = ⊥
 
 -- the source tells these bytes, no more than the limit, and doesn't fail
-pub record Tells (source : Change) (bytes : List ℕ) : Type 0 where
-  pub told : source.bytes ≡ Some bytes
-  pub within : length bytes ≤ byte_limit
-  pub steady : Failed source → ⊥
+abbrev pub Tells : Change → List ℕ → Type 0
+Tells source = IsTold source byte_limit
 
 -- the source tells more bytes than the limit, and doesn't fail
 pub record TellsTooMany (source : Change) : Type 0 where

@@ -11,24 +11,24 @@ use Rattle.avro_grammar.specs.NegativeSize.{NegativeSize as StatesNegativeSize}
 use Rattle.avro_grammar.specs.Rows.{Rows as AreRows}
 use Rattle.avro_grammar.specs.ValidBlock.{KeepNoFloat, KeptEnumsFit}
 use Rattle.avrocat.specs.declared.command.BlockWords.{BlockWords}
-use Rattle.avrocat.specs.Blocks.{IsValid, ShowsBlock}
+use Rattle.avrocat.specs.Blocks.{IsValid, ShowsColumns}
 use Rattle.arrow_convert.specs.Changes.{Change, Failed}
 use Rattle.avrocat.specs.Input.{TakesAll, PassesLimit, Tells, TellsTooMany}
 
 -- there is a field, and each schema is carried
-abbrev pub AreCarried : BlockWords → Type 0
-AreCarried block = (0 < length block.avro_fields) × CarriedList block.avro_fields
+abbrev pub NamesCarriedFields : BlockWords → Type 0
+NamesCarriedFields block = (0 < length block.avro_fields) × CarriedList block.avro_fields
 
 -- and the kept ones hold no float, and a dictionary can hold the symbols of each of their enums
 abbrev pub CanBeRead : BlockWords → Type 0
-CanBeRead block = AreCarried block × KeepNoFloat block.avro_fields block.projection × KeptEnumsFit block.avro_fields block.projection
+CanBeRead block = NamesCarriedFields block × KeepNoFloat block.avro_fields block.projection × KeptEnumsFit block.avro_fields block.projection
 
 -- what is wrong with a block of these bytes; where nothing is, they are valid
 abbrev pub IsWrong : BlockWords → List ℕ → Error → Type 0
 IsWrong block bytes (NotYetImplemented NoField) = block.avro_fields ≡ []
 IsWrong block bytes (NotYetImplemented NotCarried) = (0 < length block.avro_fields) × (CarriedList block.avro_fields → ⊥)
-IsWrong block bytes (NotYetImplemented Float) = AreCarried block × (KeepNoFloat block.avro_fields block.projection → ⊥)
-IsWrong block bytes Overflow = AreCarried block × KeepNoFloat block.avro_fields block.projection × (KeptEnumsFit block.avro_fields block.projection → ⊥)
+IsWrong block bytes (NotYetImplemented Float) = NamesCarriedFields block × (KeepNoFloat block.avro_fields block.projection → ⊥)
+IsWrong block bytes Overflow = NamesCarriedFields block × KeepNoFloat block.avro_fields block.projection × (KeptEnumsFit block.avro_fields block.projection → ⊥)
 IsWrong block bytes (ExternalFormat Rows) = CanBeRead block × (length bytes < block.rows)
 IsWrong block bytes (ExternalFormat BlockBytes) =
     CanBeRead block × (block.rows ≤ length bytes) × ((table : List (List Slot)) → AreRows block.rows block.avro_fields block.projection bytes table → ⊥) × (StatesNegativeSize block.rows block.avro_fields block.projection bytes → ⊥)
@@ -37,31 +37,31 @@ IsWrong block bytes (OutOfSpec NegativeSize) =
 IsWrong block bytes _ = ⊥
 
 -- the source was read whole, and the sink failed after a prefix of what the block shows
-pub record BreaksOff (block : BlockWords) (source sink : Change) : Type 0 where
+pub record BlockCommandBreaksOff (block : BlockWords) (source sink : Change) : Type 0 where
   pub bytes : List ℕ
   pub text : List ℕ
   pub read : TakesAll source.bytes source.bytes_after bytes
-  pub shows : ShowsBlock block bytes text
+  pub shows : ShowsColumns block bytes text
   pub prefix : AppendsPrefix sink.bytes sink.bytes_after text
   pub failed : Failed sink
 
 -- why nothing is written: the source failed or has too many bytes, or what was read is wrong
-abbrev pub CannotBeShown : BlockWords → Change → Error → Type 0
-CannotBeShown block source (ReadFault None) = Failed source
-CannotBeShown block source LimitExceeded = PassesLimit source.bytes source.bytes_after
-CannotBeShown block source OutOfMemory = ⊤
-CannotBeShown block source e = (bytes : List ℕ) × TakesAll source.bytes source.bytes_after bytes × IsWrong block bytes e
+abbrev pub BlockCannotBeShown : BlockWords → Change → Error → Type 0
+BlockCannotBeShown block source (ReadFault None) = Failed source
+BlockCannotBeShown block source LimitExceeded = PassesLimit source.bytes source.bytes_after
+BlockCannotBeShown block source OutOfMemory = ⊤
+BlockCannotBeShown block source e = (bytes : List ℕ) × TakesAll source.bytes source.bytes_after bytes × IsWrong block bytes e
 
 -- why a block fails; only a failing sink has taken any byte
-abbrev pub BlockFails : BlockWords → Change → Change → Error → Type 0
-BlockFails block source sink WriteFault = BreaksOff block source sink
-BlockFails block source sink e = Keeps sink.bytes sink.bytes_after × CannotBeShown block source e
+abbrev pub BlockCommandFails : BlockWords → Change → Change → Error → Type 0
+BlockCommandFails block source sink WriteFault = BlockCommandBreaksOff block source sink
+BlockCommandFails block source sink e = Keeps sink.bytes sink.bytes_after × BlockCannotBeShown block source e
 
 -- ---- what a source that tells its bytes must be answered, memory allowing
 
 -- it can be shown
-abbrev pub CanBeShown : BlockWords → Change → Type 0
-CanBeShown block source = (bytes : List ℕ) × Tells source bytes × IsValid block bytes
+abbrev pub BlockCanBeShown : BlockWords → Change → Type 0
+BlockCanBeShown block source = (bytes : List ℕ) × Tells source bytes × IsValid block bytes
 
 -- it has too many bytes, or they are wrong
 abbrev pub BlockDue : BlockWords → Change → Error → Type 0

@@ -28,9 +28,9 @@ abbrev pub IsBlock : List (List ℕ) → BlockWords → Type 0
 IsBlock words block = (rest : List (List ℕ)) × (words ≡ block_word block.large ∷ rest) × IsRest rest block
 
 -- each word is the number of a field
-abbrev pub AreNumbers : List (List ℕ) → List ℕ → Type 0
-AreNumbers = AllZip IsRows
+abbrev pub AreKeepWords : List (List ℕ) → List ℕ → Type 0
+AreKeepWords = AllZip IsRows
 
 -- the word `ndjson`, and the numbers of the fields to keep
 abbrev pub IsNdjson : List (List ℕ) → List ℕ → Type 0
-IsNdjson words numbers = (rest : List (List ℕ)) × (words ≡ codes "ndjson" ∷ rest) × AreNumbers rest numbers
+IsNdjson words numbers = (rest : List (List ℕ)) × (words ≡ codes "ndjson" ∷ rest) × AreKeepWords rest numbers

@@ -2,10 +2,10 @@
 ghost use Rattle.std.specs.Prelude.{◌≡◌, ◌≤◌, ◌⊎◌, length, map, IfOk, IfErr, OnOk};
 ghost use Rattle.arrow_core.specs.declared.error.Error.TheVariants.{OutOfMemory};
 ghost use Rattle.avro_grammar.specs.ValidBlock.{kept};
-ghost use Rattle.avrocat.specs.Blocks.{AreColumnsOf, ShowsBlock, BlockDone};
+ghost use Rattle.avrocat.specs.Blocks.{AreColumnsOf, ShowsColumns, BlockDone};
 ghost use Rattle.arrow_convert.specs.Changes.{change_of};
 ghost use Rattle.avrocat.specs.Input.{byte_limit};
-ghost use Rattle.avrocat.specs.Refusals.{IsWrong, BlockFails};
+ghost use Rattle.avrocat.specs.Refusals.{IsWrong, BlockCommandFails};
 
 use crate::columns::columns_of;
 use crate::command::BlockWords;
@@ -37,7 +37,7 @@ pub fn run_block<S: Source, K: Sink>(
     ensures done { OnOk result (BlockDone words
         (change_of (S.left source.old) (S.faults source.old) (S.left source.new) (S.faults source.new))
         (change_of (K.held sink.old) (K.faults sink.old) (K.held sink.new) (K.faults sink.new))) }
-    ensures fails { IfErr result (BlockFails words
+    ensures fails { IfErr result (BlockCommandFails words
         (change_of (S.left source.old) (S.faults source.old) (S.left source.new) (S.faults source.new))
         (change_of (K.held sink.old) (K.faults sink.old) (K.held sink.new) (K.faults sink.new))) }
 {
@@ -50,7 +50,7 @@ pub fn run_block<S: Source, K: Sink>(
 fn block_lines(alloc: Global, words: BlockWords, bytes: Vec<u8>) -> Result<Lines>
     requires within { length bytes.items ≤ byte_limit }
     requires lengths { length words.avro_fields ≡ length words.projection }
-    ensures ok { IfOk result (λ lines. ShowsBlock words bytes.items lines.text.items) }
+    ensures ok { IfOk result (λ lines. ShowsColumns words bytes.items lines.text.items) }
     ensures err { IfErr result (λ e. (e ≡ OutOfMemory) ⊎ IsWrong words bytes.items e) }
 {
     let BlockWords {
@@ -93,7 +93,7 @@ fn chunk_lines(
     requires within { length block.now.bytes ≤ byte_limit }
     requires lengths { length avro_fields.now ≡ length projection.now }
     requires typed { AreColumnsOf avro_fields.now large fields.now }
-    ensures ok { IfOk result (λ lines. ShowsBlock
+    ensures ok { IfOk result (λ lines. ShowsColumns
         (record { rows = block.now.number_of_rows; avro_fields = avro_fields.now; projection = projection.now; large = large })
         block.now.bytes lines.text.items) }
     ensures err { IfErr result (λ e. (e ≡ OutOfMemory) ⊎ IsWrong

@@ -24,15 +24,13 @@ mod run;
 mod tests;
 mod words;
 
-use arrow_base::{StdSink, StdSource, Text};
+use arrow_base::{Error, StdSink, StdSource, Text};
+use run::conclude;
 pub use run::run;
 use std::alloc::{AllocError, Global};
 use std::env::{self, Args};
 use std::io::{self, BufReader, ErrorKind};
 use std::process::ExitCode;
-
-/// The status where there is no memory for the words, or for the bytes that are read at once.
-const OUT_OF_MEMORY: u8 = 10;
 
 /// How many bytes are read from standard input at once.
 const READ_AT_ONCE: usize = 65_536;
@@ -61,16 +59,16 @@ fn words_of(alloc: Global, given: io::Result<Args>) -> Result<Vec<Text>, AllocEr
 }
 
 fn main(rt: HostRuntime) -> ExitCode {
+    let mut note = StdSink::new(rt.stderr());
     let Ok(words) = words_of(rt.alloc(), env::args(&rt)) else {
-        return ExitCode::from(OUT_OF_MEMORY);
+        return ExitCode::from(conclude(&mut note, Err(Error::OutOfMemory)));
     };
     // The numbers of a file are taken byte by byte.
     let Ok(input) = BufReader::with_capacity(rt.alloc(), READ_AT_ONCE, rt.stdin()) else {
-        return ExitCode::from(OUT_OF_MEMORY);
+        return ExitCode::from(conclude(&mut note, Err(Error::OutOfMemory)));
     };
     let mut source = StdSource::new(input);
     let mut sink = StdSink::new(rt.stdout());
-    let mut note = StdSink::new(rt.stderr());
     let status = run(
         rt.alloc(),
         words.as_slice(),

@@ -97,7 +97,7 @@ fn run_command<S: Source, K: Sink>(
 }
 
 /// The status of a command's answer. An error is noted.
-fn conclude<N: Sink>(note: &mut N, answer: Result<()>) -> u8
+pub(crate) fn conclude<N: Sink>(note: &mut N, answer: Result<()>) -> u8
     ensures { MatchResult answer
         (λ _. (result ≡ 0) × Keeps (N.held note.old) (N.held note.new))
         (λ e. (result ≡ status_of e) × Notes

@@ -4,7 +4,7 @@ ghost use Rattle.std.specs.Prelude.{◌≡◌, ℕ, Bool, List, Err, IfOk};
 ghost use Rattle.avro_schema.specs.declared.schema.AvroField.{AvroField as TheField};
 ghost use Rattle.avrocat.specs.declared.command.BlockWords.{BlockWords as TheBlock};
 ghost use Rattle.field_words.specs.declared.fault.WordsFault.TheVariants.{Usage};
-ghost use Rattle.avrocat.specs.Words.{AreFields, AreNumbers, IsRest};
+ghost use Rattle.avrocat.specs.Words.{AreFields, AreKeepWords, IsRest};
 ghost use Rattle.avrocat.specs.Commands.{Stands, IsUsage};
 
 use crate::command::{BlockWords, Command};
@@ -70,8 +70,8 @@ fn read_fields(alloc: Global, words: &[Text]) -> Result<(Vec<AvroField>, Vec<boo
 
 /// The numbers of the fields to keep, after the word `ndjson`.
 fn read_numbers(alloc: Global, words: &[Text]) -> Result<Items<usize>, WordsFault>
-    ensures numbers { IfOk result (AreNumbers words.now) }
-    ensures usage { result ≡ Err Usage → (numbers : List ℕ) → AreNumbers words.now numbers → ⊥ }
+    ensures numbers { IfOk result (AreKeepWords words.now) }
+    ensures usage { result ≡ Err Usage → (numbers : List ℕ) → AreKeepWords words.now numbers → ⊥ }
 {
     let mut numbers = Vec::new(alloc);
     for word in words {

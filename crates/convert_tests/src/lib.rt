@@ -11,3 +11,5 @@ mod lines;
 mod reader;
 #[cfg(test)]
 mod samples;
+#[cfg(test)]
+mod written;

@@ -1,7 +1,8 @@
 //! Files of cards, which avro-c and Java's avro wrote: names, namespaces, docs, an enum and a fixed type.
 
 use crate::files::{empty_block, is_block, source};
-use crate::samples::{CARDS_OF_C, CARDS_OF_JAVA, ONE_CARD, TWO_CARDS};
+use crate::samples::{CARDS_AND_NONE, CARDS_OF_C, CARDS_OF_JAVA, ONE_CARD, TWO_CARDS};
+use arrow_base::SteadySource;
 use avro_file::{
     AvroField, AvroSchema, BlockReader, Enum, Fixed, LongLogical, Record, read_metadata,
 };
@@ -65,11 +66,22 @@ fn is_card(record: &Record, has_doc: bool, played: &str) -> bool {
         && are_fields(record.fields.as_slice(), played)
 }
 
-fn read_cards(rt: &impl Abort, alloc: Global, file: &[u8], has_doc: bool, played: &str) {
+/// The blocks of a file of cards, once its header was read.
+fn blocks_of(
+    rt: &impl Abort,
+    alloc: Global,
+    file: &[u8],
+    has_doc: bool,
+    played: &str,
+) -> BlockReader<SteadySource> {
     let mut source = source(rt, alloc, file);
     let (metadata, _) = read_metadata(alloc, &mut source, 1000).expect(rt, "metadata");
     assert!(rt; is_card(&metadata.root, has_doc, played));
-    let mut reader = BlockReader::new(alloc, source, metadata.marker, 1000);
+    BlockReader::new(alloc, source, metadata.marker, 1000)
+}
+
+fn read_cards(rt: &impl Abort, alloc: Global, file: &[u8], has_doc: bool, played: &str) {
+    let mut reader = blocks_of(rt, alloc, file, has_doc, played);
     let mut block = empty_block(alloc);
     assert!(rt; reader.next(&mut block) == Ok(true) && is_block(&block, 1, ONE_CARD));
     assert!(rt; reader.next(&mut block) == Ok(true) && is_block(&block, 2, TWO_CARDS));
@@ -80,4 +92,15 @@ fn read_cards(rt: &impl Abort, alloc: Global, file: &[u8], has_doc: bool, played
 fn cards_of_other_writers_are_read(rt: HostRuntime) {
     read_cards(&rt, rt.alloc(), CARDS_OF_C, false, "long");
     read_cards(&rt, rt.alloc(), CARDS_OF_JAVA, true, "timestamp-millis");
+}
+
+#[test]
+fn a_block_of_no_rows_is_read(rt: HostRuntime) {
+    let alloc = rt.alloc();
+    let mut reader = blocks_of(&rt, alloc, CARDS_AND_NONE, true, "timestamp-millis");
+    let mut block = empty_block(alloc);
+    assert!(rt; reader.next(&mut block) == Ok(true) && is_block(&block, 1, ONE_CARD));
+    assert!(rt; reader.next(&mut block) == Ok(true) && is_block(&block, 0, b""));
+    assert!(rt; reader.next(&mut block) == Ok(true) && is_block(&block, 2, TWO_CARDS));
+    assert!(rt; reader.next(&mut block) == Ok(false));
 }

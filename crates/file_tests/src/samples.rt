@@ -20,8 +20,12 @@ pub static CARDS_OF_C: &[u8] =
 pub static CARDS_OF_JAVA: &[u8] =
     b"Obj\x01\x04\x16avro.schema\xd0\x06{\"type\":\"record\",\"name\":\"Card\",\"namespace\":\"org.cards\",\"doc\":\"A card.\",\"fields\":[{\"name\":\"suit\",\"type\":{\"type\":\"enum\",\"name\":\"Suit\",\"namespace\":\"org.suits\",\"doc\":\"Its suit.\",\"symbols\":[\"SPADES\",\"HEARTS\"]}},{\"name\":\"id\",\"type\":{\"type\":\"fixed\",\"name\":\"Id\",\"size\":2}},{\"name\":\"note\",\"type\":[\"null\",\"string\"],\"doc\":\"What is said of it.\",\"default\":null},{\"name\":\"played\",\"type\":{\"type\":\"long\",\"logicalType\":\"timestamp-millis\"}}]}\x0cwriter\x16AvroSamples\x000123456789abcdef\x02\x18\x02ab\x02\x0afirst\x80\x010123456789abcdef\x04*\x00cd\x00\x01\x02ef\x02\x0athird\x80\xa0\xab\xfe\xf9b0123456789abcdef";
 
+/// Blocks of one card, of none and of two, as Java's avro copied them.
+pub static CARDS_AND_NONE: &[u8] =
+    b"Obj\x01\x04\x16avro.schema\xd0\x06{\"type\":\"record\",\"name\":\"Card\",\"namespace\":\"org.cards\",\"doc\":\"A card.\",\"fields\":[{\"name\":\"suit\",\"type\":{\"type\":\"enum\",\"name\":\"Suit\",\"namespace\":\"org.suits\",\"doc\":\"Its suit.\",\"symbols\":[\"SPADES\",\"HEARTS\"]}},{\"name\":\"id\",\"type\":{\"type\":\"fixed\",\"name\":\"Id\",\"size\":2}},{\"name\":\"note\",\"type\":[\"null\",\"string\"],\"doc\":\"What is said of it.\",\"default\":null},{\"name\":\"played\",\"type\":{\"type\":\"long\",\"logicalType\":\"timestamp-millis\"}}]}\x0cwriter\x16AvroSamples\x000123456789abcdef\x02\x18\x02ab\x02\x0afirst\x80\x010123456789abcdef\x00\x000123456789abcdef\x04*\x00cd\x00\x01\x02ef\x02\x0athird\x80\xa0\xab\xfe\xf9b0123456789abcdef";
+
 /// The bytes of the first block of cards.
 pub static ONE_CARD: &[u8] = b"\x02ab\x02\x0afirst\x80\x01";
 
-/// The bytes of the second.
+/// The bytes of the last one.
 pub static TWO_CARDS: &[u8] = b"\x00cd\x00\x01\x02ef\x02\x0athird\x80\xa0\xab\xfe\xf9b";

@@ -1,6 +1,8 @@
 //! Rows as lines.
 
-use crate::samples::{booleans, chunk, days, field, longs, structs, structs_named};
+use crate::samples::{
+    booleans, chunk, days, field, longs, string, struct_of, structs, structs_named, timestamp,
+};
 use arrow_base::Field;
 use arrow_columns::{Array, Chunk};
 use arrow_core::{Error, Items, Reason};
@@ -55,6 +57,22 @@ fn names_within_structs_are_escaped_where_they_need_it(rt: HostRuntime) {
     assert!(rt; lines.push(&mut out, &plain) == Ok(()) && lines.push(&mut out, &escaped) == Ok(()));
     // By Python's json.dumps as above.
     let expected = b"{\"s\":{\"long\":-5,\"b\":\"x\"}}\n{\"s\":{\"\\\\\\n\":-5,\"b\":\"x\"}}\n";
+    assert!(rt; out.as_slice() == expected.as_slice());
+}
+
+#[test]
+fn a_column_comes_after_those_within_the_one_before(rt: HostRuntime) {
+    let alloc = rt.alloc();
+    let lines = encoder(&rt, alloc, &["s", "t"]);
+    let mut out = Vec::new(alloc);
+    let time = timestamp(&rt, alloc, "+01:00", 0);
+    let within = struct_of(&rt, alloc, longs(&rt, alloc, &[1]), time);
+    let first = struct_of(&rt, alloc, within, string(&rt, alloc, "x"));
+    let row = pair(&rt, alloc, first, longs(&rt, alloc, &[-2]));
+    assert!(rt; lines.push(&mut out, &row) == Ok(()));
+    // By Python's json.dumps as above, of datetime.isoformat().
+    let expected =
+        b"{\"s\":{\"p\":{\"p\":1,\"q\\\"\":\"1970-01-01T01:00:00+01:00\"},\"q\\\"\":\"x\"},\"t\":-2}\n";
     assert!(rt; out.as_slice() == expected.as_slice());
 }
 

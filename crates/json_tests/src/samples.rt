@@ -175,6 +175,22 @@ pub fn structs_named(rt: &impl Abort, alloc: Global, name: &str) -> Array {
     Array::Struct(array.expect(rt, "structs"))
 }
 
+/// A struct of a `p` and a `q"`.
+pub fn struct_of(rt: &impl Abort, alloc: Global, p: Array, q: Array) -> Array {
+    let first = p.data_type().try_clone(alloc).expect(rt, "memory");
+    let second = q.data_type().try_clone(alloc).expect(rt, "memory");
+    let fields = [
+        field(rt, alloc, "p", first),
+        field(rt, alloc, "q\"", second),
+    ];
+    let data_type = DataType::Struct(Items::from_vec(Vec::from_array(alloc, fields).expect(
+        rt, "memory",
+    )));
+    let children = Vec::from_array(alloc, [p, q]).expect(rt, "memory");
+    let array = StructArray::try_new(alloc, data_type, children, None);
+    Array::Struct(array.expect(rt, "structs"))
+}
+
 /// The string `x` by a key.
 pub fn dictionary(rt: &impl Abort, alloc: Global) -> Array {
     let value_type = Box::new(alloc, DataType::LargeUtf8).expect(rt, "memory");

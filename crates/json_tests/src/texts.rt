@@ -66,6 +66,27 @@ fn strings_are_escaped(rt: HostRuntime) {
 }
 
 #[test]
+fn an_escape_is_found_in_each_chunk(rt: HostRuntime) {
+    let alloc = rt.alloc();
+    let array = string(&rt, alloc, "0123456789abcde\"");
+    assert!(rt; slot_is(&rt, alloc, array, 0, "\"0123456789abcde\\\"\""));
+    let array = string(&rt, alloc, "0123456789abcdef0123456\"");
+    assert!(rt; slot_is(&rt, alloc, array, 0, "\"0123456789abcdef0123456\\\"\""));
+    let array = string(&rt, alloc, "0123456789abcdef01234567012\"");
+    assert!(rt; slot_is(&rt, alloc, array, 0, "\"0123456789abcdef01234567012\\\"\""));
+    let array = string(&rt, alloc, "0123456789abcdef01234567012301\"");
+    assert!(rt;
+        slot_is(
+            &rt,
+            alloc,
+            array,
+            0,
+            "\"0123456789abcdef01234567012301\\\"\""
+        )
+    );
+}
+
+#[test]
 fn a_list_shows_what_lies_between_its_offsets(rt: HostRuntime) {
     let alloc = rt.alloc();
     assert!(rt; slot_is(&rt, alloc, lists(&rt, alloc, &[1, 3, 3]), 0, "[2,3]"));

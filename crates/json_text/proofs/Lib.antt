@@ -1,5 +1,6 @@
 pub mod Beneath
+pub mod Chunks
+pub mod ColumnLemmas
 pub mod Forms
 pub mod Joined
-pub mod PlainNames
 pub mod Records

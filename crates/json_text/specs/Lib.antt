@@ -1,3 +1,4 @@
+pub mod Columns
 pub mod JsonText
-pub mod PlainNames
 pub mod Refusals
+pub mod Unescaped

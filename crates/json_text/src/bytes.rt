@@ -4,7 +4,7 @@ ghost use Rattle.std.specs.Bool.{OnFalse};
 ghost use Rattle.std.specs.Fmt.{signed_decimal};
 ghost use Rattle.arrow_base.specs.WrittenString.{json_string};
 ghost use Rattle.json_text.specs.JsonText.{null};
-ghost use Rattle.json_text.specs.PlainNames.{IsUnescaped};
+ghost use Rattle.json_text.specs.Unescaped.{IsUnescaped};
 
 use arrow_base::utf8::write_str;
 use itoa::{Buffer, Integer};
@@ -39,16 +39,61 @@ pub fn push_comma(out: &mut Vec<u8>, index: usize) -> Appended
     push(out, b",")
 }
 
-/// Whether a byte needs an escape. It has no early exit, so that bytes are compared together.
+/// Whether a byte of the chunk needs an escape. It has no early exit, so that bytes are compared
+/// together.
+#[inline]
+fn chunk_has_escape(chunk: &[u8]) -> bool
+    ensures { OnFalse result (IsUnescaped chunk.now) }
+{
+    let mut found = false;
+    for byte in chunk {
+        found |= *byte < 0x20 || *byte == b'"' || *byte == b'\\';
+    }
+    found
+}
+
+/// Whether a byte of the string needs an escape. Chunks have a constant length, so that the bytes of
+/// each are compared at once.
 #[inline]
 pub(crate) fn has_escape(string: &[u8]) -> bool
     ensures { OnFalse result (IsUnescaped string.now) }
 {
-    let mut found = false;
-    for byte in string {
-        found |= *byte < 0x20 || *byte == b'"' || *byte == b'\\';
+    let mut rest = string;
+    while let Some((chunk, more)) = rest.split_first_chunk::<16>() {
+        if chunk_has_escape(chunk) {
+            return true;
+        }
+        rest = more;
     }
-    found
+    short_has_escape(rest)
+}
+
+/// The same of a string of fewer than 16 bytes.
+#[inline]
+fn short_has_escape(string: &[u8]) -> bool
+    ensures { OnFalse result (IsUnescaped string.now) }
+{
+    let Some((chunk, rest)) = string.split_first_chunk::<8>() else {
+        return tail_has_escape(string);
+    };
+    if chunk_has_escape(chunk) {
+        return true;
+    }
+    tail_has_escape(rest)
+}
+
+/// The same of a string of fewer than 8 bytes.
+#[inline]
+fn tail_has_escape(string: &[u8]) -> bool
+    ensures { OnFalse result (IsUnescaped string.now) }
+{
+    let Some((chunk, rest)) = string.split_first_chunk::<4>() else {
+        return chunk_has_escape(string);
+    };
+    if chunk_has_escape(chunk) {
+        return true;
+    }
+    chunk_has_escape(rest)
 }
 
 /// Appends the JSON string of a string (RFC 8259, section 7).
@@ -78,21 +123,6 @@ fn push_unescaped(out: &mut Vec<u8>, string: &str) -> Appended
     Ok(())
 }
 
-/// Appends the JSON string of a name, which needs no escape unless it is said to need one.
-///
-/// `AllocError` where there is no memory.
-#[inline]
-pub(crate) fn push_name(out: &mut Vec<u8>, name: &str, escapes: bool) -> Appended
-    requires { OnFalse escapes (IsUnescaped name.now) }
-    ensures ok { OnOk result (out.new.items ≡ out.old.items ++ json_string name.now) }
-{
-    if escapes {
-        push_string(out, name)
-    } else {
-        push_unescaped(out, name)
-    }
-}
-
 fn push_escaped(out: &mut Vec<u8>, string: &str) -> Appended
     ensures ok { OnOk result (out.new.items ≡ out.old.items ++ json_string string.now) }
 {
@@ -102,7 +132,7 @@ fn push_escaped(out: &mut Vec<u8>, string: &str) -> Appended
     }
 }
 
-#[inline]
+#[inline(never)]
 pub(crate) fn push_null(out: &mut Vec<u8>) -> Appended
     ensures ok { OnOk result (out.new.items ≡ out.old.items ++ null) }
 {
@@ -110,7 +140,7 @@ pub(crate) fn push_null(out: &mut Vec<u8>) -> Appended
 }
 
 /// Appends the JSON string, or `null` where there is none.
-#[inline]
+#[inline(never)]
 pub(crate) fn push_string_if(out: &mut Vec<u8>, is_valid: bool, string: &str) -> Appended
     ensures ok { OnOk result
         (out.new.items ≡ out.old.items ++ (if is_valid then json_string string.now else null)) }
@@ -122,6 +152,22 @@ pub(crate) fn push_string_if(out: &mut Vec<u8>, is_valid: bool, string: &str) ->
     }
 }
 
+/// Appends an integer in decimal.
+#[inline]
+fn push_integer<I: Integer>(out: &mut Vec<u8>, integer: I) -> Appended
+    ensures ok { OnOk result (out.new.items ≡ out.old.items ++ I.text integer) }
+{
+    push(out, Buffer::new().format(integer).as_bytes())
+}
+
+/// Appends a signed integer in decimal.
+#[inline]
+pub(crate) fn push_signed(out: &mut Vec<u8>, integer: i64) -> Appended
+    ensures ok { OnOk result (out.new.items ≡ out.old.items ++ signed_decimal integer) }
+{
+    push_integer(out, integer)
+}
+
 /// Appends an integer in decimal, or `null` where there is none.
 #[inline]
 fn push_integer_if<I: Integer>(out: &mut Vec<u8>, is_valid: bool, integer: I) -> Appended
@@ -129,14 +175,14 @@ fn push_integer_if<I: Integer>(out: &mut Vec<u8>, is_valid: bool, integer: I) ->
         (out.new.items ≡ out.old.items ++ (if is_valid then I.text integer else null)) }
 {
     if is_valid {
-        push(out, Buffer::new().format(integer).as_bytes())
+        push_integer(out, integer)
     } else {
         push_null(out)
     }
 }
 
 /// The same for a signed integer.
-#[inline]
+#[inline(never)]
 pub(crate) fn push_signed_if(out: &mut Vec<u8>, is_valid: bool, integer: i64) -> Appended
     ensures ok { OnOk result
         (out.new.items ≡ out.old.items ++ (if is_valid then signed_decimal integer else null)) }
@@ -145,7 +191,7 @@ pub(crate) fn push_signed_if(out: &mut Vec<u8>, is_valid: bool, integer: i64) ->
 }
 
 /// The same for an unsigned integer.
-#[inline]
+#[inline(never)]
 pub(crate) fn push_unsigned_if(out: &mut Vec<u8>, is_valid: bool, integer: u64) -> Appended
     ensures ok { OnOk result
         (out.new.items ≡ out.old.items ++ (if is_valid then signed_decimal (pos integer) else null)) }
@@ -154,7 +200,7 @@ pub(crate) fn push_unsigned_if(out: &mut Vec<u8>, is_valid: bool, integer: u64) 
 }
 
 /// The same for an integer of 128 bits.
-#[inline]
+#[inline(never)]
 pub(crate) fn push_wide_if(out: &mut Vec<u8>, is_valid: bool, integer: i128) -> Appended
     ensures ok { OnOk result
         (out.new.items ≡ out.old.items ++ (if is_valid then signed_decimal integer else null)) }
@@ -163,7 +209,7 @@ pub(crate) fn push_wide_if(out: &mut Vec<u8>, is_valid: bool, integer: i128) -> 
 }
 
 /// Appends a boolean, or `null` where there is none.
-#[inline]
+#[inline(never)]
 pub(crate) fn push_boolean_if(out: &mut Vec<u8>, is_valid: bool, boolean: bool) -> Appended
     ensures ok { OnOk result
         (out.new.items

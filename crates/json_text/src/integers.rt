@@ -3,10 +3,11 @@ ghost use Rattle.std.specs.Prelude.{◌≡◌, ◌++◌, OnOk, if◌then◌else�
 ghost use Rattle.arrow_types.specs.declared.slot.Slot.TheVariants.{Integer as IntegerSlot};
 ghost use Rattle.arrow_array.specs.Parts.{IsPlain};
 ghost use Rattle.json_dates.specs.Times.{date_json, timestamp_json};
-ghost use Rattle.json_text.specs.JsonText.{null, text, zone_offset};
+ghost use Rattle.json_text.specs.Columns.{IsForm, integer_text};
+ghost use Rattle.json_text.specs.JsonText.{null, zone_offset};
 ghost use Rattle.json_text.specs.Refusals.{in_range};
 
-use crate::bytes::{Appended, push_signed_if};
+use crate::bytes::{Appended, push_null, push_signed};
 use arrow_core::Text;
 use arrow_types::{DataType, TimeUnit};
 use json_dates::{
@@ -14,6 +15,19 @@ use json_dates::{
     push_timestamp,
 };
 use std::alloc::AllocError;
+
+/// How the integers of a column are written, made once from its type.
+#[derive(Clone, Copy)]
+pub enum IntegerForm {
+    /// In decimal.
+    Decimal,
+    /// As dates, of days since 1970-01-01.
+    Days,
+    /// As dates, of milliseconds since 1970-01-01 00:00:00.
+    Milliseconds,
+    /// As timestamps that count a unit, on the clock of an offset in minutes east of UTC.
+    Timestamp(TimeUnit, Option<i16>),
+}
 
 /// The minutes that the offset of a zone, if there is one, is east of UTC.
 #[inline]
@@ -23,6 +37,23 @@ fn minutes_of(zone: &Option<Text>) -> Option<i16>
     match zone {
         Some(zone) => parse_offset(zone.as_str()),
         None => None,
+    }
+}
+
+/// How integers of the type are written, or where it is a type of lists or a dictionary, those of
+/// its items or values.
+pub fn integer_form(data_type: &DataType) -> IntegerForm
+    ensures { IsForm result data_type.now }
+{
+    match data_type {
+        DataType::Date32 => IntegerForm::Days,
+        DataType::Date64 => IntegerForm::Milliseconds,
+        DataType::Timestamp(unit, zone) => IntegerForm::Timestamp(*unit, minutes_of(zone)),
+        DataType::List(field) => integer_form(&field.get().data_type),
+        DataType::LargeList(field) => integer_form(&field.get().data_type),
+        DataType::FixedSizeList(field, _) => integer_form(&field.get().data_type),
+        DataType::Dictionary(_, values, _) => integer_form(values.get()),
+        _ => IntegerForm::Decimal,
     }
 }
 
@@ -36,35 +67,36 @@ fn push_day(out: &mut Vec<u8>, day: i64) -> Appended
     }
 }
 
-/// Appends the text of a timestamp of the zone.
-fn push_moment(out: &mut Vec<u8>, unit: TimeUnit, zone: &Option<Text>, value: i64) -> Appended
-    ensures ok { OnOk result
-        (out.new.items ≡ out.old.items ++ timestamp_json unit (zone_offset zone.now) value) }
+/// Appends the text of a timestamp on the clock of an offset.
+fn push_moment(out: &mut Vec<u8>, unit: TimeUnit, offset: Option<i16>, value: i64) -> Appended
+    ensures ok { OnOk result (out.new.items ≡ out.old.items ++ timestamp_json unit offset value) }
 {
-    match push_timestamp(out, unit, minutes_of(zone), value) {
+    match push_timestamp(out, unit, offset, value) {
         Ok(()) => Ok(()),
         Err(_) => Err(AllocError),
     }
 }
 
-/// Appends the text of an integer of the type, or `null` where there is none.
-#[inline]
-pub(crate) fn push_number_if(
+/// Appends the text of an integer by its form, or `null` where there is none.
+#[inline(never)]
+pub(crate) fn push_integer_if(
     out: &mut Vec<u8>,
-    data_type: &DataType,
+    form: &IntegerForm,
     is_valid: bool,
-    number: i64,
+    integer: i64,
 ) -> Appended
-    requires { (p : _) × IsPlain p data_type.now }
     ensures ok { OnOk result
         (out.new.items
-        ≡ out.old.items ++ (if is_valid then text data_type.now (IntegerSlot number) else null)) }
+        ≡ out.old.items ++ (if is_valid then integer_text form.now integer else null)) }
 {
-    match data_type {
-        DataType::Date32 if is_valid => push_day(out, number),
-        DataType::Date64 if is_valid => push_day(out, day_of_milliseconds(number)),
-        DataType::Timestamp(unit, zone) if is_valid => push_moment(out, *unit, zone, number),
-        _ => push_signed_if(out, is_valid, number),
+    if !is_valid {
+        return push_null(out);
+    }
+    match form {
+        IntegerForm::Decimal => push_signed(out, integer),
+        IntegerForm::Days => push_day(out, integer),
+        IntegerForm::Milliseconds => push_day(out, day_of_milliseconds(integer)),
+        IntegerForm::Timestamp(unit, offset) => push_moment(out, *unit, *offset, integer),
     }
 }
 

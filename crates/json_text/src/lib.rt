@@ -3,14 +3,14 @@
 
 mod bytes;
 mod checks;
+mod columns;
 mod integers;
-mod names;
 mod range;
 mod slots;
 mod types;
 
-pub use bytes::{Appended, push, push_comma, push_string};
+pub use bytes::{Appended, push, push_string};
 pub use checks::check;
-pub use names::escapes_names;
-pub use slots::{push_slot, push_slot_named};
+pub use columns::{Column, push_column};
+pub use slots::{push_object, push_slot, push_slots};
 pub use types::has_text;

@@ -1,21 +1,23 @@
-//! The text of one slot of an array.
-ghost use Rattle.std.specs.Prelude.{◌≡◌, ◌+◌, ◌<◌, ◌++◌, length, map, OnOk, if◌then◌else◌};
-ghost use Rattle.std.specs.Bool.{OnFalse};
+//! The text of slots of an array.
+ghost use Rattle.std.specs.Prelude.{◌≡◌, ◌+◌, ◌-◌, ◌<◌, ◌≤◌, ◌++◌, length, map, take, drop, OnOk, if◌then◌else◌};
 ghost use Rattle.arrow_types.specs.declared.types.DataType.TheVariants.{Struct as StructType};
 ghost use Rattle.arrow_array.specs.Arrays.{array_type, array_slots};
 ghost use Rattle.arrow_array.specs.Kinds.{IsStructType};
 ghost use Rattle.arrow_array.specs.Lent.{IsPart, part_slots};
 ghost use Rattle.arrow_array.specs.Slots.{slot_at};
-ghost use Rattle.arrow_array.specs.Structs.{AreChildren, HaveSlots};
-ghost use Rattle.json_text.specs.JsonText.{text, array, object, field_members, null};
-ghost use Rattle.json_text.specs.PlainNames.{HasPlainNames, HavePlainNames};
+ghost use Rattle.arrow_array.specs.Structs.{HaveSlots};
+ghost use Rattle.json_text.specs.Columns.{AreColumns, AreWithin, IsForm, columns_object};
+ghost use Rattle.json_text.specs.JsonText.{text, array, joined, null};
 
 use crate::bytes::{
-    Appended, push, push_boolean_if, push_comma, push_name, push_null, push_signed_if,
-    push_string_if, push_unsigned_if, push_wide_if,
+    Appended, push, push_boolean_if, push_comma, push_null, push_signed_if, push_string_if,
+    push_unsigned_if, push_wide_if,
 };
-use crate::integers::push_number_if;
-use arrow_array::{Array, Part};
+use crate::columns::{Column, columns_within};
+use crate::integers::{IntegerForm, integer_form, push_integer_if};
+use arrow_array::{
+    Array, DictionaryArray, FixedSizeListArray, LargeListArray, ListArray, Part, StructArray,
+};
 use arrow_types::{DataType, Field};
 
 /// Appends the JSON text of slot `i` of the array, by its type. Meant for arrays that `check`
@@ -30,17 +32,37 @@ pub fn push_slot(out: &mut Vec<u8>, array: &Array, i: usize) -> Appended
         (out.new.items
         ≡ out.old.items ++ text (array_type array.now) (slot_at (array_slots array.now) i)) }
 {
-    push_slot_named(out, array, i, true)
+    let columns = columns_within(*out.allocator(), array.data_type())?;
+    let form = integer_form(array.data_type());
+    push_value(out, array, i, &form, columns.as_slice())
 }
 
-/// The same where it is told whether names of members need an escape, as `escapes_names` tells it
-/// once for all slots.
+/// Appends the texts of all slots of the array, with commas between them.
 ///
 /// `AllocError` where there is no memory.
+pub fn push_slots(out: &mut Vec<u8>, array: &Array) -> Appended
+    ensures ok { OnOk result
+        (out.new.items
+        ≡ out.old.items ++ joined (map (text (array_type array.now)) (array_slots array.now))) }
+{
+    let columns = columns_within(*out.allocator(), array.data_type())?;
+    let form = integer_form(array.data_type());
+    push_items(out, array, 0, array.len(), &form, columns.as_slice())
+}
+
+/// Appends the text of slot `i` of the array, whose integers have this form, and within which stand
+/// these columns.
 #[cycle(slots)]
-pub fn push_slot_named(out: &mut Vec<u8>, array: &Array, i: usize, escapes: bool) -> Appended
+fn push_value(
+    out: &mut Vec<u8>,
+    array: &Array,
+    i: usize,
+    form: &IntegerForm,
+    columns: &[Column],
+) -> Appended
     requires within { i < length (array_slots array.now) }
-    requires names { OnFalse escapes (HasPlainNames (array_type array.now)) }
+    requires form { IsForm form.now (array_type array.now) }
+    requires columns { AreWithin (array_type array.now) columns.now }
     ensures ok { OnOk result
         (out.new.items
         ≡ out.old.items ++ text (array_type array.now) (slot_at (array_slots array.now) i)) }
@@ -61,11 +83,12 @@ pub fn push_slot_named(out: &mut Vec<u8>, array: &Array, i: usize, escapes: bool
             push_signed_if(out, array.is_valid(i), array.value(i) as i64)
         }
         Array::Int32(array) => {
-            let number = array.value(i) as i64;
-            push_number_if(out, array.data_type(), array.is_valid(i), number)
+            let _ = array.data_type();
+            push_integer_if(out, form, array.is_valid(i), array.value(i) as i64)
         }
         Array::Int64(array) => {
-            push_number_if(out, array.data_type(), array.is_valid(i), array.value(i))
+            let _ = array.data_type();
+            push_integer_if(out, form, array.is_valid(i), array.value(i))
         }
         Array::UInt8(array) => {
             let _ = array.data_type();
@@ -110,17 +133,11 @@ pub fn push_slot_named(out: &mut Vec<u8>, array: &Array, i: usize, escapes: bool
             let _ = array.value(i);
             push_null(out)
         }
-        Array::List(array) => push_list(out, array.is_valid(i), &array.value(i), escapes),
-        Array::LargeList(array) => push_list(out, array.is_valid(i), &array.value(i), escapes),
-        Array::FixedSizeList(array) => push_list(out, array.is_valid(i), &array.value(i), escapes),
-        Array::Struct(array) => {
-            let fields = fields_of(array.data_type());
-            push_struct(out, array.is_valid(i), fields, array.values(), i, escapes)
-        }
-        Array::Dictionary(array) => match array.keys().index(i) {
-            Some(index) => push_slot_named(out, array.values(), index, true),
-            None => push_null(out),
-        },
+        Array::List(array) => push_list(out, array, i, form, columns),
+        Array::LargeList(array) => push_large_list(out, array, i, form, columns),
+        Array::FixedSizeList(array) => push_fixed_size_list(out, array, i, form, columns),
+        Array::Struct(array) => push_struct(out, array, i, columns),
+        Array::Dictionary(array) => push_dictionary(out, array, i, form, columns),
     }
 }
 
@@ -135,11 +152,112 @@ pub(crate) fn fields_of(data_type: &DataType) -> &[Field]
     }
 }
 
+/// Appends the text of a list.
+#[inline(never)]
+#[cycle(slots)]
+fn push_list(
+    out: &mut Vec<u8>,
+    array: &ListArray,
+    i: usize,
+    form: &IntegerForm,
+    columns: &[Column],
+) -> Appended
+    requires within { i < length array.now.slots }
+    requires form { IsForm form.now array.now.data_type }
+    requires columns { AreWithin array.now.data_type columns.now }
+    ensures ok { OnOk result
+        (out.new.items ≡ out.old.items ++ text array.now.data_type (slot_at array.now.slots i)) }
+{
+    push_part(out, array.is_valid(i), &array.value(i), form, columns)
+}
+
+/// Appends the text of a large list.
+#[inline(never)]
+#[cycle(slots)]
+fn push_large_list(
+    out: &mut Vec<u8>,
+    array: &LargeListArray,
+    i: usize,
+    form: &IntegerForm,
+    columns: &[Column],
+) -> Appended
+    requires within { i < length array.now.slots }
+    requires form { IsForm form.now array.now.data_type }
+    requires columns { AreWithin array.now.data_type columns.now }
+    ensures ok { OnOk result
+        (out.new.items ≡ out.old.items ++ text array.now.data_type (slot_at array.now.slots i)) }
+{
+    push_part(out, array.is_valid(i), &array.value(i), form, columns)
+}
+
+/// Appends the text of a list of fixed size.
+#[inline(never)]
+#[cycle(slots)]
+fn push_fixed_size_list(
+    out: &mut Vec<u8>,
+    array: &FixedSizeListArray,
+    i: usize,
+    form: &IntegerForm,
+    columns: &[Column],
+) -> Appended
+    requires within { i < length array.now.slots }
+    requires form { IsForm form.now array.now.data_type }
+    requires columns { AreWithin array.now.data_type columns.now }
+    ensures ok { OnOk result
+        (out.new.items ≡ out.old.items ++ text array.now.data_type (slot_at array.now.slots i)) }
+{
+    push_part(out, array.is_valid(i), &array.value(i), form, columns)
+}
+
+/// Appends the text of a dictionary's value.
+#[inline(never)]
+#[cycle(slots)]
+fn push_dictionary(
+    out: &mut Vec<u8>,
+    array: &DictionaryArray,
+    i: usize,
+    form: &IntegerForm,
+    columns: &[Column],
+) -> Appended
+    requires within { i < length array.now.slots }
+    requires form { IsForm form.now array.now.data_type }
+    requires columns { AreWithin array.now.data_type columns.now }
+    ensures ok { OnOk result
+        (out.new.items ≡ out.old.items ++ text array.now.data_type (slot_at array.now.slots i)) }
+{
+    match array.keys().index(i) {
+        Some(index) => push_value(out, array.values(), index, form, columns),
+        None => push_null(out),
+    }
+}
+
+/// Appends the text of a struct.
+#[inline(never)]
+#[cycle(slots)]
+fn push_struct(out: &mut Vec<u8>, array: &StructArray, i: usize, columns: &[Column]) -> Appended
+    requires within { i < length array.now.slots }
+    requires columns { AreWithin array.now.data_type columns.now }
+    ensures ok { OnOk result
+        (out.new.items ≡ out.old.items ++ text array.now.data_type (slot_at array.now.slots i)) }
+{
+    if !array.is_valid(i) {
+        return push_null(out);
+    }
+    push_object(out, array.values(), i, columns)
+}
+
 /// Appends the text of a list, or `null` where there is none.
 #[cycle(slots)]
-fn push_list(out: &mut Vec<u8>, is_valid: bool, part: &Part<'_>, escapes: bool) -> Appended
+fn push_part(
+    out: &mut Vec<u8>,
+    is_valid: bool,
+    part: &Part<'_>,
+    form: &IntegerForm,
+    columns: &[Column],
+) -> Appended
     requires part { IsPart part.now }
-    requires names { OnFalse escapes (HasPlainNames (array_type part.now.array.now)) }
+    requires form { IsForm form.now (array_type part.now.array.now) }
+    requires columns { AreWithin (array_type part.now.array.now) columns.now }
     ensures ok { OnOk result
         (out.new.items
         ≡ out.old.items
@@ -149,41 +267,58 @@ fn push_list(out: &mut Vec<u8>, is_valid: bool, part: &Part<'_>, escapes: bool) 
         return push_null(out);
     }
     push(out, b"[")?;
-    for k in 0..part.end - part.start {
-        push_comma(out, k)?;
-        push_slot_named(out, part.array, part.start + k, escapes)?;
-    }
+    push_items(out, part.array, part.start, part.end, form, columns)?;
     push(out, b"]")
 }
 
-/// Appends the text of the struct of the children's slots at index `i`, or `null` where there is
-/// none.
+/// Appends the texts of the slots from `start` to `end`, with commas between them.
 #[cycle(slots)]
-fn push_struct(
+fn push_items(
     out: &mut Vec<u8>,
-    is_valid: bool,
-    fields: &[Field],
-    children: &[Array],
-    i: usize,
-    escapes: bool,
+    array: &Array,
+    start: usize,
+    end: usize,
+    form: &IntegerForm,
+    columns: &[Column],
 ) -> Appended
-    requires children { (n : _) × AreChildren n fields.now children.now }
-    requires slots { HaveSlots (i + 1) children.now }
-    requires names { OnFalse escapes (HavePlainNames fields.now) }
+    requires order { start ≤ end }
+    requires within { end ≤ length (array_slots array.now) }
+    requires form { IsForm form.now (array_type array.now) }
+    requires columns { AreWithin (array_type array.now) columns.now }
     ensures ok { OnOk result
         (out.new.items
         ≡ out.old.items
-        ++ (if is_valid then object (field_members fields.now (map (λ slots. slot_at slots i) (map array_slots children.now))) else null)) }
+        ++ joined (map (text (array_type array.now)) (take (end - start) (drop start (array_slots array.now))))) }
 {
-    if !is_valid {
-        return push_null(out);
-    }
-    push(out, b"{")?;
-    for k in 0..children.len() {
+    for k in 0..end - start {
         push_comma(out, k)?;
-        push_name(out, fields[k].name.as_str(), escapes)?;
-        push(out, b":")?;
-        push_slot_named(out, &children[k], i, escapes)?;
+        push_value(out, array, start + k, form, columns)?;
+    }
+    Ok(())
+}
+
+/// Appends the object of the arrays' slots at index `i`, a member for each of these columns.
+///
+/// `AllocError` where there is no memory.
+#[cycle(slots)]
+pub fn push_object(out: &mut Vec<u8>, arrays: &[Array], i: usize, columns: &[Column]) -> Appended
+    requires slots { HaveSlots (i + 1) arrays.now }
+    requires columns { AreColumns arrays.now columns.now }
+    ensures ok { OnOk result
+        (out.new.items ≡ out.old.items ++ columns_object arrays.now columns.now i) }
+{
+    if arrays.is_empty() {
+        return push(out, b"{}");
+    }
+    let mut rest = columns;
+    for array in arrays {
+        let [column, more @ ..] = rest else {
+            unreachable!()
+        };
+        push(out, column.key.as_slice())?;
+        let (within, after) = more.split_at(column.within);
+        push_value(out, array, i, &column.form, within)?;
+        rest = after;
     }
     push(out, b"}")
 }

@@ -1,15 +1,16 @@
-//! JSON texts read whole into a tree of values (RFC 8259).
+//! JSON texts read whole into a tree of values (RFC 8259). The modules `reader`, `strings`, `number` and `values`
+//! have what reads the parts of a text, for crates that read texts without a tree.
 #![tactic(auto)]
 
 mod laws;
 mod members;
-mod number;
+pub mod number;
 mod pieces;
-mod reader;
-mod strings;
+pub mod reader;
+pub mod strings;
 mod texts;
 mod value;
-mod values;
+pub mod values;
 
 pub use laws::{one_value, within_the_limit, written_string_reads_back};
 pub use texts::parse;

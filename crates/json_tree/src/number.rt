@@ -11,9 +11,9 @@ use crate::value::{JsonFault, Number, Value};
 use arrow_core::Text;
 use std::alloc::Global;
 
-// One digit or more. The fault is `Text`, as in each of these parts.
+/// One digit or more. The fault is `Text`, as in each of these parts.
 #[tactic(auto, unfolding(crate::specs::Reading::digits_at))]
-fn some_digits<'a>(reader: &mut Reader<'a>) -> Result<(), JsonFault>
+pub fn some_digits<'a>(reader: &mut Reader<'a>) -> Result<(), JsonFault>
     ensures reads { Moves digits_at result reader.old reader.new }
     ensures forward { length reader.new ≤ length reader.old }
 {
@@ -29,9 +29,9 @@ fn some_digits<'a>(reader: &mut Reader<'a>) -> Result<(), JsonFault>
     }
 }
 
-// 0, or digits of which the first is not 0. Where 0 comes first, the digits after it are left.
+/// 0, or digits of which the first is not 0. Where 0 comes first, the digits after it are left.
 #[tactic(auto, unfolding(crate::specs::Reading::int_at))]
-fn integer_part<'a>(reader: &mut Reader<'a>) -> Result<(), JsonFault>
+pub fn integer_part<'a>(reader: &mut Reader<'a>) -> Result<(), JsonFault>
     ensures reads { Moves int_at result reader.old reader.new }
     ensures forward { length reader.new ≤ length reader.old }
 {
@@ -41,17 +41,18 @@ fn integer_part<'a>(reader: &mut Reader<'a>) -> Result<(), JsonFault>
     some_digits(reader)
 }
 
+/// Passes a minus sign where one is next.
 #[tactic(auto, unfolding(crate::specs::Reading::minus_at))]
-fn optional_minus<'a>(reader: &mut Reader<'a>)
+pub fn optional_minus<'a>(reader: &mut Reader<'a>)
     ensures reads { (s : List ℕ) × (minus_at reader.old ≡ found s reader.new) }
     ensures forward { length reader.new ≤ length reader.old }
 {
     reader.takes(b'-');
 }
 
-// Nothing, or a point and digits.
+/// Nothing, or a point and digits.
 #[tactic(auto, unfolding(crate::specs::Reading::frac_at))]
-fn fraction_part<'a>(reader: &mut Reader<'a>) -> Result<(), JsonFault>
+pub fn fraction_part<'a>(reader: &mut Reader<'a>) -> Result<(), JsonFault>
     ensures reads { Moves frac_at result reader.old reader.new }
     ensures forward { length reader.new ≤ length reader.old }
 {
@@ -71,15 +72,16 @@ fn optional_sign<'a>(reader: &mut Reader<'a>)
     reader.takes(b'+');
 }
 
-fn is_exponent(byte: u8) -> bool
+/// Whether an exponent begins with this byte: e of either case.
+pub fn is_exponent(byte: u8) -> bool
     ensures { result ≡ is_exponent_mark byte }
 {
     byte == b'e' || byte == b'E'
 }
 
-// Nothing, or e of either case, a sign and digits.
+/// Nothing, or e of either case, a sign and digits.
 #[tactic(auto, unfolding(crate::specs::Reading::exp_at))]
-fn exponent_part<'a>(reader: &mut Reader<'a>) -> Result<(), JsonFault>
+pub fn exponent_part<'a>(reader: &mut Reader<'a>) -> Result<(), JsonFault>
     ensures reads { Moves exp_at result reader.old reader.new }
     ensures forward { length reader.new ≤ length reader.old }
 {
@@ -133,8 +135,8 @@ fn exponent_text(alloc: Global, bytes: &[u8]) -> Result<Text, JsonFault>
     encoded_exponent(alloc, bytes)
 }
 
-// All but the first of the first n bytes.
-fn after_first(bytes: &[u8], n: usize) -> &[u8]
+/// All but the first of the first n bytes.
+pub fn after_first(bytes: &[u8], n: usize) -> &[u8]
     requires { n ≤ length bytes.now }
     ensures { result.now ≡ drop 1 (take n bytes.now) }
 {

@@ -12,7 +12,7 @@ use std::simd::prelude::*;
 
 /// The bytes that are still ahead. They end a text that is UTF-8.
 #[derive(Drop)]
-pub(crate) struct Reader<'a> {
+pub struct Reader<'a> {
     bytes: &'a [u8],
 }
 
@@ -38,15 +38,16 @@ fn is_space(byte: u8) -> bool
 
 /// A digit (RFC 8259, section 6).
 #[tactic(auto, unfolding(crate::specs::Grammar::is_digit))]
-pub(crate) fn is_decimal(byte: u8) -> bool
+pub fn is_decimal(byte: u8) -> bool
     ensures { result ≡ is_digit byte }
 {
     b'0' <= byte && byte <= b'9'
 }
 
 impl<'a> Reader<'a> {
+    /// A reader of all bytes of a text.
     #[tactic(auto, using(crate::proofs::InTexts::in_whole))]
-    pub(crate) fn new(bytes: &'a [u8]) -> Reader<'a>
+    pub fn new(bytes: &'a [u8]) -> Reader<'a>
         requires { IsUtf8 bytes.now }
         ensures { result ≡ bytes.now }
     {
@@ -54,14 +55,21 @@ impl<'a> Reader<'a> {
     }
 
     /// The bytes ahead.
-    pub(crate) fn rest(&self) -> &'a [u8]
+    pub fn rest(&self) -> &'a [u8]
         ensures { result.now ≡ self.now }
     {
         self.bytes
     }
 
+    /// A second reader, of the bytes that this one has ahead.
+    pub fn again(&self) -> Reader<'a>
+        ensures { result ≡ self.now }
+    {
+        Reader { bytes: self.bytes }
+    }
+
     /// The next byte, which stays ahead.
-    pub(crate) fn peek(&self) -> Option<u8>
+    pub fn peek(&self) -> Option<u8>
         ensures { MatchOption result (self.now ≡ []) (λ x. (t : List ℕ) × (self.now ≡ x ∷ t)) }
     {
         self.bytes.first().copied()
@@ -69,7 +77,7 @@ impl<'a> Reader<'a> {
 
     /// The next byte, which is passed.
     #[tactic(auto, using(crate::proofs::InTexts::in_tail))]
-    pub(crate) fn next(&mut self) -> Option<u8>
+    pub fn next(&mut self) -> Option<u8>
         ensures { MatchOption result
             ((self.old ≡ []) × (self.new ≡ [])) (λ x. self.old ≡ x ∷ self.new) }
     {
@@ -96,7 +104,7 @@ impl<'a> Reader<'a> {
 
     /// Passes white space. Where there is none, nothing is written.
     #[tactic(auto, unfolding(crate::specs::Reading::skip))]
-    pub(crate) fn skip_spaces(&mut self)
+    pub fn skip_spaces(&mut self)
         ensures skipped { self.new ≡ skip self.old }
         ensures forward { length self.new ≤ length self.old }
     {
@@ -113,7 +121,7 @@ impl<'a> Reader<'a> {
     /// Passes this byte where it is next, and tells whether it was. What follows an ASCII byte is
     /// UTF-8.
     #[tactic(auto, using(crate::proofs::InTexts::in_tail))]
-    pub(crate) fn takes(&mut self, byte: u8) -> bool
+    pub fn takes(&mut self, byte: u8) -> bool
         ensures taken { MatchBool result (self.old ≡ byte ∷ self.new)
             ((self.new ≡ self.old) × First (λ x t. x ≢ byte) self.old) }
         ensures text { result ≡ true → byte < 128 → IsUtf8 self.new }
@@ -133,7 +141,7 @@ impl<'a> Reader<'a> {
 
     /// Passes the digits ahead.
     #[tactic(auto, unfolding(crate::specs::Reading::after), using(crate::proofs::InTexts::in_tail))]
-    pub(crate) fn skip_digits(&mut self)
+    pub fn skip_digits(&mut self)
         ensures skipped { self.new ≡ after is_digit self.old }
         ensures forward { length self.new ≤ length self.old }
     {
@@ -148,7 +156,7 @@ impl<'a> Reader<'a> {
     }
 
     /// Passes `n` bytes.
-    pub(crate) fn advance(&mut self, n: usize)
+    pub fn advance(&mut self, n: usize)
         requires { n ≤ length self.old }
         ensures { self.new ≡ drop n self.old }
     {
@@ -157,7 +165,7 @@ impl<'a> Reader<'a> {
 
     /// Passes a string without escapes where it is next, and lends what stands between its
     /// quotation marks. Else nothing is passed.
-    pub(crate) fn plain_string(&mut self) -> Option<&'a str>
+    pub fn plain_string(&mut self) -> Option<&'a str>
         ensures found { MatchOption result (self.new ≡ self.old)
             (λ run. Each is_unescaped run.now × (self.old ≡ 34 ∷ (run.now ++ 34 ∷ self.new))) }
     {
@@ -176,7 +184,7 @@ impl<'a> Reader<'a> {
     }
 
     /// Passes the characters ahead that stand for themselves (RFC 8259, section 7), and lends them.
-    pub(crate) fn unescaped_run(&mut self) -> &'a str
+    pub fn unescaped_run(&mut self) -> &'a str
         requires { IsUtf8 self.old }
         ensures split { self.old ≡ result.now ++ self.new }
         ensures plain { Each is_unescaped result.now }

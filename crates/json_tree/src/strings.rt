@@ -143,8 +143,8 @@ fn short_escape(byte: u8) -> Option<u8>
     }
 }
 
-// The character of an escape, after its reverse solidus.
-fn escape<'a>(reader: &mut Reader<'a>) -> Result<char, JsonFault>
+/// The character of an escape, after its reverse solidus.
+pub fn escape<'a>(reader: &mut Reader<'a>) -> Result<char, JsonFault>
     requires { IsUtf8 reader.old }
     ensures reads { MatchResult result
         (λ c. (escape_at reader.old ≡ found (encode_utf8 c) reader.new) × IsUtf8 reader.new)
@@ -175,9 +175,9 @@ pub(crate) fn owned(alloc: Global, text: &str) -> Result<Text, JsonFault>
     }
 }
 
-// A string of any kind. Runs of characters that stand for themselves are copied as slices.
+/// A string of any kind. Runs of characters that stand for themselves are copied as slices.
 #[inline(never)]
-pub(crate) fn escaped_string<'a>(alloc: Global, reader: &mut Reader<'a>) -> Result<Text, JsonFault>
+pub fn escaped_string<'a>(alloc: Global, reader: &mut Reader<'a>) -> Result<Text, JsonFault>
     ensures reads { Gives (λ v. v) result reader.new (string_at reader.old) }
     ensures forward { length reader.new ≤ length reader.old }
 {
@@ -201,7 +201,7 @@ pub(crate) fn escaped_string<'a>(alloc: Global, reader: &mut Reader<'a>) -> Resu
 
 /// A string, from its opening to its closing quotation mark. One without escapes is copied at once.
 #[inline(always)]
-pub(crate) fn string<'a>(alloc: Global, reader: &mut Reader<'a>) -> Result<Text, JsonFault>
+pub fn string<'a>(alloc: Global, reader: &mut Reader<'a>) -> Result<Text, JsonFault>
     ensures reads { Gives (λ v. v) result reader.new (string_at reader.old) }
     ensures forward { length reader.new ≤ length reader.old }
 {

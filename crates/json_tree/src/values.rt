@@ -51,8 +51,8 @@ fn reserved_items<T: Drop>(alloc: Global) -> Result<Vec<T>, JsonFault>
     }
 }
 
-// Whether the closing bracket is next, after white space. Then it is passed.
-fn closes<'a>(reader: &mut Reader<'a>, close: u8) -> bool
+/// Whether the closing bracket is next, after white space. Then it is passed.
+pub fn closes<'a>(reader: &mut Reader<'a>, close: u8) -> bool
     ensures forward { length reader.new ≤ length reader.old }
     ensures found { MatchBool result (skip reader.old ≡ close ∷ reader.new)
         ((reader.new ≡ skip reader.old) × First (λ x t. x ≢ close) (skip reader.old)) }
@@ -61,8 +61,8 @@ fn closes<'a>(reader: &mut Reader<'a>, close: u8) -> bool
     reader.takes(close)
 }
 
-// Whether a comma is next, after white space, or the closing bracket. It is passed.
-fn goes_on<'a>(reader: &mut Reader<'a>, close: u8) -> Result<bool, JsonFault>
+/// Whether a comma is next, after white space, or the closing bracket. It is passed.
+pub fn goes_on<'a>(reader: &mut Reader<'a>, close: u8) -> Result<bool, JsonFault>
     ensures forward { length reader.new ≤ length reader.old }
     ensures shorter { OnOk result (length reader.new < length reader.old) }
     ensures found { MatchResult result
@@ -85,9 +85,9 @@ fn goes_on<'a>(reader: &mut Reader<'a>, close: u8) -> Result<bool, JsonFault>
     }
 }
 
-// Passes this word.
+/// Passes this word.
 #[inline(always)]
-fn literal<'a>(reader: &mut Reader<'a>, word: &[u8]) -> Result<(), JsonFault>
+pub fn literal<'a>(reader: &mut Reader<'a>, word: &[u8]) -> Result<(), JsonFault>
     ensures reads { MatchResult result (λ _. strip word.now reader.old ≡ found tt reader.new)
         (λ e. (e ≡ JsonFault.Text) × (strip word.now reader.old ≡ wrong)) }
     ensures forward { length reader.new ≤ length reader.old }
@@ -257,8 +257,8 @@ fn array<'a>(
     }
 }
 
-// Passes a colon, after white space.
-fn name_separator<'a>(reader: &mut Reader<'a>) -> Result<(), JsonFault>
+/// Passes a colon, after white space.
+pub fn name_separator<'a>(reader: &mut Reader<'a>) -> Result<(), JsonFault>
     ensures forward { length reader.new ≤ length reader.old }
     ensures found { MatchResult result
         (λ _. skip reader.old ≡ 58 ∷ reader.new)

@@ -1,5 +1,5 @@
 pub mod Arrays
-pub mod Plain
+pub mod Prepared
 pub mod Rows
 pub mod Serializing
 pub mod Written

@@ -12,7 +12,7 @@ ghost use Rattle.json_write.specs.Arrays.{array_refusal, array_texts, AddsGiven,
 
 use arrow_base::{Error, Result};
 use arrow_columns::Array;
-use json_text::{check, escapes_names, push_comma, push_slot_named};
+use json_text::{check, push_slots};
 use lending::FallibleStreamingIterator;
 
 /// Shows, for each array that isn't empty, the JSON texts of its slots, with commas between them.
@@ -25,21 +25,6 @@ where
     buffer: Vec<u8>,
     is_valid: bool,
     has_ended: bool,
-}
-
-/// Appends the texts of the array's slots, with commas between them.
-///
-/// `OutOfMemory` alone.
-fn push_texts(out: &mut Vec<u8>, array: &Array) -> Result<()>
-    ensures ok { IfOk result (λ _. out.new.items ≡ out.old.items ++ array_texts array.now) }
-    ensures memory { IfErr result (λ e. e ≡ OutOfMemory) }
-{
-    let escapes = escapes_names(array.data_type());
-    for i in 0..array.len() {
-        push_comma(out, i)?;
-        push_slot_named(out, array, i, escapes)?;
-    }
-    Ok(())
 }
 
 /// Appends the texts of the array's slots, if it has a text, and answers whether it has slots.
@@ -59,9 +44,9 @@ fn push_array(out: &mut Vec<u8>, array: &Array) -> Result<bool>
     if array.len() == 0 {
         return Ok(false);
     }
-    match push_texts(out, array) {
+    match push_slots(out, array) {
         Ok(()) => Ok(true),
-        Err(error) => Err(error),
+        Err(_) => Err(Error::OutOfMemory),
     }
 }
 

@@ -6,7 +6,6 @@ mod joined;
 mod keys;
 mod lines;
 mod record;
-mod rows;
 
 pub use arrays::Serializer;
 pub use arrow_base::utf8;

@@ -1,58 +1,52 @@
 //! Rows as JSON lines: one JSON object after another, each with a line feed (RFC 8259, section 4).
-ghost use Rattle.std.specs.Prelude.{◌≡◌, ◌++◌, ◌⊎◌, IsSome, None, Some, codes, flat_map, length, map, IfOk, OnOk, IfErr};
+ghost use Rattle.std.specs.Prelude.{◌≡◌, ◌++◌, ◌⊎◌, IsSome, None, Some, codes, flat_map, IfOk, OnOk, IfErr};
 ghost use Rattle.arrow_core.specs.Errors.{OnlyOutOfMemory};
 ghost use Rattle.arrow_core.specs.declared.error.Error.TheVariants.{OutOfMemory};
 ghost use Rattle.arrow_array.specs.Structs.{HaveSlots};
+ghost use Rattle.json_text.specs.Columns.{AreColumns};
 ghost use Rattle.json_write.specs.Rows.{chunk_refusal, names_of, objects};
-ghost use Rattle.json_write.specs.Serializing.{keys_of, keyed_rows};
+ghost use Rattle.json_write.specs.Serializing.{column_rows};
 
-use crate::keys::{check_chunk, make_keys};
-use crate::rows::{escape_names, push_row};
+use crate::keys::prepare;
 use arrow_base::{Field, Result};
 use arrow_columns::{Array, Chunk};
 use arrow_core::Items;
-use json_text::{Appended, push};
+use json_text::{Appended, Column, push, push_object};
 use std::alloc::Global;
 
 /// Writes the rows of chunks as lines. It is made once for the fields, and takes chunk after chunk.
 #[derive(Drop)]
 pub struct LineEncoder {
     fields: Items<Field>,
-    keys: Vec<Vec<u8>>,
-    ghost keys_are: { map (λ key. key.items) keys.items ≡ keys_of (names_of fields) },
 }
 
 /// Appends the object of each of the first `count` rows, and a line feed after each.
 ///
 /// `AllocError` where there is no memory.
-fn push_rows(out: &mut Vec<u8>, keys: &[Vec<u8>], arrays: &[Array], count: usize) -> Appended
-    requires lengths { length keys.now ≡ length arrays.now }
+fn push_rows(out: &mut Vec<u8>, arrays: &[Array], count: usize, columns: &[Column]) -> Appended
     requires slots { HaveSlots count arrays.now }
+    requires columns { AreColumns arrays.now columns.now }
     ensures ok { OnOk result
         (out.new.items
         ≡ out.old.items
-        ++ flat_map (λ row. row ++ codes "\n") (keyed_rows (map (λ key. key.items) keys.now) arrays.now 0 count)) }
+        ++ flat_map (λ row. row ++ codes "\n") (column_rows arrays.now columns.now 0 count)) }
 {
-    let escapes = escape_names(arrays);
     for i in 0..count {
-        push_row(out, keys, arrays, i, escapes)?;
+        push_object(out, arrays, i, columns)?;
         push(out, b"\n")?;
     }
     Ok(())
 }
 
 impl LineEncoder {
-    /// An encoder of rows under these fields. The names are escaped once, here.
+    /// An encoder of rows under these fields.
     ///
     /// `OutOfMemory` alone.
-    pub fn new(alloc: Global, fields: Items<Field>) -> Result<LineEncoder>
+    pub fn new(_alloc: Global, fields: Items<Field>) -> Result<LineEncoder>
         ensures fields { IfOk result (λ encoder. encoder.fields ≡ fields) }
         ensures memory { OnlyOutOfMemory result }
     {
-        match make_keys(alloc, fields.as_slice()) {
-            Ok(keys) => Ok(LineEncoder { fields, keys }),
-            Err(error) => Err(error),
-        }
+        Ok(LineEncoder { fields })
     }
 
     /// Appends a line for each row of the chunk, in order: a JSON object with a member for each
@@ -77,8 +71,8 @@ impl LineEncoder {
             → out.new.items ≡ out.old.items }
     {
         let arrays = chunk.arrays();
-        check_chunk(self.fields.as_slice(), arrays)?;
-        push_rows(out, self.keys.as_slice(), arrays, chunk.len())?;
+        let columns = prepare(*out.allocator(), self.fields.as_slice(), arrays)?;
+        push_rows(out, arrays, chunk.len(), columns.as_slice())?;
         Ok(())
     }
 }

@@ -1,17 +1,17 @@
 //! Rows as JSON objects, one after another.
-ghost use Rattle.std.specs.Prelude.{◌≡◌, ◌≤◌, ◌⊎◌, ℕ, List, Option, Some, None, Result, length, map, IfOk, OnOk, IfErr};
-ghost use Rattle.std.specs.Bool.{OnFalse};
+ghost use Rattle.std.specs.Prelude.{◌≡◌, ◌≤◌, ◌⊎◌, ℕ, List, Option, Some, None, Result, IfOk, OnOk, IfErr};
 ghost use Rattle.std.specs.Borrow.{sem};
 ghost use Rattle.std.specs.Io.BufRead.{Rests};
 ghost use Rattle.lending.specs.Lending.{Advanced, AdvancedNext, IsShown, IsNext};
 ghost use Rattle.arrow_core.specs.declared.error.Error.TheVariants.{OutOfMemory};
 ghost use Rattle.arrow_array.specs.Structs.{HaveSlots};
-ghost use Rattle.json_write.specs.Plain.{ArePlain, on_false_plain-prop};
+ghost use Rattle.json_text.specs.Columns.{AreColumns};
+ghost use Rattle.json_write.specs.Prepared.{columns-prop};
 
 use crate::keys::prepare;
-use crate::rows::{escape_names, push_row};
 use arrow_base::{Error, Result, Schema};
 use arrow_columns::{Array, Chunk};
+use json_text::{Column, push_object};
 use lending::FallibleStreamingIterator;
 use std::alloc::Global;
 
@@ -19,16 +19,14 @@ use std::alloc::Global;
 #[derive(Drop)]
 pub struct RecordSerializer<'a> {
     arrays: &'a [Array],
-    keys: Vec<Vec<u8>>,
+    columns: Vec<Column>,
     count: usize,
     at: usize,
     buffer: Vec<u8>,
     is_valid: bool,
-    escapes: bool,
-    ghost lengths: { length keys.items ≡ length arrays.now },
     ghost slots: { HaveSlots count arrays.now },
     ghost within: { at ≤ count },
-    ghost names: { OnFalse escapes (ArePlain arrays.now) } by { on_false_plain-prop escapes arrays.now },
+    ghost prepared: { AreColumns arrays.now columns.items } by { columns-prop arrays.now columns.items },
 }
 
 /// Lets go of a schema.
@@ -65,14 +63,13 @@ impl<'a> RecordSerializer<'a> {
         let prepared = prepare(alloc, schema.fields.as_slice(), arrays);
         let_go(schema);
         match prepared {
-            Ok(keys) => Ok(RecordSerializer {
+            Ok(columns) => Ok(RecordSerializer {
                 arrays,
-                keys,
+                columns,
                 count: chunk.len(),
                 at: 0,
                 buffer,
                 is_valid: false,
-                escapes: escape_names(arrays),
             }),
             Err(error) => Err(error),
         }
@@ -105,8 +102,8 @@ impl<'a> FallibleStreamingIterator for RecordSerializer<'a> {
             return Ok(());
         }
         self.buffer.clear();
-        let keys = self.keys.as_slice();
-        match push_row(&mut self.buffer, keys, self.arrays, self.at, self.escapes) {
+        let columns = self.columns.as_slice();
+        match push_object(&mut self.buffer, self.arrays, self.at, columns) {
             Ok(()) => {
                 self.at += 1;
                 self.is_valid = true;

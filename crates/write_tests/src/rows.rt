@@ -69,7 +69,7 @@ fn becomes(alloc: Global, word: &str, rows: usize, bytes: &[u8], wanted: &[u8]) 
 /// durations the bytes are those of Python's `struct`.
 #[test]
 fn canonical_rows_stay(rt: HostRuntime) {
-    let table: [(&str, usize, &[u8]); 22] = [
+    let table: [(&str, usize, &[u8]); 27] = [
         ("a=boolean", 2, b"\x01\x00"),
         ("a=int", 3, b"\x02\x03\xff\xff\xff\xff\x0f"),
         ("a=date", 1, b"\x98\xb4\x02"),
@@ -81,7 +81,12 @@ fn canonical_rows_stay(rt: HostRuntime) {
         ),
         ("a=time-micros", 1, b"\x02"),
         ("a=timestamp-nanos", 1, b"\x01"),
+        ("a=timestamp-millis", 1, b"\x80\x01"),
+        ("a=timestamp-micros", 1, b"\x02"),
         ("a=local-timestamp-millis", 1, b"\xb8\x17"),
+        ("a=local-timestamp-micros", 1, b"\x03"),
+        ("a=local-timestamp-nanos", 1, b"\x04"),
+        ("a=uuid", 1, b"\x48f81d4fae-7dec-11d0-a765-00a0c91e6bf6"),
         ("a=bytes", 2, b"\x00\x04\x00\xff"),
         ("a=string", 2, b"\x00\x06\x68\xc3\xa9"),
         ("a=string?", 2, b"\x00\x02\x02\x61"),

@@ -13,8 +13,17 @@ loop-at-preserved g c = record {
   takes = filled.filling _ _ _ c.loop-at.at c.in_ok-at.field-0 c.extend_buffer.new.bytes.items c.fill_some.new.bytes.items (rw c.in_ok-extend_buffer.ensures.kept c.loop-at.invariant.takes) c.in_ok-at.ensures.taken;
   at = omega (arith, c.in_ok-at.ensures.count, c.in_ok-at.ensures.len);
   within = omega (arith, c.in_ok-extend_buffer.ensures.within, c.in_ok-at.ensures.len);
+  grown = omega (arith, c.in_ok-at.ensures.len, filled.still_grown _ _ _ _ _ _ _ _ c.loop-at.invariant.takes (omega (arith, c.loop-at.invariant.at, c.loop-at.bytes.ok.0)) c.in_ok-at.ensures.never_rises c.loop-at.invariant.grown c.in_ok-extend_buffer.ensures.piece);
   same = c.in_ok-at.ensures.same ∙ c.loop-at.invariant.same;
 }
+
+pub returns-in_err-at-clause-grown : goal.returns-in_err-at-clause-grown
+returns-in_err-at-clause-grown g c =
+    omega (arith, c.in_err-at.ensures.len, filled.still_grown _ _ _ _ _ _ _ _ c.loop-at.invariant.takes (omega (arith, c.loop-at.invariant.at, c.loop-at.bytes.ok.0)) c.in_err-at.ensures.never_rises c.loop-at.invariant.grown c.in_ok-extend_buffer.ensures.piece)
+
+pub returns-in_err-extend_buffer-clause-grown : goal.returns-in_err-extend_buffer-clause-grown
+returns-in_err-extend_buffer-clause-grown g c =
+    filled.still_grown _ _ _ _ _ _ _ _ c.loop-at.invariant.takes (omega (arith, c.loop-at.invariant.at, c.loop-at.bytes.ok.0)) (omega arith) c.loop-at.invariant.grown c.in_err-extend_buffer.ensures.piece
 
 pub returns-in_err-extend_buffer-clause-stops : goal.returns-in_err-extend_buffer-clause-stops
 returns-in_err-extend_buffer-clause-stops g c =

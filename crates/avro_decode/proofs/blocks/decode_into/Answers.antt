@@ -1,4 +1,4 @@
-use Rattle.std.proofs.Common.{◌∙◌, List, drop, sym, subst}
+use Rattle.std.proofs.Common.{◌∙◌, List, drop, refl, sym, subst}
 use Rattle.arrow_types.specs.declared.slot.Slot.{Slot}
 use Rattle.avro_reference.proofs.Counting.{on_ok}
 use Rattle.avro_decode.specs.Columns.{AreColumns}
@@ -8,13 +8,24 @@ use Rattle.avro_decode.proofs.Valid.{decoded_is_valid}
 use Rattle.avro_decode.proofs.Wholes.{same_lengths, never_refused}
 use Rattle.avro_decode.proofs.blocks.decode_into.Goals as goal
 
+pub deserialize_into-requires : goal.deserialize_into-requires
+deserialize_into-requires c κs =
+    let r = c.requires.ready in
+    let reserved = c.reserve_rows.ensures in
+    let l = r.together.lengths in
+    let data_types = reserved.data_types ∙ r.data_types in
+    let suits = suit_same _ _ _ reserved.shapes r.suits in
+    let types_fit = fits_stay _ _ reserved.shapes r.types_fit in
+    ((refl, tt), (sym l.0 ∙ l.1, (r.together.carried, (r.together.fits, (data_types, (suits, (types_fit, (reserved.tight, reserved.empty))))))))
+
 pub freeze-requires-clause-types_fit : goal.freeze-requires-clause-types_fit
-freeze-requires-clause-types_fit c = fits_stay _ _ c.in_ok-deserialize_into.ensures.shapes c.requires.ready.types_fit
+freeze-requires-clause-types_fit c =
+    fits_stay _ _ (c.in_ok-deserialize_into.ensures.shapes ∙ c.reserve_rows.ensures.shapes) c.requires.ready.types_fit
 
 pub returns-clause-ready : goal.returns-clause-ready
 returns-clause-ready c =
     let r = c.requires.ready in
-    let shapes = c.in_ok-freeze.ensures.shapes ∙ c.in_ok-deserialize_into.ensures.shapes in
+    let shapes = c.in_ok-freeze.ensures.shapes ∙ c.in_ok-deserialize_into.ensures.shapes ∙ c.reserve_rows.ensures.shapes in
     on_ok c.try_new.result (record {
       together = r.together;
       suits = suit_same _ _ _ shapes r.suits;

@@ -8,7 +8,9 @@ append_flat-requires c =
     let p = flat_slot c.args.schema.now c.args.array.now _ c.requires.flat c.requires.types c.requires.slots c.requires.kind.0 in
     record { within = c.requires.within; held = p.held; kind = p.kind; fits = p.fits }
 
-pub returns-clause-ok : goal.returns-clause-ok
-returns-clause-ok c =
-    let p = flat_slot c.args.schema.now c.args.array.now _ c.requires.flat c.requires.types c.requires.slots c.requires.kind.0 in
-    on_ok_weaker c.append_flat.result (λ e. e ∙ ap (λ (z : List ℕ). c.args.out.now.items ++ z) p.same) c.append_flat.ensures.ok
+pub returns : goal.returns
+returns c = record {
+  ok =
+      let p = flat_slot c.args.schema.now c.args.array.now _ c.requires.flat c.requires.types c.requires.slots c.requires.kind.0 in
+      on_ok_weaker c.append_flat.result (λ e. e ∙ ap (λ (z : List ℕ). c.args.out.now.items ++ z) p.same) c.append_flat.ensures.ok;
+}

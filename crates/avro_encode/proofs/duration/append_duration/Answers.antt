@@ -8,13 +8,15 @@ joined : (old a b x now next end : List ℕ) → now ≡ old ++ a → next ≡ n
 joined old a b x now next end e f g =
     g ∙ ap (λ (z : List ℕ). z ++ x) (f ∙ ap (λ (z : List ℕ). z ++ b) e) ∙ append_assoc (old ++ a) b x ∙ append_assoc old a (b ++ x)
 
-pub returns-clause-ok : goal.returns-clause-ok
-returns-clause-ok c =
-    let old = c.args.out.now.items in
-    let m = ap four_bytes (to_z-of_z w32 c.args.months c.ranges.months) in
-    let d = ap four_bytes (to_z-of_z w32 c.args.days c.ranges.days) in
-    let s = ap four_bytes (to_z-of_z w32 c.milliseconds.result (record { sfits = c.milliseconds.type_inv }) ∙ c.milliseconds.ensures ∙ ap milliseconds (to_z-of_z w64 c.args.nanoseconds c.ranges.nanoseconds)) in
-    on_ok_weaker c.append_four-3.result
-    (λ e. joined old (four_bytes c.args.months) (four_bytes c.args.days) (four_bytes (milliseconds c.args.nanoseconds)) c.append_four.new.out.items c.append_four-2.new.out.items c.append_four-3.new.out.items
-    (c.in_ok-append_four.ensures.ok ∙ ap (λ (z : List ℕ). old ++ z) m) (c.in_ok-append_four-2.ensures.ok ∙ ap (λ (z : List ℕ). c.append_four.new.out.items ++ z) d) (e ∙ ap (λ (z : List ℕ). c.append_four-2.new.out.items ++ z) s))
-    c.append_four-3.ensures.ok
+pub returns : goal.returns
+returns c = record {
+  ok =
+      let old = c.args.out.now.items in
+      let m = ap four_bytes (to_z-of_z w32 c.args.months c.ranges.months) in
+      let d = ap four_bytes (to_z-of_z w32 c.args.days c.ranges.days) in
+      let s = ap four_bytes (to_z-of_z w32 c.milliseconds.result (record { sfits = c.milliseconds.type_inv }) ∙ c.milliseconds.ensures ∙ ap milliseconds (to_z-of_z w64 c.args.nanoseconds c.ranges.nanoseconds)) in
+      on_ok_weaker c.append_four-3.result
+      (λ e. joined old (four_bytes c.args.months) (four_bytes c.args.days) (four_bytes (milliseconds c.args.nanoseconds)) c.append_four.new.out.items c.append_four-2.new.out.items c.append_four-3.new.out.items
+      (c.in_ok-append_four.ensures.ok ∙ ap (λ (z : List ℕ). old ++ z) m) (c.in_ok-append_four-2.ensures.ok ∙ ap (λ (z : List ℕ). c.append_four.new.out.items ++ z) d) (e ∙ ap (λ (z : List ℕ). c.append_four-2.new.out.items ++ z) s))
+      c.append_four-3.ensures.ok;
+}

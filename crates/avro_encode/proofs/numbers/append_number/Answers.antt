@@ -1,9 +1,10 @@
-use Rattle.std.proofs.Common.{List, ℕ, w64, ◌++◌, ap, sym, ◌∙◌}
+use Rattle.std.proofs.Common.{w64, ◌++◌, ap, ◌∙◌}
 use Rattle.std.proofs.lemmas.Int.{to_z-of_z}
-use Rattle.avro_container.specs.Shortest.{zigzagged}
-use Rattle.avro_encode.proofs.OneByte.{one_byte}
+use Rattle.std.proofs.lemmas.Result.{on_ok_weaker}
+use Rattle.avro_container.specs.Shortest.{groups, zigzagged}
 use Rattle.avro_encode.proofs.numbers.append_number.Goals as goal
 
-pub returns-in_ok-push-clause-ok : goal.returns-in_ok-push-clause-ok
-returns-in_ok-push-clause-ok c =
-    c.in_ok-push.ensures.items ∙ ap (λ (z : List ℕ). c.args.out.now.items ++ z) (sym (one_byte c.args.value c.zigzagged-number.result (c.zigzagged-number.ensures ∙ ap zigzagged (to_z-of_z w64 c.args.value c.ranges.value)) c.if-number-lt128.true))
+pub returns : goal.returns
+returns c =
+    let same = c.zigzagged.ensures ∙ ap zigzagged (to_z-of_z w64 c.args.value c.ranges.value) in
+    record { ok = on_ok_weaker c.append_groups.result (λ e. e ∙ ap (λ n. c.args.out.now.items ++ groups 9 n) same) c.append_groups.ensures.ok }

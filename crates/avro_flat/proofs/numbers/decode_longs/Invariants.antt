@@ -1,4 +1,4 @@
-use Rattle.std.proofs.Common.{◌≡◌, ◌-◌, true}
+use Rattle.std.proofs.Common.{◌≡◌, ◌-◌}
 use Rattle.arrow_flat.specs.Builders.{plain_node}
 use Rattle.avro_schema.specs.Number.{MovesForward}
 use Rattle.avro_reference.specs.Read.{items, long_at}

@@ -1,6 +1,6 @@
 -- What was read is what is shown, and what was written.
 use Rattle.std.proofs.lemmas.Result.{on_ok_weaker, err_from_is_err_and}
-use Rattle.avrocat.specs.Blocks.{ShowsBlock}
+use Rattle.avrocat.specs.Blocks.{ShowsColumns}
 use Rattle.avrocat.proofs.Endings.{keeps_same}
 use Rattle.avrocat.proofs.RefusalLemmas.{not_read, by_what_was_read, write_fails}
 use Rattle.avrocat.proofs.block.run_block.Goals as goal
@@ -18,10 +18,10 @@ returns-in_err-lines-clause-fails g c =
 
 pub returns-clause-done : goal.returns-clause-done
 returns-clause-done g c =
-    let shows : ShowsBlock c.args.words c.in_ok-bytes.bytes.items c.as_slice.result.now = rw c.as_slice.ensures c.in_ok-lines.ensures.ok in
+    let shows : ShowsColumns c.args.words c.in_ok-bytes.bytes.items c.as_slice.result.now = rw c.as_slice.ensures c.in_ok-lines.ensures.ok in
     on_ok_weaker c.write_all.result (λ written. record { bytes = c.in_ok-bytes.bytes.items; text = c.as_slice.result.now; read = c.in_ok-bytes.ensures.ok; shows = shows; written = written }) c.write_all.ensures.ok
 
 pub returns-clause-fails : goal.returns-clause-fails
 returns-clause-fails g c =
-    let shows : ShowsBlock c.args.words c.in_ok-bytes.bytes.items c.as_slice.result.now = rw c.as_slice.ensures c.in_ok-lines.ensures.ok in
+    let shows : ShowsColumns c.args.words c.in_ok-bytes.bytes.items c.as_slice.result.now = rw c.as_slice.ensures c.in_ok-lines.ensures.ok in
     write_fails _ _ _ c.write_all.result _ _ c.in_ok-bytes.ensures.ok shows c.write_all.ensures.only c.write_all.ensures.prefix c.write_all.ensures.cause

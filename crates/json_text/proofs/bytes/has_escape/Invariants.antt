@@ -1,8 +1,10 @@
--- So far no byte that needs an escape was found, or one was.
-use Rattle.std.proofs.Common.{◌≡◌, take, flat_map}
-use Rattle.std.specs.Bool.{OnFalse}
-use Rattle.arrow_base.specs.WrittenString.{escaped}
+-- The chunks before the rest need no escape.
+use Rattle.std.proofs.Common.{length}
+use Rattle.arrow_base.proofs.Runs.{Passed}
 use Rattle.json_text.proofs.bytes.has_escape.Given as goal
 
-abbrev pub invariant-loop-byte : goal.invariant-loop-byte
-invariant-loop-byte l = OnFalse l.found (flat_map escaped (take l.byte-index l.string) ≡ take l.byte-index l.string)
+abbrev pub invariant-loop-chunk : goal.invariant-loop-chunk
+invariant-loop-chunk l = Passed l.fn.string l.rest
+
+abbrev pub decreases-loop-chunk : goal.decreases-loop-chunk
+decreases-loop-chunk l = length l.rest

@@ -1,152 +1,191 @@
--- Each turn adds a comma where one is wanted, and an item or a member. At the end the bracket makes the text of the list or struct.
-use Rattle.std.proofs.Common.{◌≡◌, ◌<◌, ◌++◌, codes, length, map, ap, sym, ◌∙◌, arith, rules, ◌+◌, ◌*◌, refl, false, true, subst}
+-- Each turn adds a comma where one is wanted and an item, or a key and a value. At the end the bracket makes the text of the list or struct.
+use Rattle.std.proofs.Common.{◌≡◌, ◌<◌, ◌++◌, [], length, map, take, drop, ap, sym, ◌∙◌, arith, rules, ◌+◌, ◌-◌, ◌*◌, refl, false, true, IsTrue, subst, to_z, of_z, w32, w64, FitsSigned}
+use Rattle.std.proofs.lemmas.Bool.Decides.{nat_tests}
+use Rattle.std.proofs.lemmas.Int.{ints}
 use Rattle.std.proofs.lemmas.Result.{on_ok_weaker}
 use Rattle.arrow_types.specs.declared.slot.Slot.TheVariants as slot
 use Rattle.arrow_types.specs.declared.physical.PrimitiveType.TheVariants as primitive
-use Rattle.arrow_types.specs.declared.types.Field.{Field}
 use Rattle.arrow_types.specs.declared.types.DataType.{size-DataType}
-use Rattle.arrow_base.specs.WrittenString.{json_string}
 use Rattle.arrow_array.specs.Arrays.{array_type, array_slots}
 use Rattle.arrow_array.specs.Depths.{children_depth}
-use Rattle.arrow_array.specs.Falls.{children_below, fixed_item_below, item_below}
+use Rattle.arrow_array.specs.Falls.{children_below, fixed_item_below, item_below, value_below}
 use Rattle.arrow_array.specs.Lent.{part_slots}
-use Rattle.arrow_array.specs.Slots.{slot_at}
+use Rattle.arrow_array.specs.Slots.{slot_at, is_held}
 use Rattle.arrow_array.proofs.Records.{capacity}
-use Rattle.json_text.specs.JsonText.{text, field_members}
-use Rattle.json_text.proofs.Joined.{joined_more, closed, named, map_at, map_length, part_at, part_length}
-use Rattle.json_text.specs.PlainNames.{HasPlainNames, IsUnescaped}
-use Rattle.json_text.proofs.Records.{same_length, child_at, child_below, member_at, members_length, fields_at, looked_up_at, struct_children}
-use Rattle.json_text.proofs.Beneath.{on_false_map}
-use Rattle.json_text.proofs.PlainNames.{in_list, in_fixed_list, in_struct, names_at}
-use Rattle.json_text.proofs.Forms.{appended, list_is, fixed_list_is, struct_is, value_is}
+use Rattle.json_text.specs.Columns.{AreColumns, AreWithin, columns_text, integer_text}
+use Rattle.json_text.specs.JsonText.{text}
+use Rattle.json_text.proofs.ColumnLemmas.{in_list, in_fixed_list, in_dictionary, within_item, within_fixed_item, within_value, children_columns, children_object, column_here, text_more, object_closed, no_column, plain_form, front_is, none_is}
+use Rattle.json_text.proofs.Forms.{appended, list_is, fixed_list_is, value_is}
+use Rattle.json_text.proofs.Joined.{joined_more, map_at, map_length, part_at, part_length}
+use Rattle.json_text.proofs.Records.{child_below, looked_up_at}
 use Rattle.json_text.proofs.slots.+slots.Goals as goal
 
-pub push_list-loop-k-preserved : goal.push_list-loop-k-preserved
-push_list-loop-k-preserved t c =
-    let part = c.args.part.now in
-    let f = text (array_type part.array.now) in
-    let xs = part_slots part in
-    let n = part_length (array_slots part.array.now) part.start part.end c.requires.part.order c.requires.part.within in
-    let within : c.loop-k.k < length xs = omega (arith, n) in
-    let here = map_at f xs c.loop-k.k slot.Null within ∙ ap f (part_at (array_slots part.array.now) part.start part.end c.loop-k.k slot.Null c.requires.part.order c.requires.part.within (omega arith)) in
-    joined_more (c.args.out.now.items ++ codes "[") _ _ _ _ (map f xs) c.loop-k.k (omega (arith, map_length f xs, within)) here c.loop-k.invariant c.in_ok-push_comma.ensures.ok
-    c.in_ok-push_slot_named.ensures.ok
+pub push_list-push_part-requires : goal.push_list-push_part-requires
+push_list-push_part-requires t c =
+    let t = c.args.array.now.data_type in
+    let kind = c.value.ensures.data_type in
+    let below : 4 * size-DataType (array_type c.value.result.array.now) + 5 < 4 * size-DataType t + 2 = omega (arith, item_below false _ _ kind) in
+    (search (rules, below), (c.value.ensures.part, (in_list false _ _ _ kind c.requires.form, within_item false _ _ _ kind c.requires.columns)))
+
+pub push_large_list-push_part-requires : goal.push_large_list-push_part-requires
+push_large_list-push_part-requires t c =
+    let t = c.args.array.now.data_type in
+    let kind = c.value.ensures.data_type in
+    let below : 4 * size-DataType (array_type c.value.result.array.now) + 5 < 4 * size-DataType t + 2 = omega (arith, item_below true _ _ kind) in
+    (search (rules, below), (c.value.ensures.part, (in_list true _ _ _ kind c.requires.form, within_item true _ _ _ kind c.requires.columns)))
+
+pub push_fixed_size_list-push_part-requires : goal.push_fixed_size_list-push_part-requires
+push_fixed_size_list-push_part-requires t c =
+    let t = c.args.array.now.data_type in
+    let kind = c.value.ensures.data_type in
+    let below : 4 * size-DataType (array_type c.value.result.array.now) + 5 < 4 * size-DataType t + 2 = omega (arith, fixed_item_below _ _ kind) in
+    (search (rules, below), (c.value.ensures.part, (in_fixed_list _ _ _ kind c.requires.form, within_fixed_item _ _ _ kind c.requires.columns)))
 
 pub push_list-returns : goal.push_list-returns
 push_list-returns t c =
-    let part = c.args.part.now in
-    let f = text (array_type part.array.now) in
-    let xs = part_slots part in
-    let n = part_length (array_slots part.array.now) part.start part.end c.requires.part.order c.requires.part.within in
-    let done : c.loop-k.k ≡ length (map f xs) = omega (arith, map_length f xs, n) in
-    record { ok = rw c.if-not-is_valid.false (on_ok_weaker c.push-2.result (λ last. closed c.args.out.now.items (codes "[") (codes "]") _ _ (map f xs) c.loop-k.k done c.loop-k.invariant last) c.push-2.ensures.ok) }
+    let a = c.args.array.now in
+    let part = c.value.result in
+    record { ok = appended c.push_part.result _ _ a.data_type (slot_at a.slots c.args.i) (slot.List (part_slots part)) _ _ c.is_valid.ensures c.value.ensures.slot (list_is false a.data_type _ (part_slots part) c.value.ensures.data_type) c.push_part.ensures.ok }
 
-pub push_slot_named-push_number_if-requires : goal.push_slot_named-push_number_if-requires
-push_slot_named-push_number_if-requires t c = (primitive.Int32, rw c.data_type-in-Int32.ensures.data_type c.data_type-in-Int32.ensures.kind)
+pub push_large_list-returns : goal.push_large_list-returns
+push_large_list-returns t c =
+    let a = c.args.array.now in
+    let part = c.value.result in
+    record { ok = appended c.push_part.result _ _ a.data_type (slot_at a.slots c.args.i) (slot.List (part_slots part)) _ _ c.is_valid.ensures c.value.ensures.slot (list_is true a.data_type _ (part_slots part) c.value.ensures.data_type) c.push_part.ensures.ok }
 
-pub push_slot_named-push_number_if-requires-in-Int64 : goal.push_slot_named-push_number_if-requires-in-Int64
-push_slot_named-push_number_if-requires-in-Int64 t c = (primitive.Int64, rw c.data_type-in-Int64.ensures.data_type c.data_type-in-Int64.ensures.kind)
+pub push_fixed_size_list-returns : goal.push_fixed_size_list-returns
+push_fixed_size_list-returns t c =
+    let a = c.args.array.now in
+    let part = c.value.result in
+    record { ok = appended c.push_part.result _ _ a.data_type (slot_at a.slots c.args.i) (slot.List (part_slots part)) _ _ c.is_valid.ensures c.value.ensures.slot (fixed_list_is a.data_type _ (part_slots part) c.value.ensures.data_type) c.push_part.ensures.ok }
 
-pub push_slot_named-push_struct-requires : goal.push_slot_named-push_struct-requires
-push_slot_named-push_struct-requires t c =
+pub push_dictionary-push_value-requires : goal.push_dictionary-push_value-requires
+push_dictionary-push_value-requires t c =
+    let a = c.args.array.now in
     let kind = c.values.ensures.data_type in
-    let is = sym c.data_type-in-Struct.ensures.data_type ∙ c.fields_of-fields.ensures in
-    let l = rw c.in-Struct.is at c.requires.within in
-    let same : size-DataType c.in-Struct.array.data_type ≡ size-DataType (array_type c.args.array.now) = rw c.in-Struct.is refl in
-    let below : 3 * children_depth c.values.result.now < 3 * size-DataType (array_type c.args.array.now) + 2 = omega (arith, same, children_below _ _ _ kind) in (
-      search (rules, below),
-      ((length c.in-Struct.array.slots, struct_children c.in-Struct.array.data_type _ _ _ is kind), (capacity _ _ _ _ kind (omega (arith, l)), on_false_map _ _ _ (λ h. in_struct c.in-Struct.array.data_type _ is (rw c.in-Struct.is at h)) c.requires.names)),
-    )
+    let below : 4 * size-DataType (array_type c.values.result.now) + 3 < 4 * size-DataType a.data_type + 2 = omega (arith, value_below _ _ _ kind) in
+    (search (rules, below), (search rules, (in_dictionary _ _ _ _ kind c.requires.form, within_value _ _ _ _ kind c.requires.columns)))
 
-pub push_slot_named-push_list-requires : goal.push_slot_named-push_list-requires
-push_slot_named-push_list-requires t c =
-    let kind = c.value-in-List.ensures.data_type in
-    let same : size-DataType c.in-List.array.data_type ≡ size-DataType (array_type c.args.array.now) = rw c.in-List.is refl in
-    let below : 3 * size-DataType (array_type c.value-in-List.result.array.now) + 3 < 3 * size-DataType (array_type c.args.array.now) + 2 = omega (arith, same, item_below false _ _ kind) in
-    (search (rules, below), (c.value-in-List.ensures.part, on_false_map _ _ _ (λ h. in_list false c.in-List.array.data_type _ kind (rw c.in-List.is at h)) c.requires.names))
+pub push_dictionary-returns-in-Some : goal.push_dictionary-returns-in-Some
+push_dictionary-returns-in-Some t c =
+    let a = c.args.array.now in
+    let x = slot_at (array_slots c.values.result.now) c.in-Some.index in
+    let is = looked_up_at a.slots _ a.items _ c.args.i c.in-Some.index c.keys.ensures.slots c.values.ensures.items c.requires.within c.in-Some.ensures in
+    let k = c.values.ensures.data_type in
+    record { ok = on_ok_weaker c.push_value.result (λ e. e ∙ ap (λ z. c.args.out.now.items ++ z) (value_is _ a.data_type _ x k ∙ ap (text a.data_type) is)) c.push_value.ensures.ok }
 
-pub push_slot_named-push_list-requires-in-LargeList : goal.push_slot_named-push_list-requires-in-LargeList
-push_slot_named-push_list-requires-in-LargeList t c =
-    let kind = c.value-in-LargeList.ensures.data_type in
-    let same : size-DataType c.in-LargeList.array.data_type ≡ size-DataType (array_type c.args.array.now) = rw c.in-LargeList.is refl in
-    let below : 3 * size-DataType (array_type c.value-in-LargeList.result.array.now) + 3 < 3 * size-DataType (array_type c.args.array.now) + 2 = omega (arith, same, item_below true _ _ kind) in
-    (search (rules, below), (c.value-in-LargeList.ensures.part, on_false_map _ _ _ (λ h. in_list true c.in-LargeList.array.data_type _ kind (rw c.in-LargeList.is at h)) c.requires.names))
-
-pub push_slot_named-push_list-requires-in-FixedSizeList : goal.push_slot_named-push_list-requires-in-FixedSizeList
-push_slot_named-push_list-requires-in-FixedSizeList t c =
-    let kind = c.value-in-FixedSizeList.ensures.data_type in
-    let same : size-DataType c.in-FixedSizeList.array.data_type ≡ size-DataType (array_type c.args.array.now) = rw c.in-FixedSizeList.is refl in
-    let below : 3 * size-DataType (array_type c.value-in-FixedSizeList.result.array.now) + 3 < 3 * size-DataType (array_type c.args.array.now) + 2 = omega (arith, same, fixed_item_below _ _ kind) in
-    (search (rules, below), (c.value-in-FixedSizeList.ensures.part, on_false_map _ _ _ (λ h. in_fixed_list c.in-FixedSizeList.array.data_type _ kind (rw c.in-FixedSizeList.is at h)) c.requires.names))
-
-pub push_slot_named-returns-in-List : goal.push_slot_named-returns-in-List
-push_slot_named-returns-in-List t c =
-    let a = c.in-List.array in
-    let part = c.value-in-List.result in
-    record { ok = rw c.in-List.is (appended c.push_list.result _ _ a.data_type (slot_at a.slots c.args.i) (slot.List (part_slots part)) _ _ c.is_valid-in-List.ensures c.value-in-List.ensures.slot (list_is false a.data_type _ (part_slots part) c.value-in-List.ensures.data_type) c.push_list.ensures.ok) }
-
-pub push_slot_named-returns-in-LargeList : goal.push_slot_named-returns-in-LargeList
-push_slot_named-returns-in-LargeList t c =
-    let a = c.in-LargeList.array in
-    let part = c.value-in-LargeList.result in
-    record { ok = rw c.in-LargeList.is (appended c.push_list-in-LargeList.result _ _ a.data_type (slot_at a.slots c.args.i) (slot.List (part_slots part)) _ _ c.is_valid-in-LargeList.ensures c.value-in-LargeList.ensures.slot (list_is true a.data_type _ (part_slots part) c.value-in-LargeList.ensures.data_type) c.push_list-in-LargeList.ensures.ok) }
-
-pub push_slot_named-returns-in-FixedSizeList : goal.push_slot_named-returns-in-FixedSizeList
-push_slot_named-returns-in-FixedSizeList t c =
-    let a = c.in-FixedSizeList.array in
-    let part = c.value-in-FixedSizeList.result in
-    record { ok = rw c.in-FixedSizeList.is (appended c.push_list-in-FixedSizeList.result _ _ a.data_type (slot_at a.slots c.args.i) (slot.List (part_slots part)) _ _ c.is_valid-in-FixedSizeList.ensures c.value-in-FixedSizeList.ensures.slot (fixed_list_is a.data_type _ (part_slots part) c.value-in-FixedSizeList.ensures.data_type) c.push_list-in-FixedSizeList.ensures.ok) }
-
-pub push_slot_named-returns-in-Struct : goal.push_slot_named-returns-in-Struct
-push_slot_named-returns-in-Struct t c =
-    let a = c.in-Struct.array in
-    let l = rw c.in-Struct.is at c.requires.within in
-    let children = c.values.result.now in
-    let xs = fields_at children c.args.i in
-    record { ok = rw c.in-Struct.is (appended c.push_struct.result _ _ a.data_type (slot_at a.slots c.args.i) (slot.Struct xs) _ _ c.is_valid-in-Struct.ensures (c.values.ensures.slots c.args.i l) (struct_is a.data_type c.fields_of-fields.result.now xs (sym c.data_type-in-Struct.ensures.data_type ∙ c.fields_of-fields.ensures)) c.push_struct.ensures.ok) }
-
-pub push_slot_named-returns-in-Some : goal.push_slot_named-returns-in-Some
-push_slot_named-returns-in-Some t c =
-    let a = c.in-Dictionary.array in
-    let x = slot_at (array_slots c.values-in-Some.result.now) c.in-Some.index in
-    let l = rw c.in-Dictionary.is at c.requires.within in
-    let is = looked_up_at a.slots _ a.items _ c.args.i c.in-Some.index c.keys.ensures.slots c.values-in-Some.ensures.items l c.in-Some.ensures in
-    let k = c.values-in-Some.ensures.data_type in
-    record { ok = rw c.in-Dictionary.is (on_ok_weaker c.push_slot_named.result (λ e. e ∙ ap (λ z. c.args.out.now.items ++ z) (value_is _ a.data_type _ x k ∙ ap (text a.data_type) is)) c.push_slot_named.ensures.ok) }
-
-pub push_struct-bounds-fields-k : goal.push_struct-bounds-fields-k
-push_struct-bounds-fields-k t c = omega (arith, same_length _ _ _ c.requires.children.1)
-
-pub push_struct-push_name-requires : goal.push_struct-push_name-requires
-push_struct-push_name-requires t c =
-    let fs = c.args.fields.now in
-    let f = c.index-fields-k.result in
-    let is = c.as_str.ensures ∙ ap (λ (f : Field). f.name) (sym c.index-fields-k.is) in
-    let bound : c.loop-k.k < length fs = omega (arith, same_length _ _ _ c.requires.children.1) in
-    on_false_map _ _ _ (λ h. subst IsUnescaped (sym is) (names_at fs c.loop-k.k f bound c.index-fields-k.is h).0) c.requires.names
-
-pub push_struct-push_slot_named-requires : goal.push_struct-push_slot_named-requires
-push_struct-push_slot_named-requires t c =
-    let fs = c.args.fields.now in
-    let f = c.index-fields-k.result in
-    let kind = c.requires.children.1 in
-    let bound : c.loop-k.k < length fs = omega (arith, same_length _ _ _ kind) in
-    let type_of = (child_at _ fs c.args.children.now c.loop-k.k f c.index-children-k.result kind (omega arith) c.index-fields-k.is c.index-children-k.is).0 in
-    let below : 3 * size-DataType (array_type c.index-children-k.result) + 2 < 3 * children_depth c.args.children.now = omega (arith, child_below c.args.children.now c.loop-k.k c.index-children-k.result (omega arith) c.index-children-k.is) in
-    (search (rules, below), (search rules, on_false_map _ _ _ (λ h. subst HasPlainNames type_of (names_at fs c.loop-k.k f bound c.index-fields-k.is h).1) c.requires.names))
-
-pub push_struct-loop-k-preserved : goal.push_struct-loop-k-preserved
-push_struct-loop-k-preserved t c =
-    let fs = c.args.fields.now in
-    let cs = c.args.children.now in
-    let kind = c.requires.children.1 in
-    let here = member_at _ fs cs c.args.i c.loop-k.k c.index-fields-k.result c.index-children-k.result kind (omega arith) c.index-fields-k.is c.index-children-k.is in
-    joined_more (c.args.out.now.items ++ codes "{") _ _ _ _ (field_members fs (fields_at cs c.args.i)) c.loop-k.k (omega (arith, members_length _ fs cs c.args.i kind)) here c.loop-k.invariant c.in_ok-push_comma.ensures.ok
-    (named (json_string c.index-fields-k.result.name) _ _ _ _ _ (c.in_ok-push_name.ensures.ok ∙ ap (λ z. c.push_comma.new.out.items ++ json_string z) (c.as_str.ensures ∙ ap (λ (f : Field). f.name) (sym c.index-fields-k.is))) c.in_ok-push-2.ensures.ok c.in_ok-push_slot_named.ensures.ok)
+pub push_struct-push_object-requires : goal.push_struct-push_object-requires
+push_struct-push_object-requires t c =
+    let a = c.args.array.now in
+    let kind = c.values.ensures.data_type in
+    let below : 4 * children_depth c.values.result.now < 4 * size-DataType a.data_type + 2 = omega (arith, children_below _ _ _ kind) in
+    (search (rules, below), (capacity _ _ _ _ kind (omega (arith, c.requires.within)), children_columns _ _ _ _ kind c.requires.columns))
 
 pub push_struct-returns : goal.push_struct-returns
 push_struct-returns t c =
-    let fs = c.args.fields.now in
-    let cs = c.args.children.now in
-    let done : c.loop-k.k ≡ length (field_members fs (fields_at cs c.args.i)) = omega (arith, members_length _ fs cs c.args.i c.requires.children.1) in
-    record { ok = rw c.if-not-is_valid.false (on_ok_weaker c.push-2.result (λ last. closed c.args.out.now.items (codes "{") (codes "}") _ _ (field_members fs (fields_at cs c.args.i)) c.loop-k.k done c.loop-k.invariant last) c.push-2.ensures.ok) }
+    let a = c.args.array.now in
+    let held : IsTrue (is_held (slot_at a.slots c.args.i)) = search rules in
+    let is = c.values.ensures.slots c.args.i c.requires.within held in
+    record { ok = on_ok_weaker c.push_object.result (λ e. e ∙ ap (λ z. c.args.out.now.items ++ z) (children_object _ _ _ c.args.i _ c.values.ensures.data_type c.requires.columns ∙ ap (text a.data_type) (sym is))) c.push_object.ensures.ok }
+
+pub push_items-push_value-requires : goal.push_items-push_value-requires
+push_items-push_value-requires t c = (search rules, (omega (arith, c.requires.order, c.requires.within), (c.requires.form, c.requires.columns)))
+
+pub push_items-loop-k-preserved : goal.push_items-loop-k-preserved
+push_items-loop-k-preserved t c =
+    let slots = array_slots c.args.array.now in
+    let f = text (array_type c.args.array.now) in
+    let xs = take (c.args.end - c.args.start) (drop c.args.start slots) in
+    let n = part_length slots c.args.start c.args.end c.requires.order c.requires.within in
+    let within : c.loop-k.k < length xs = omega (arith, n) in
+    let here = map_at f xs c.loop-k.k slot.Null within ∙ ap f (part_at slots c.args.start c.args.end c.loop-k.k slot.Null c.requires.order c.requires.within (omega arith)) in
+    joined_more c.args.out.now.items _ _ _ _ (map f xs) c.loop-k.k (omega (arith, map_length f xs, within)) here c.loop-k.invariant c.in_ok-push_comma.ensures.ok c.in_ok-push_value.ensures.ok
+
+pub push_object-unreachable-requires : goal.push_object-unreachable-requires
+push_object-unreachable-requires t c =
+    let arrays = c.args.arrays.now in
+    let k = c.loop-array.array-index in
+    let none = none_is _ c.in_default.len_below in
+    no_column arrays k c.array-item.result c.loop-array-test.true c.array-item.is (subst (AreColumns (drop k arrays)) none c.loop-array.invariant.columns)
+
+pub push_object-split_at-requires : goal.push_object-split_at-requires
+push_object-split_at-requires t c =
+    let arrays = c.args.arrays.now in
+    let front = front_is _ c.column-item.result c.in-len1-up.len_at_least c.column-item.is in
+    (column_here arrays c.loop-array.array-index c.array-item.result _ _ _ c.loop-array-test.true c.array-item.is front c.loop-array.invariant.columns).0.0
+
+pub push_object-push_value-requires : goal.push_object-push_value-requires
+push_object-push_value-requires t c =
+    let arrays = c.args.arrays.now in
+    let k = c.loop-array.array-index in
+    let front = front_is _ c.column-item.result c.in-len1-up.len_at_least c.column-item.is in
+    let here = column_here arrays k c.array-item.result _ _ _ c.loop-array-test.true c.array-item.is front c.loop-array.invariant.columns in
+    let below : 4 * size-DataType (array_type c.array-item.result) + 3 < 4 * children_depth arrays = omega (arith, child_below arrays k c.array-item.result c.loop-array-test.true c.array-item.is) in
+    (search (rules, below), (search rules, (here.0.1.0, subst (AreWithin (array_type c.array-item.result)) (sym c.split_at.ensures.front) here.0.1.1)))
+
+pub push_object-loop-array-preserved : goal.push_object-loop-array-preserved
+push_object-loop-array-preserved t c =
+    let arrays = c.args.arrays.now in
+    let k = c.loop-array.array-index in
+    let front = front_is _ c.column-item.result c.in-len1-up.len_at_least c.column-item.is in
+    let here = column_here arrays k c.array-item.result _ _ _ c.loop-array-test.true c.array-item.is front c.loop-array.invariant.columns in
+    record {
+      columns = subst (AreColumns (drop (k + 1) arrays)) (sym c.split_at.ensures.back) here.1;
+      text = ap (λ z. c.push_value.new.out.items ++ columns_text (drop (k + 1) arrays) z c.args.i) c.split_at.ensures.back
+          ∙ text_more arrays k c.args.i c.array-item.result _ c.column-item.result _ _ _ _ _ c.loop-array-test.true c.array-item.is front c.loop-array.invariant.text
+          (c.in_ok-push.ensures.ok ∙ ap (λ z. c.loop-array.out.items ++ z) c.as_slice.ensures.value) c.in_ok-push_value.ensures.ok;
+    }
+
+pub push_object-returns : goal.push_object-returns
+push_object-returns t c =
+    let arrays = c.args.arrays.now in
+    let filled : arrays ≡ [] → ⊥ = λ e. (let t : length arrays ≡ 0 = ap length e in absurd (grind (arith, nat_tests, t, c.is_empty.ensures, c.if-is_empty.false))) in
+    record { ok = on_ok_weaker c.push-2.result (λ last. object_closed arrays c.loop-array.array-index c.args.i c.args.columns.now _ _ _ _ (omega arith) filled c.loop-array.invariant.text last) c.push-2.ensures.ok }
+
+pub push_value-returns-in-Int32 : goal.push_value-returns-in-Int32
+push_value-returns-in-Int32 t c =
+    let a = c.in-Int32.array in
+    let v = c.value-in-Int32.result in
+    let fits : FitsSigned w32 v = search rules in
+    let back : to_z w64 (of_z w64 (to_z w32 (of_z w32 v))) ≡ v = omega (arith, ints) in
+    let held = ap (integer_text c.args.form.now) back ∙ plain_form primitive.Int32 c.args.form.now a.data_type v c.data_type-in-Int32.ensures.kind (rw c.in-Int32.is at c.requires.form) in
+    record { ok = rw c.in-Int32.is (appended c.push_integer_if.result _ _ a.data_type (slot_at a.slots c.args.i) (slot.Integer v) _ _ c.is_valid-in-Int32.ensures c.value-in-Int32.ensures held c.push_integer_if.ensures.ok) }
+
+pub push_value-returns-in-Int64 : goal.push_value-returns-in-Int64
+push_value-returns-in-Int64 t c =
+    let a = c.in-Int64.array in
+    let v = c.value-in-Int64.result in
+    let fits : FitsSigned w64 v = search rules in
+    let back : to_z w64 (of_z w64 v) ≡ v = omega (arith, ints) in
+    let held = ap (integer_text c.args.form.now) back ∙ plain_form primitive.Int64 c.args.form.now a.data_type v c.data_type-in-Int64.ensures.kind (rw c.in-Int64.is at c.requires.form) in
+    record { ok = rw c.in-Int64.is (appended c.push_integer_if-in-Int64.result _ _ a.data_type (slot_at a.slots c.args.i) (slot.Integer v) _ _ c.is_valid-in-Int64.ensures c.value-in-Int64.ensures held c.push_integer_if-in-Int64.ensures.ok) }
+
+pub push_value-push_list-requires : goal.push_value-push_list-requires
+push_value-push_list-requires t c =
+    let same : size-DataType c.in-List.array.data_type ≡ size-DataType (array_type c.args.array.now) = rw c.in-List.is refl in
+    let below : 4 * size-DataType c.in-List.array.data_type + 2 < 4 * size-DataType (array_type c.args.array.now) + 3 = omega (arith, same) in
+    (search (rules, below), (rw c.in-List.is at c.requires.within, (rw c.in-List.is at c.requires.form, rw c.in-List.is at c.requires.columns)))
+
+pub push_value-push_large_list-requires : goal.push_value-push_large_list-requires
+push_value-push_large_list-requires t c =
+    let same : size-DataType c.in-LargeList.array.data_type ≡ size-DataType (array_type c.args.array.now) = rw c.in-LargeList.is refl in
+    let below : 4 * size-DataType c.in-LargeList.array.data_type + 2 < 4 * size-DataType (array_type c.args.array.now) + 3 = omega (arith, same) in
+    (search (rules, below), (rw c.in-LargeList.is at c.requires.within, (rw c.in-LargeList.is at c.requires.form, rw c.in-LargeList.is at c.requires.columns)))
+
+pub push_value-push_fixed_size_list-requires : goal.push_value-push_fixed_size_list-requires
+push_value-push_fixed_size_list-requires t c =
+    let same : size-DataType c.in-FixedSizeList.array.data_type ≡ size-DataType (array_type c.args.array.now) = rw c.in-FixedSizeList.is refl in
+    let below : 4 * size-DataType c.in-FixedSizeList.array.data_type + 2 < 4 * size-DataType (array_type c.args.array.now) + 3 = omega (arith, same) in
+    (search (rules, below), (rw c.in-FixedSizeList.is at c.requires.within, (rw c.in-FixedSizeList.is at c.requires.form, rw c.in-FixedSizeList.is at c.requires.columns)))
+
+pub push_value-push_dictionary-requires : goal.push_value-push_dictionary-requires
+push_value-push_dictionary-requires t c =
+    let same : size-DataType c.in-Dictionary.array.data_type ≡ size-DataType (array_type c.args.array.now) = rw c.in-Dictionary.is refl in
+    let below : 4 * size-DataType c.in-Dictionary.array.data_type + 2 < 4 * size-DataType (array_type c.args.array.now) + 3 = omega (arith, same) in
+    (search (rules, below), (rw c.in-Dictionary.is at c.requires.within, (rw c.in-Dictionary.is at c.requires.form, rw c.in-Dictionary.is at c.requires.columns)))
+
+pub push_value-push_struct-requires : goal.push_value-push_struct-requires
+push_value-push_struct-requires t c =
+    let same : size-DataType c.in-Struct.array.data_type ≡ size-DataType (array_type c.args.array.now) = rw c.in-Struct.is refl in
+    let below : 4 * size-DataType c.in-Struct.array.data_type + 2 < 4 * size-DataType (array_type c.args.array.now) + 3 = omega (arith, same) in
+    (search (rules, below), (rw c.in-Struct.is at c.requires.within, rw c.in-Struct.is at c.requires.columns))

@@ -1,24 +1,44 @@
--- What has been added of a list or a struct, and how deep the types beneath are.
-use Rattle.std.proofs.Common.{◌≡◌, ◌+◌, ◌*◌, ◌++◌, map, take, codes}
+-- What has been added of items or members, and how deep the types beneath are.
+use Rattle.std.proofs.Common.{◌≡◌, ◌+◌, ◌-◌, ◌*◌, ◌++◌, map, take, drop}
 use Rattle.arrow_types.specs.declared.types.DataType.{size-DataType}
 use Rattle.arrow_array.specs.Arrays.{array_type, array_slots}
 use Rattle.arrow_array.specs.Depths.{children_depth}
-use Rattle.arrow_array.specs.Lent.{part_slots}
-use Rattle.arrow_array.specs.Slots.{slot_at}
-use Rattle.json_text.specs.JsonText.{text, joined, field_members}
+use Rattle.json_text.specs.Columns.{AreColumns, columns_text}
+use Rattle.json_text.specs.JsonText.{text, joined}
 use Rattle.json_text.proofs.slots.+slots.Given as goal
 
-abbrev pub invariant-push_list-loop-k : goal.invariant-push_list-loop-k
-invariant-push_list-loop-k l = l.out.items ≡ (l.fn.out.items ++ codes "[") ++ joined (take l.k (map (text (array_type l.part.array.now)) (part_slots l.part)))
+abbrev pub invariant-push_items-loop-k : goal.invariant-push_items-loop-k
+invariant-push_items-loop-k l = l.out.items ≡ l.fn.out.items ++ joined (take l.k (map (text (array_type l.array)) (take (l.end - l.start) (drop l.start (array_slots l.array)))))
 
-abbrev pub invariant-push_struct-loop-k : goal.invariant-push_struct-loop-k
-invariant-push_struct-loop-k l = l.out.items ≡ (l.fn.out.items ++ codes "{") ++ joined (take l.k (field_members l.fields (map (λ slots. slot_at slots l.i) (map array_slots l.children))))
+abbrev pub invariant-push_object-loop-array : goal.invariant-push_object-loop-array
+invariant-push_object-loop-array l = record {
+  columns : AreColumns (drop l.array-index l.arrays) l.rest;
+  text : l.out.items ++ columns_text (drop l.array-index l.arrays) l.rest l.i ≡ l.fn.out.items ++ columns_text l.arrays l.columns l.i;
+}
 
-abbrev pub decreases-push_slot_named : goal.decreases-push_slot_named
-decreases-push_slot_named l = 3 * size-DataType (array_type l.array.now) + 2
+abbrev pub decreases-push_value : goal.decreases-push_value
+decreases-push_value l = 4 * size-DataType (array_type l.array.now) + 3
 
 abbrev pub decreases-push_list : goal.decreases-push_list
-decreases-push_list l = 3 * size-DataType (array_type l.part.now.array.now) + 3
+decreases-push_list l = 4 * size-DataType l.array.now.data_type + 2
+
+abbrev pub decreases-push_large_list : goal.decreases-push_large_list
+decreases-push_large_list l = 4 * size-DataType l.array.now.data_type + 2
+
+abbrev pub decreases-push_fixed_size_list : goal.decreases-push_fixed_size_list
+decreases-push_fixed_size_list l = 4 * size-DataType l.array.now.data_type + 2
+
+abbrev pub decreases-push_dictionary : goal.decreases-push_dictionary
+decreases-push_dictionary l = 4 * size-DataType l.array.now.data_type + 2
 
 abbrev pub decreases-push_struct : goal.decreases-push_struct
-decreases-push_struct l = 3 * children_depth l.children.now
+decreases-push_struct l = 4 * size-DataType l.array.now.data_type + 2
+
+abbrev pub decreases-push_part : goal.decreases-push_part
+decreases-push_part l = 4 * size-DataType (array_type l.part.now.array.now) + 5
+
+abbrev pub decreases-push_items : goal.decreases-push_items
+decreases-push_items l = 4 * size-DataType (array_type l.array.now) + 4
+
+abbrev pub decreases-push_object : goal.decreases-push_object
+decreases-push_object l = 4 * children_depth l.arrays.now

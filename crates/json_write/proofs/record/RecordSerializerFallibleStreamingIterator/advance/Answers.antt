@@ -1,20 +1,17 @@
 -- A row is shown and taken off the rows to come; where memory runs out, no row comes any more.
-use Rattle.std.proofs.Common.{◌≡◌, ◌<◌, ◌-◌, ◌+◌, ap, sym, ◌∙◌, arith, refl, map, Vec, Global, ℕ, List, ◌∷◌}
-use Rattle.json_write.specs.Serializing.{keyed_rows}
-use Rattle.json_write.specs.Serializing.{serializer_keys}
+use Rattle.std.proofs.Common.{◌≡◌, ◌<◌, ◌-◌, ◌+◌, ap, sym, ◌∙◌, arith, refl, ◌∷◌}
+use Rattle.json_write.specs.Serializing.{column_rows}
 use Rattle.json_write.proofs.RowLemmas.{row_made, one_fewer, rows_begin, row_left, rows_none}
 use Rattle.json_write.proofs.record.RecordSerializerFallibleStreamingIterator.advance.Goals as goal
 
 pub returns-in-Ok : goal.returns-in-Ok
 returns-in-Ok c =
     let s = c.args.self.now in
-    let keys = serializer_keys s in
-    let bytes_of : Vec ℕ Global → List ℕ = λ v. v.items in
     let less : s.at < s.count = omega (arith, s.within, c.if-self.false) in
-    let made = row_made (map bytes_of c.as_slice-keys.result.now) keys s.arrays.now s.at _ _ (ap (map bytes_of) c.as_slice-keys.ensures.value) c.clear.ensures.items c.in-Ok.ensures.ok in
+    let made = row_made s.arrays.now c.as_slice-columns.result.now s.columns.items s.at _ _ c.as_slice-columns.ensures.value c.clear.ensures.items c.in-Ok.ensures.ok in
     let fewer = one_fewer s.at s.count less in
-    let rest = keyed_rows keys s.arrays.now (s.at + 1) (s.count - (s.at + 1)) in
-    let begins = rows_begin keys s.arrays.now s.at s.count less ∙ ap (λ x. x ∷ rest) (sym made) in
+    let rest = column_rows s.arrays.now s.columns.items (s.at + 1) (s.count - (s.at + 1)) in
+    let begins = rows_begin s.arrays.now s.columns.items s.at s.count less ∙ ap (λ x. x ∷ rest) (sym made) in
     record {
       steps = record {
         next = begins;
@@ -39,9 +36,9 @@ returns-in-Err c =
     record {
       steps = record {
         next = tt;
-        after_the_last = λ empty. absurd (row_left (serializer_keys s) s.arrays.now s.at s.count less empty);
+        after_the_last = λ empty. absurd (row_left s.arrays.now s.columns.items s.at s.count less empty);
         memory = refl;
-        stays = (refl, rows_none (serializer_keys s) s.arrays.now s.count (s.count - s.count) none);
+        stays = (refl, rows_none s.arrays.now s.columns.items s.count (s.count - s.count) none);
       };
       again = tt;
       never_rises = omega arith;

@@ -1,0 +1,19 @@
+-- Columns and the fields that they are written under. Private contracts alone cite these.
+use Rattle.std.specs.Prelude.{List, [], ◌∷◌, map, ℕ}
+use Rattle.std.specs.List.{AllZip}
+use Rattle.arrow_types.specs.declared.slot.Slot.{Slot}
+use Rattle.arrow_array.specs.declared.array.Array.{Array}
+use Rattle.arrow_array.specs.Arrays.{array_slots}
+use Rattle.avro_schema.specs.declared.schema.AvroField.{AvroField}
+use Rattle.avro_encode.specs.Plain.{plain}
+use Rattle.avro_write.specs.Flaws.{IsAccepted}
+
+-- each column can be written under the field beside it
+abbrev pub AreAccepted : List AvroField → List Array → Type 0
+AreAccepted = AllZip (λ f a. IsAccepted f.schema a)
+
+-- the canonical encodings of each column's slots
+abbrev pub encodings : List AvroField → List (List Slot) → List (List (List ℕ))
+encodings [] columns = []
+encodings (f ∷ fields) [] = []
+encodings (f ∷ fields) (slots ∷ columns) = map (plain f.schema) slots ∷ encodings fields columns

@@ -1,0 +1,4 @@
+pub mod Canonical
+pub mod Columns
+pub mod Laws
+pub mod Targets

@@ -1,0 +1,14 @@
+pub mod AnyOrder
+pub mod ArrayTypes
+pub mod Entries
+pub mod Equality
+pub mod Fits
+pub mod Folding
+pub mod Grouping
+pub mod Keeping
+pub mod ListLaws
+pub mod Repeated
+pub mod RowLaws
+pub mod Rows
+pub mod Sizes
+pub mod Turns

@@ -1,0 +1,10 @@
+pub mod Coercion
+pub mod Columns
+pub mod Inferred
+pub mod KeptTypes
+pub mod Laws
+pub mod Lists
+pub mod Parts
+pub mod RowsSeen
+pub mod Seen
+pub mod UpToOrder

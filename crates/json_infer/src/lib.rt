@@ -1,0 +1,15 @@
+//! The types of JSON values, and the type that several types are coerced to.
+#![tactic(auto)]
+
+mod coercion;
+mod columns;
+mod infer_schema;
+mod laws;
+mod parts;
+mod row_types;
+mod seen;
+
+pub use coercion::coerce_data_type;
+pub use infer_schema::{infer, infer_records_schema};
+pub use laws::{any_order, coercion_rules, one_at_a_time, rows_in_any_order};
+pub use row_types::RowTypes;

@@ -1,0 +1,69 @@
+//! The type of rows that come one at a time.
+ghost use Rattle.std.specs.Prelude.{◌≡◌, [], ◌∷◌, ◌++◌, List, IfOk, OnOk};
+ghost use Rattle.arrow_core.specs.Errors.{OnlyOutOfMemory};
+ghost use Rattle.json_tree.specs.declared.value.Value as value;
+ghost use Rattle.json_infer.specs.Inferred.{type_of_rows};
+ghost use Rattle.json_infer.specs.RowsSeen.{StandsFor};
+
+use crate::coercion::coerced;
+use crate::infer_schema::{add_kept, infer};
+use crate::seen::Seen;
+use arrow_core::Result;
+use arrow_types::DataType;
+use json_tree::Value;
+use std::alloc::Global;
+use std::marker::Model;
+
+/// The types of rows that came so far, as far as they matter to the type of all: two distinct ones
+/// at most, or the distinct types of each member. So a row that repeats what came takes no memory,
+/// and rows take time linear in their size.
+#[derive(Drop)]
+pub struct RowTypes {
+    alloc: Global,
+    seen: Seen,
+}
+
+impl Model for RowTypes {
+    ghost use Rattle.json_infer.specs.declared.seen.Seen.{Seen};
+    ghost use Rattle.std.specs.Coded.{codes};
+    ghost use Rattle.arrow_types.specs.contracts.types.DataType as data_type;
+
+    ghost Value = { Seen };
+
+    ghost coded = { Prim.hlevel (codes, data_type.the_row.coded) };
+
+    ghost view = { λ r. r.seen };
+}
+
+impl RowTypes {
+    /// The types of no rows.
+    pub fn new(alloc: Global) -> RowTypes
+        ensures { StandsFor result [] }
+    {
+        RowTypes {
+            alloc,
+            seen: Seen::Nothing,
+        }
+    }
+
+    /// Adds a row. `OutOfMemory` alone; after that the types are those of a part of the row, and
+    /// stand for no rows.
+    pub fn add(&mut self, json: &Value) -> Result<()>
+        ensures added { OnOk result ((rows : List value.Value) → StandsFor self.old rows
+            → StandsFor self.new (rows ++ json.now ∷ [])) }
+        ensures memory { OnlyOutOfMemory result }
+    {
+        let data_type = infer(self.alloc, json)?;
+        add_kept(self.alloc, &mut self.seen, &data_type)
+    }
+
+    /// The type of the rows so far: the coercion of their distinct types that aren't Null, in order
+    /// of first appearance. `OutOfMemory` alone.
+    pub fn result(&self) -> Result<DataType>
+        ensures inferred { IfOk result (λ t. (rows : List value.Value) → StandsFor self.now rows
+            → t ≡ type_of_rows rows) }
+        ensures memory { OnlyOutOfMemory result }
+    {
+        coerced(self.alloc, &self.seen)
+    }
+}

@@ -1,0 +1,4 @@
+pub mod Digits
+pub mod Scaling
+pub mod Signs
+pub mod Splitting

@@ -1,0 +1,108 @@
+//! The columns beneath rows, prepared once for all rows.
+ghost use Rattle.std.specs.Prelude.{◌≡◌, ◌++◌, [], ◌∷◌, ◌==◌, codes, length, map, IfOk, OnOk, if◌then◌else◌};
+ghost use Rattle.arrow_base.specs.WrittenString.{json_string};
+ghost use Rattle.arrow_types.specs.declared.types.Field.{Field as TheField};
+ghost use Rattle.json_text.specs.Columns.{AddsColumn, AreWithin, AreFields, key_of};
+
+use crate::bytes::{Appended, push, push_string};
+use crate::integers::{IntegerForm, integer_form};
+use arrow_types::{DataType, Field};
+use std::alloc::{AllocError, Global};
+
+/// A column beneath rows: what stands before each of its values, and how its integers are written.
+/// The columns of a row stand in a list, each followed by those within it.
+#[derive(Drop)]
+pub struct Column {
+    pub(crate) key: Vec<u8>,
+    pub(crate) form: IntegerForm,
+    pub(crate) within: usize,
+}
+
+/// What stands before the value of a member: a bracket or a comma, the name's JSON string, and a
+/// colon.
+fn make_key(alloc: Global, is_first: bool, name: &str) -> std::result::Result<Vec<u8>, AllocError>
+    ensures { IfOk result (λ key. key.items ≡ key_of is_first name.now) }
+{
+    let mut key = Vec::new(alloc);
+    push(&mut key, if is_first { b"{" } else { b"," })?;
+    push_string(&mut key, name)?;
+    push(&mut key, b":")?;
+    Ok(key)
+}
+
+/// Adds the column of a member of this name and type, and after it the columns within it.
+fn add_column(
+    alloc: Global,
+    columns: &mut Vec<Column>,
+    name: &str,
+    data_type: &DataType,
+    mut within: Vec<Column>,
+) -> Appended
+    requires { AreWithin data_type.now within.items }
+    ensures ok { OnOk result
+        (AddsColumn name.now data_type.now columns.old.items columns.new.items) }
+{
+    let key = make_key(alloc, columns.as_slice().is_empty(), name)?;
+    let column = Column {
+        key,
+        form: integer_form(data_type),
+        within: within.as_slice().len(),
+    };
+    columns.push(column)?;
+    columns.append(&mut within)
+}
+
+/// Adds the column of a member of this name and type, and after it the columns within it.
+///
+/// `AllocError` where there is no memory.
+pub fn push_column(
+    alloc: Global,
+    columns: &mut Vec<Column>,
+    name: &str,
+    data_type: &DataType,
+) -> Appended
+    ensures ok { OnOk result
+        (AddsColumn name.now data_type.now columns.old.items columns.new.items) }
+{
+    let within = columns_within(alloc, data_type)?;
+    add_column(alloc, columns, name, data_type, within)
+}
+
+/// The columns within slots of the type: the members of its structs, at any depth of lists.
+///
+/// `AllocError` where there is no memory.
+#[cycle(columns)]
+pub fn columns_within(
+    alloc: Global,
+    data_type: &DataType,
+) -> std::result::Result<Vec<Column>, AllocError>
+    ensures { IfOk result (λ columns. AreWithin data_type.now columns.items) }
+{
+    match data_type {
+        DataType::List(field) => columns_within(alloc, &field.get().data_type),
+        DataType::LargeList(field) => columns_within(alloc, &field.get().data_type),
+        DataType::FixedSizeList(field, _) => columns_within(alloc, &field.get().data_type),
+        DataType::Dictionary(_, values, _) => columns_within(alloc, values.get()),
+        DataType::Struct(fields) => columns_of(alloc, fields.as_slice()),
+        _ => Ok(Vec::new(alloc)),
+    }
+}
+
+/// The columns of the fields.
+#[cycle(columns)]
+fn columns_of(alloc: Global, fields: &[Field]) -> std::result::Result<Vec<Column>, AllocError>
+    ensures { IfOk result (λ columns. AreFields fields.now columns.items) }
+{
+    let mut columns = Vec::new(alloc);
+    for field in fields {
+        let within = columns_within(alloc, &field.data_type)?;
+        add_column(
+            alloc,
+            &mut columns,
+            field.name.as_str(),
+            &field.data_type,
+            within,
+        )?;
+    }
+    Ok(columns)
+}

@@ -1,0 +1,42 @@
+//! Each error, and where it comes.
+
+use crate::samples::{reader, refuses, shows, shows_none, source, texts};
+use arrow_base::{Error, Reason};
+use ndjson_read::FileReader;
+
+#[test]
+fn a_line_that_is_not_utf8_is_refused(rt: HostRuntime) {
+    let mut rows = reader(&rt, rt.alloc(), b"1\n\xff\n2\n");
+    assert!(rt; shows(&mut rows, "1\n"));
+    assert!(rt; refuses(&mut rows, Error::ExternalFormat(Reason::Utf8Line)));
+}
+
+#[test]
+fn a_failed_read_names_its_line(rt: HostRuntime) {
+    let alloc = rt.alloc();
+    // A byte a read: `1`, line feed, line feed, `2`, line feed, and the end.
+    let lines = [1u64, 1, 2, 3, 3, 4];
+    for number in 1..7u64 {
+        let failing = source(&rt, alloc, b"1\n\n2\n", &[number]);
+        let mut rows = FileReader::new(alloc, failing, texts(&rt, alloc, 3), None, 1000);
+        let line = lines.get(number as usize - 1).copied();
+        assert!(rt; refuses(&mut rows, Error::ReadFault { line }), "{number}");
+    }
+}
+
+#[test]
+fn bytes_within_the_limit_are_read_to_the_end(rt: HostRuntime) {
+    let alloc = rt.alloc();
+    let two = source(&rt, alloc, b"1\n", &[]);
+    let mut rows = FileReader::new(alloc, two, texts(&rt, alloc, 2), None, 2);
+    assert!(rt; shows(&mut rows, "1\n"));
+    assert!(rt; shows_none(&mut rows));
+}
+
+#[test]
+fn a_byte_past_the_limit_is_refused(rt: HostRuntime) {
+    let alloc = rt.alloc();
+    let two = source(&rt, alloc, b"1\n", &[]);
+    let mut rows = FileReader::new(alloc, two, texts(&rt, alloc, 2), None, 1);
+    assert!(rt; refuses(&mut rows, Error::LimitExceeded));
+}

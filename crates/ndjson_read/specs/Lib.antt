@@ -1,0 +1,4 @@
+pub mod FileReader
+pub mod Lines
+pub mod OneLine
+pub mod Reading

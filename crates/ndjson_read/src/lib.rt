@@ -1,0 +1,7 @@
+//! Lines of JSON, read from a source as rows.
+#![tactic(auto)]
+
+mod file_reader;
+mod line_source;
+
+pub use file_reader::FileReader;

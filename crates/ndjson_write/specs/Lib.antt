@@ -1,0 +1,3 @@
+pub mod FileWriter
+pub mod Serializer
+pub mod Writing
