@@ -1,7 +1,8 @@
 #!/usr/bin/env python3
-"""Writes files that Debian's python3-avro, avro-c and Java's avro wrote, as byte strings: those that
-`file_tests` reads, with the bytes of the blocks of cards as python3-avro encodes them, and those that
-`convert_tests` turns into lines, with the lines that other programs make of them.
+"""Writes files that Debian's python3-avro, avro-c and Java's avro wrote. Those that the program `sample_reader` is
+run on are files of its folder `data/`, beside the lines that it must write, which are those that other programs make
+of their rows. Those of which tests want the bytes are byte strings: of `file_tests`, with the bytes of the blocks of
+cards as python3-avro encodes them, and of `convert_tests`, with the lines of its rows.
 
 The lines are those of python3-avro's reader, `json` and `datetime`. Of the same files avro-c's `avrocat` and
 Java's `toString` show the same rows, in another form, which is looked at here: `avrocat` names the member
@@ -211,15 +212,20 @@ def literal(data):
     return f'b"{text}"'
 
 
+def beside(program, files):
+    """The paths and the bytes of files of a program."""
+    return [(os.path.join(TOP, "crates", program, name), data) for name, data in files]
+
+
 def module(name, title, statics):
-    """The path and the text of a module of byte strings."""
+    """The path and the bytes of a module of byte strings."""
     text = f"//! {title}, by `tools/avro_samples.py`.\n"
     for static, comment, data in statics:
         line = f"pub static {static}: &[u8] = {literal(data)};"
         if len(line) > 100:
             line = line.replace(" = ", " =\n    ", 1)
         text += f"\n/// {comment}\n{line}\n"
-    return os.path.join(TOP, "crates", name), text
+    return os.path.join(TOP, "crates", name), text.encode()
 
 
 def main():
@@ -228,7 +234,13 @@ def main():
         of_java = from_java(folder)
         gap = copied_by_java(of_java, folder)
     written_rows = written(ROW, ROWS)
-    modules = [
+    samples = [
+        ("cards_of_python.avro", written(CARD, [CARDS[:1], CARDS[1:]])),
+        ("cards_of_c.avro", of_c),
+        ("cards_of_java.avro", of_java),
+        ("cards_and_none.avro", gap),
+    ]
+    files = [
         module("file_tests/src/samples.rt", "Files that other programs wrote", [
             ("NO_BLOCKS", "A file without blocks, of python3-avro.", written(SCHEMA, [])),
             ("TWO_BLOCKS", "Blocks of two rows and of three, of python3-avro.", written(SCHEMA, [rows(0, 2), rows(2, 3)])),
@@ -239,22 +251,23 @@ def main():
             ("ONE_CARD", "The bytes of the first block of cards.", encoded(CARDS[:1])),
             ("TWO_CARDS", "The bytes of the last one.", encoded(CARDS[1:])),
         ]),
-        module("convert_tests/src/written.rt", "Files that other programs wrote, and what others make of their rows", [
-            ("WRITTEN", "Rows in two blocks, of python3-avro: a union, a string, an enum, and a record with an array.", written_rows),
-            ("WRITTEN_LINES", "The lines that Python's `json` makes of the rows.", lines(sum(ROWS, [])).encode()),
-            ("CARDS_OF_C", "Cards in two blocks, of avro-c.", of_c),
-            ("CARD_LINES", "The lines of their suits, notes and numbers, as python3-avro reads them.", lines(map(without_id, cards(of_c))).encode()),
-            ("CARDS_OF_JAVA", "Cards in two blocks, of Java's avro, with times in place of numbers.", of_java),
-            ("TIMED_LINES", "The lines of their suits, notes and times, as python3-avro reads them.", lines(map(without_id, cards(of_java))).encode()),
-            ("CARDS_AND_NONE", "The same with a block of no rows between the two, as Java's avro copied them.", gap),
+        module("convert_tests/src/written.rt", "A file that python3-avro wrote, and what Python's `json` makes of its rows", [
+            ("WRITTEN", "Rows in two blocks: a union, a string, an enum, and a record with an array.", written_rows),
+            ("WRITTEN_LINES", "The lines of the rows.", lines(sum(ROWS, [])).encode()),
+        ]),
+        *beside("sample_reader", [(f"data/{name}", data) for name, data in samples]),
+        *beside("sample_reader", [
+            ("args", "".join(name + "\n" for name, _ in samples).encode()),
+            ("stdout", "".join(lines(map(without_id, cards(data))) for _, data in samples).encode()),
         ]),
     ]
     assert cards(gap) == cards(of_java)
-    for path, text in modules:
+    for path, data in files:
         if "--check" not in sys.argv[1:]:
-            with open(path, "w", encoding="utf-8") as target:
-                target.write(text)
-        elif bytes_of(path) != text.encode():
+            os.makedirs(os.path.dirname(path), exist_ok=True)
+            with open(path, "wb") as target:
+                target.write(data)
+        elif bytes_of(path) != data:
             sys.exit(f"{path} differs: run tools/avro_samples.py")
 
 

@@ -4,4 +4,5 @@ pub mod OneMeaning
 pub mod PieceLemmas
 pub mod ReadsBack
 pub mod Runs
+pub mod Through
 pub mod Written

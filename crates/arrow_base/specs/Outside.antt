@@ -1,7 +1,10 @@
 -- What sources and sinks do to the bytes that they tell, and to their counts of calls and faults.
-use Rattle.std.specs.Prelude.{◌≡◌, ℕ, ◌+◌, ◌<◌, ◌⊎◌, ◌==◌, min, Bool, cond, Option, List, ◌++◌}
+use Rattle.std.specs.Prelude.{◌≡◌, ℕ, ◌+◌, ◌<◌, ◌≤◌, ◌⊎◌, ◌==◌, min, Bool, cond, Option, None, List, length, ◌++◌}
 use Rattle.std.specs.List.{list_any}
-use Rattle.std.specs.Io.KnownBytes.{Appends}
+use Rattle.std.specs.Io.{StopsAt}
+use Rattle.std.specs.Io.KnownBytes.{Appends, Consumes}
+use Rattle.arrow_core.specs.declared.error.Error.{Error}
+use Rattle.arrow_core.specs.declared.error.Error.TheVariants.{ReadFault, OutOfMemory}
 
 -- the last value of a count of 64 bits
 abbrev pub last_count : ℕ
@@ -29,3 +32,22 @@ pub record AppendsPrefix (old new : Option (List ℕ)) (bytes : List ℕ) : Type
   pub left_out : List ℕ
   pub splits : taken ++ left_out ≡ bytes
   pub appended : Appends old new taken
+
+-- these bytes came next, `most` at most, of which none but the last is `byte`
+pub record ComesThrough (old new : Option (List ℕ)) (byte most : ℕ) (bytes : List ℕ) : Type 0 where
+  pub consumed : Consumes old new bytes
+  pub fits : length bytes ≤ most
+  pub stops : StopsAt bytes byte
+
+-- n such bytes came next, and stand at the end of the line
+pub record GivesThrough (old new : Option (List ℕ)) (byte most : ℕ) (before line : List ℕ) (n : ℕ) : Type 0 where
+  pub bytes : List ℕ
+  pub came : ComesThrough old new byte most bytes
+  pub counted : length bytes ≡ n
+  pub appended : line ≡ before ++ bytes
+
+-- why none are given: a read failed, or there was no memory
+abbrev pub NoneGiven : (faults_before faults : ℕ) → Error → Type 0
+NoneGiven faults_before faults (ReadFault None) = RoseOrFull faults_before faults
+NoneGiven faults_before faults OutOfMemory = Unit {0}
+NoneGiven faults_before faults _ = ⊥

@@ -7,7 +7,7 @@ use crate::calls::Calls;
 use crate::faults::{Failed, Faults};
 use crate::pieces::Pieces;
 use crate::source::Source;
-use arrow_core::{Bytes, Items};
+use arrow_core::{Bytes, Error, Items, Result};
 
 /// Bytes in memory as a source, which gives them in pieces and fails at the reads that it was told
 /// to fail at.
@@ -72,6 +72,15 @@ impl Source for MemorySource {
             return Err(self.faults.fail());
         }
         Ok(self.pieces.give(buffer))
+    }
+
+    // A read, as far as its number and its failing go.
+    fn read_through(&mut self, byte: u8, most: usize, line: &mut Vec<u8>) -> Result<usize> {
+        if self.calls.is_next_to_fail() {
+            self.faults.fail();
+            return Err(Error::ReadFault { line: None });
+        }
+        self.pieces.give_through(byte, most, line)
     }
 
     ghost bounded = { λ s. s.faults.fits };

@@ -1,9 +1,10 @@
 //! Where bytes come from.
-ghost use Rattle.std.specs.Prelude.{◌≡◌, ℕ, ◌<◌, ◌≤◌, List, Option, take, length, IfOk, OnErr};
+ghost use Rattle.std.specs.Prelude.{◌≡◌, ℕ, ◌<◌, ◌≤◌, List, Option, take, length, IfOk, IfErr, OnErr};
 ghost use Rattle.std.specs.Io.KnownBytes.{Consumes, Keeps, IsAtEnd};
-ghost use Rattle.arrow_base.specs.Outside.{RoseOrFull, last_count};
+ghost use Rattle.arrow_base.specs.Outside.{RoseOrFull, GivesThrough, NoneGiven, last_count};
 
 use crate::faults::Failed;
+use arrow_core::{Error, Result};
 
 /// What gives bytes.
 pub trait Source {
@@ -30,6 +31,34 @@ pub trait Source {
         ensures cause { OnErr result (RoseOrFull (faults self.old) (faults self.new)) }
         ensures same { whose self.new ≡ whose self.old };
 
+    /// Puts the next bytes at the end of `line`, and answers how many: one at least, and 0 at the
+    /// end alone. They are `most` at most, which isn't 0, and none but the last of them is `byte`.
+    ///
+    /// `ReadFault`, without a line, is answered only where the count of faults rose, or stands at
+    /// its last value; `OutOfMemory`. After an error no byte is lost, and the line is as it was.
+    fn read_through(&mut self, byte: u8, most: usize, line: &mut Vec<u8>) -> Result<usize>
+        requires { 0 < most }
+        ensures given { IfOk result (λ n. GivesThrough (left self.old) (left self.new) byte most
+            line.old.items line.new.items n) }
+        ensures end { IfOk result (λ n. n ≡ 0 → IsAtEnd (left self.new)) }
+        ensures err { IfErr result (NoneGiven (faults self.old) (faults self.new)) }
+        ensures unchanged { OnErr result (Keeps (left self.old) (left self.new)) }
+        ensures unchanged_line { OnErr result (line.new.items ≡ line.old.items) }
+        ensures never_falls { faults self.old ≤ faults self.new }
+        ensures same { whose self.new ≡ whose self.old }
+    {
+        line.reserve(1)?;
+        let mut next = [0u8; 1];
+        match self.read(&mut next) {
+            Ok(0) => Ok(0),
+            Ok(_) => {
+                line.push(next[0])?;
+                Ok(1)
+            }
+            Err(Failed) => Err(Error::ReadFault { line: None }),
+        }
+    }
+
     ghost bounded: { (source : Self) → faults source ≤ last_count };
 }
 
@@ -42,6 +71,10 @@ impl<S: Source> Source for &mut S {
 
     fn read(&mut self, buffer: &mut [u8]) -> std::result::Result<usize, Failed> {
         (**self).read(buffer)
+    }
+
+    fn read_through(&mut self, byte: u8, most: usize, line: &mut Vec<u8>) -> Result<usize> {
+        (**self).read_through(byte, most, line)
     }
 
     ghost bounded = { λ s. S.bounded s.now };

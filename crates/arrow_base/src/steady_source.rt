@@ -5,7 +5,7 @@ ghost use Rattle.std.specs.Io.KnownBytes.{Consumes, IsAtEnd};
 use crate::faults::Failed;
 use crate::pieces::Pieces;
 use crate::source::Source;
-use arrow_core::Bytes;
+use arrow_core::{Bytes, Result};
 
 /// Bytes in memory as a source that gives them in pieces and never fails.
 #[derive(Drop)]
@@ -52,6 +52,10 @@ impl Source for SteadySource {
         ensures same_piece { piece_of self.new ≡ piece_of self.old }
     {
         Ok(self.pieces.give(buffer))
+    }
+
+    fn read_through(&mut self, byte: u8, most: usize, line: &mut Vec<u8>) -> Result<usize> {
+        self.pieces.give_through(byte, most, line)
     }
 
     ghost use Rattle.std.proofs.Common.{rules};

@@ -3,7 +3,7 @@
 use Rattle.std.specs.Prelude.{◌≡◌, ℕ, ◌++◌, ◌∷◌, [], List, map, All, Result, IsOk, IfOk, IfErr, OnOk, OnErr}
 use Rattle.std.specs.List.{AllZip}
 use Rattle.arrow_core.specs.declared.error.Error.{Error}
-use Rattle.arrow_core.specs.declared.error.Error.TheVariants.{OutOfMemory}
+use Rattle.arrow_core.specs.Errors.{OnlyOutOfMemory}
 use Rattle.arrow_types.specs.declared.slot.Slot.{Slot}
 use Rattle.arrow_types.specs.declared.slot.Slot.TheVariants as slot
 use Rattle.arrow_types.specs.declared.types.DataType.{DataType}
@@ -22,7 +22,7 @@ pub record PushesNulls (n : ℕ) (b c : MutableArray) (r : Result (Unit {0}) Err
   pub same_shape : shape c ≡ shape b
   pub below : OnOk r (AllGetNulls (nulls_at n b) (slots_at b) (slots_at c))
   pub bytes : OnOk r (AllGetBytes (nulls_at n b) (nodes b) (nodes c))
-  pub memory : IfErr r (λ e. e ≡ OutOfMemory)
+  pub memory : OnlyOutOfMemory r
   pub takes : AllTake (nulls_at n b) (nodes b) (nodes c)
   pub has_capacity : AllZip FitsIn (nulls_at n b) (nodes b) → IsOk r
 
@@ -39,7 +39,7 @@ pub record AllPushNull (bs cs : List MutableArray) (r : Result (Unit {0}) Error)
   pub slots : OnOk r (map builder_slots cs ≡ map (λ b. builder_slots b ++ slot.Null ∷ []) bs)
   pub below : OnOk r (AllGetNulls (all_nulls 1 bs) (all_slots bs) (all_slots cs))
   pub bytes : OnOk r (AllGetBytes (all_nulls 1 bs) (all_nodes bs) (all_nodes cs))
-  pub memory : IfErr r (λ e. e ≡ OutOfMemory)
+  pub memory : OnlyOutOfMemory r
   pub takes : AllTake (all_nulls 1 bs) (all_nodes bs) (all_nodes cs)
   pub has_capacity : AllZip FitsIn (all_nulls 1 bs) (all_nodes bs) → IsOk r
 
@@ -49,7 +49,7 @@ pub record Reserves (n : ℕ) (b c : MutableArray) (r : Result (Unit {0}) Error)
   pub same_slots : slots_at c ≡ slots_at b
   pub capacity : AllZip NoLessSpare (nodes b) (nodes c)
   pub ok : OnOk r (All (HasSpare n) (nodes c))
-  pub memory : IfErr r (λ e. e ≡ OutOfMemory)
+  pub memory : OnlyOutOfMemory r
 
 pub record AllReserve (n : ℕ) (bs cs : List MutableArray) (r : Result (Unit {0}) Error) : Type 0 where
   pub shapes : map shape cs ≡ map shape bs
@@ -57,7 +57,7 @@ pub record AllReserve (n : ℕ) (bs cs : List MutableArray) (r : Result (Unit {0
   pub same_slots : all_slots cs ≡ all_slots bs
   pub capacity : AllZip NoLessSpare (all_nodes bs) (all_nodes cs)
   pub ok : OnOk r (All (HasSpare n) (all_nodes cs))
-  pub memory : IfErr r (λ e. e ≡ OutOfMemory)
+  pub memory : OnlyOutOfMemory r
 
 -- every slot is dropped
 pub record Clears (b c : MutableArray) : Type 0 where

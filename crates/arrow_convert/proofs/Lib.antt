@@ -1,16 +1,1 @@
-pub mod Chunks
-pub mod Complete
-pub mod Dates
-pub mod Decoders
-pub mod Encoders
-pub mod KeptLists
-pub mod Numbers
-pub mod Offsets
-pub mod OneBlock
-pub mod OneError
-pub mod OneMetadata
-pub mod Reasons
-pub mod Results
-pub mod Steps
-pub mod Tables
-pub mod Texts
+pub mod Forms

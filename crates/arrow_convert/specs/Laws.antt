@@ -1,64 +1,33 @@
--- What a conversion answers where the source tells its bytes.
-use Rattle.std.specs.Prelude.{◌≡◌, ◌≢◌, ℕ, ◌≤◌, List, ◌++◌, length, Option, Some, ◌⊎◌}
-use Rattle.arrow_core.specs.declared.error.Error.{Error}
-use Rattle.arrow_core.specs.declared.error.Error.TheVariants.{WriteFault, OutOfMemory}
+-- What two rewritings tell of each other.
+use Rattle.std.specs.Prelude.{◌≡◌, ℕ, ◌^◌, ◌<◌, List, [], ◌∷◌, length}
+use Rattle.arrow_types.specs.declared.slot.Slot.{Slot}
+use Rattle.avro_schema.specs.declared.schema.Schema as schema
 use Rattle.avro_schema.specs.declared.schema.Record.{Record, out-Record}
-use Rattle.avro_file.specs.Laws.{IsMetadata}
-use Rattle.arrow_convert.specs.Changes.{Change, Failed}
-use Rattle.arrow_convert.specs.Refusals.{CannotBeShown, Converts, ConversionFails}
-use Rattle.arrow_convert.specs.Shown.{ShowsFile}
+use Rattle.avro_container.specs.Laws.{AllSmall}
+use Rattle.avro_text.specs.Writing.{schema_text_of}
+use Rattle.avro_canonical.specs.Rewritten.{RewritesFile, table_blocks}
 
--- the bytes are a file whose rows have lines
-abbrev pub CanBeConverted : Option (List ℕ) → List ℕ → Type 0
-CanBeConverted keep bytes = (text : List ℕ) × (count : ℕ) × ShowsFile keep bytes text count
+-- a file has one canonical form under a name and a marker, and one number of rows
+abbrev pub OneCanonicalForm : Type 0
+OneCanonicalForm =
+    (name marker bytes text other : List ℕ) (count also : ℕ) → RewritesFile name marker bytes text count → RewritesFile name marker bytes other also → (text ≡ other) × (count ≡ also)
 
--- the bytes begin with a header, and the error says why the fields of its record can't be shown
-pub record IsHeaderDue (keep : Option (List ℕ)) (bytes : List ℕ) (e : Error) : Type 0 where
-  pub header : List ℕ
-  pub rest : List ℕ
-  pub joined : bytes ≡ header ++ rest
-  pub root : Record
-  pub marker : List ℕ
-  pub begins : IsMetadata header root marker
-  pub why : CannotBeShown keep (out-Record root).fields e
-  pub wrong : e ≢ OutOfMemory
+-- the tables that have a row
+abbrev pub with_rows : List (List (List Slot)) → List (List (List Slot))
+with_rows [] = []
+with_rows ([] ∷ tables) = with_rows tables
+with_rows ((row ∷ table) ∷ tables) = (row ∷ table) ∷ with_rows tables
 
--- the source told these bytes, no more than the limit, and didn't fail
-pub record IsTold (source : Change) (limit : ℕ) (bytes : List ℕ) : Type 0 where
-  pub told : source.bytes ≡ Some bytes
-  pub within : length bytes ≤ limit
-  pub steady : Failed source → ⊥
+-- the numbers of the canonical file can be stated: the length of the record's text, and of each block its count of rows
+-- and its length
+abbrev pub CanBeStated : Record → List (List (List Slot)) → Type 0
+CanBeStated target tables = (length (schema_text_of (schema.Record target)) < 2 ^ 63) × AllSmall (table_blocks (out-Record target).fields tables)
 
--- the bytes have no part in the error: memory ran out, or the sink failed
-abbrev pub CameFromOutside : Change → Error → Type 0
-CameFromOutside sink e = (e ≡ OutOfMemory) ⊎ ((e ≡ WriteFault) × Failed sink)
-
--- of a file that can be converted, no error is answered but out of memory, or a write fault where the sink failed
-abbrev pub FilesAreConverted : Type 0
-FilesAreConverted = (keep : Option (List ℕ)) (bytes : List ℕ) (limit : ℕ) (source sink : Change) (e : Error) → IsTold source limit bytes → CanBeConverted keep bytes → ConversionFails keep limit source sink e → CameFromOutside sink e
-
--- where a header is due an error for its fields, that is the answer, or out of memory
-abbrev pub FieldsAreRefused : Type 0
-FieldsAreRefused = (keep : Option (List ℕ)) (bytes : List ℕ) (limit : ℕ) (source sink : Change) (e d : Error) → IsTold source limit bytes → IsHeaderDue keep bytes e → ConversionFails keep limit source sink d → (d ≡ e) ⊎ (d ≡ OutOfMemory)
-
--- and the file isn't converted
-abbrev pub RefusedIsNotConverted : Type 0
-RefusedIsNotConverted = (keep : Option (List ℕ)) (bytes : List ℕ) (limit count : ℕ) (source sink : Change) (e : Error) → IsTold source limit bytes → IsHeaderDue keep bytes e → Converts keep limit source sink count → ⊥
-
--- ---- of any bytes, which two sources told that didn't fail
-
--- one error is answered at most, those from outside aside
-abbrev pub OneErrorComes : Type 0
-OneErrorComes =
-    (keep : Option (List ℕ)) (bytes : List ℕ) (limit : ℕ) (source other sink another : Change) (e d : Error)
-    → source.bytes ≡ Some bytes → other.bytes ≡ Some bytes → (Failed source → ⊥) → (Failed other → ⊥)
-    → ConversionFails keep limit source sink e → ConversionFails keep limit other another d
-    → (e ≡ d) ⊎ CameFromOutside sink e ⊎ CameFromOutside another d
-
--- and where they are converted none, those from outside aside
-abbrev pub ConvertedDoesNotFail : Type 0
-ConvertedDoesNotFail =
-    (keep : Option (List ℕ)) (bytes : List ℕ) (limit count : ℕ) (source other sink another : Change) (e : Error)
-    → source.bytes ≡ Some bytes → other.bytes ≡ Some bytes → (Failed other → ⊥)
-    → Converts keep limit source sink count → ConversionFails keep limit other another e
-    → CameFromOutside another e
+-- Two files were rewritten under one record and one marker of sixteen bytes. Where their rows are equal, block by
+-- block, so are the canonical files; and where these are equal, so are the rows.
+abbrev pub FilesTellRows : Type 0
+FilesTellRows =
+    (name also marker bytes others text other : List ℕ) (count many : ℕ) (h : RewritesFile name marker bytes text count) (k : RewritesFile also marker others other many)
+    → h.target ≡ k.target → length marker ≡ 16
+    → (with_rows h.form.tables ≡ with_rows k.form.tables → text ≡ other)
+    × (CanBeStated h.target h.form.tables → CanBeStated k.target k.form.tables → text ≡ other → with_rows h.form.tables ≡ with_rows k.form.tables)

@@ -1,7 +1,1 @@
-pub mod Blocks
-pub mod Changes
-pub mod Keep
 pub mod Laws
-pub mod Refusals
-pub mod Shown
-pub mod Taken

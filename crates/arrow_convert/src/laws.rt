@@ -1,15 +1,13 @@
-//! Laws of the answers of conversions.
-ghost use Rattle.arrow_convert.specs.Laws.{FilesAreConverted, FieldsAreRefused, RefusedIsNotConverted, OneErrorComes, ConvertedDoesNotFail};
+//! Laws of files that were rewritten.
+ghost use Rattle.arrow_convert.specs.Laws.{OneCanonicalForm, FilesTellRows};
 
-/// What `avro_to_ndjson` answers, where the source tells its bytes and doesn't fail. A file of no
-/// more bytes than the limit whose rows can be shown is converted. Where the fields of a header's
-/// record can't be shown, the error says why, and is never Ok. Of any bytes one error comes at
-/// most, and none where they are converted. Each time `OutOfMemory` may come instead, and, after a
-/// header whose fields can be shown, `WriteFault` where the sink failed.
-pub fn conversion_answers()
-    ensures converted { FilesAreConverted }
-    ensures refused { FieldsAreRefused }
-    ensures not_converted { RefusedIsNotConverted }
-    ensures one_error { OneErrorComes }
-    ensures none_if_converted { ConvertedDoesNotFail }
+/// Of what `avro_rewrite` answers in two calls. A file has one canonical form under a name and a
+/// marker. Under one record and one marker two canonical files are equal exactly where their rows
+/// are, block by block, blocks without rows left out; the length of the record's text, and counts
+/// and lengths of blocks, are below 2^63.
+///
+/// The function does nothing: its contract is the law.
+pub fn canonical_forms()
+    ensures one { OneCanonicalForm }
+    ensures rows { FilesTellRows }
 {}

@@ -1,12 +1,8 @@
-//! Conversions between Avro files and JSON lines.
+//! Conversions of Avro files: into JSON lines, and into their canonical form.
 #![tactic(auto)]
 
-mod blocks;
-mod fields;
-mod keep;
 mod laws;
-mod lines;
-mod ndjson;
 
-pub use laws::conversion_answers;
-pub use ndjson::avro_to_ndjson;
+pub use avro_canonical::{avro_rewrite, rewriting_answers};
+pub use avro_ndjson::{avro_to_ndjson, conversion_answers};
+pub use laws::canonical_forms;

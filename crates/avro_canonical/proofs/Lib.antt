@@ -1,6 +1,10 @@
 pub mod Accepted
 pub mod Again
+pub mod Complete
+pub mod Encoded
+pub mod Files
 pub mod Making
+pub mod Reasons
 pub mod Rewriting
 pub mod Serializers
 pub mod TableRows

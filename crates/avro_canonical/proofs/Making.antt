@@ -18,7 +18,7 @@ use Rattle.avro_grammar.proofs.TypeLemmas.{small_forms_fit}
 use Rattle.avro_infer.specs.Columns.{AllTyped}
 use Rattle.avro_infer.proofs.ColumnTypes.{zip_length}
 use Rattle.avro_infer.proofs.RootColumns.{columns_fit}
-use Rattle.avro_decode.specs.Decoder.{Projected, ProjectionRefused, projected}
+use Rattle.avro_decode.specs.Decoder.{CanBeDecoded, Projected, ProjectionRefused, projected}
 use Rattle.avro_record.specs.Listed.{named_all}
 use Rattle.avro_record.specs.Named.{named_record, named_root}
 use Rattle.avro_record.specs.Schemas.{NoAvroTypeWhere, columns_fields, plain_record, record_of}
@@ -37,6 +37,19 @@ all_fit (f ∷ fs) (a ∷ xs) h = (small_forms_fit a.schema f h.0, all_fit fs xs
 pub all_true : (xs : List AvroField) → replicate (length xs) true ≡ all_kept xs
 all_true [] = refl
 all_true (x ∷ xs) = ap (λ (bs : List Bool). true ∷ bs) (all_true xs)
+
+-- fields that can be rewritten can be decoded
+pub can_be_decoded : (xs : List AvroField) (fs : List Field) (r : Record) → CanBeRewritten xs fs r → CanBeDecoded (projected fs xs (all_kept xs))
+can_be_decoded xs fs r can =
+    let fits : Fits fs xs = all_fit fs xs (columns_fit own_doc xs fs can.inferred) in
+    let same : length fs ≡ length xs = zip_length (λ (f : Field) (a : AvroField). HasColumnType true a.schema f) fs xs fits in
+    record {
+      lengths = (same, same ∙ sym (length-map xs (λ f. true)));
+      some = omega (arith, same, can.carried.0);
+      carried = can.carried.1;
+      fits = fits;
+      no_float = can.no_float;
+    }
 
 -- why no decoder is made
 pub decoder_refused : (xs : List AvroField) (fs : List Field) (projection : List Bool) (e : Error) → AreCarried xs → inferred_columns xs ≡ Some fs → projection ≡ all_kept xs → ProjectionRefused (projected fs xs projection) e → CannotBeRewritten xs e

@@ -26,10 +26,11 @@ use Rattle.avro_record.specs.Listed.{named_all}
 use Rattle.avro_record.specs.Schemas.{columns_fields}
 use Rattle.avro_write.specs.Laws.{all_kept, plain_table}
 use Rattle.avro_write.specs.Rows.{rows}
-use Rattle.avro_canonical.specs.Canonical.{AppendsRewritten, IsRewriting, RewritesBlock, Rewriting, table_block}
-use Rattle.avro_canonical.specs.Columns.{AreAccepted, encodings}
+use Rattle.avro_canonical.specs.Canonical.{AppendsRewritten, HasEncodings, IsRewriting, RewritesBlock, Rewriting, table_block}
+use Rattle.avro_canonical.specs.Columns.{AreAccepted, HaveEncodings, encodings}
 use Rattle.avro_canonical.specs.Laws.{AreBytes}
 use Rattle.avro_canonical.proofs.Accepted.{accepted, clean_widths, fields_again, table_clean}
+use Rattle.avro_canonical.proofs.Encoded.{rows_encoded}
 use Rattle.avro_canonical.proofs.Serializers.{accepted_length}
 use Rattle.avro_canonical.proofs.TableRows.{rows_are}
 
@@ -65,6 +66,10 @@ some_block marker fields (row ∷ table) n e some = ap (λ k. canonical_block ma
 no_block : (marker : List ℕ) (fields : List AvroField) (table : List (List Slot)) → length table ≡ 0 → [] ≡ table_block marker fields table
 no_block marker fields [] e = refl
 no_block marker fields (row ∷ table) e = absurd (omega (arith, e))
+
+no_encodings : (fields : List AvroField) (table : List (List Slot)) → length table ≡ 0 → HasEncodings fields table
+no_encodings fields [] e = tt
+no_encodings fields (row ∷ table) e = absurd (omega (arith, e))
 
 module _ (w : Rewriting) (is : IsRewriting w) (can : CanBeDecoded w.decoder) (n : ℕ) (bytes : List ℕ) (arrays : List Array) (are : AreBytes bytes)
     (cols : AreColumns n w.decoder.avro_fields w.decoder.projection bytes (map array_slots arrays)) (types : map array_type arrays ≡ kept_types w.decoder.fields w.decoder.projection)
@@ -114,14 +119,14 @@ module _ (w : Rewriting) (is : IsRewriting w) (can : CanBeDecoded w.decoder) (n 
       ∙ ap (λ k. rows k (encodings w.fields (map (column table) (range_with_len 0 (length w.fields))))) (sym count)
       ∙ rows_are w.fields table both.1
 
-  rewritten : (text : List ℕ) → text ≡ table_block w.marker w.fields table → RewritesBlock w (the_block n bytes) text
-  rewritten text e = record { table = table; rows = cols.1; counted = counted; symbols = symbols; is = e }
+  rewritten : (text : List ℕ) → HasEncodings w.fields table → text ≡ table_block w.marker w.fields table → RewritesBlock w (the_block n bytes) text
+  rewritten text encodings_are e = record { table = table; has = record { rows = cols.1; counted = counted; symbols = symbols }; encoded = encodings_are; is = e }
 
   pub nothing_appended : (out : List ℕ) → n ≡ 0 → AppendsRewritten w (the_block n bytes) out out
-  nothing_appended out e = ([], rewritten [] (no_block w.marker w.fields table (count ∙ e)), sym (append-nil out))
+  nothing_appended out e = ([], rewritten [] (no_encodings w.fields table (count ∙ e)) (no_block w.marker w.fields table (count ∙ e)), sym (append-nil out))
 
-  pub block_appended : (old new bytes_of number_bytes : List ℕ) (number : ℕ) → (n ≡ 0 → ⊥) → number ≡ n → number_bytes ≡ rows number (encodings w.fields (map array_slots arrays)) → bytes_of ≡ canonical_block w.marker (the_block number number_bytes) → new ≡ old ++ bytes_of
+  pub block_appended : (old new bytes_of number_bytes : List ℕ) (number : ℕ) → (n ≡ 0 → ⊥) → HaveEncodings w.fields arrays → number ≡ n → number_bytes ≡ rows number (encodings w.fields (map array_slots arrays)) → bytes_of ≡ canonical_block w.marker (the_block number number_bytes) → new ≡ old ++ bytes_of
       → AppendsRewritten w (the_block n bytes) old new
-  block_appended old new bytes_of number_bytes number some same filled is_block appended =
+  block_appended old new bytes_of number_bytes number some have same filled is_block appended =
       let full : number_bytes ≡ plain_table w.fields table = filled ∙ ap (λ k. rows k (encodings w.fields (map array_slots arrays))) same ∙ table_bytes in
-      (bytes_of, rewritten bytes_of (is_block ∙ (λ i. canonical_block w.marker (the_block (same i) (full i))) ∙ some_block w.marker w.fields table n count some), appended)
+      (bytes_of, rewritten bytes_of (rows_encoded w.fields arrays table both.1 have slots) (is_block ∙ (λ i. canonical_block w.marker (the_block (same i) (full i))) ∙ some_block w.marker w.fields table n count some), appended)

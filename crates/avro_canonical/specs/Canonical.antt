@@ -1,6 +1,7 @@
 -- The canonical form of a file's blocks: the same rows, under the record of their columns, each slot in its one
 -- canonical encoding and each number in its shortest (Avro 1.11, "Binary Encoding" and "Object Container Files").
 use Rattle.std.specs.Prelude.{◌≡◌, ℕ, ◌<◌, List, [], ◌∷◌, ◌++◌, length, map, Bool, true, All, Option, Some, None, refl}
+use Rattle.std.specs.List.{AllByRecursion}
 use Rattle.std.specs.Coded.{Coded, code_by, coded×, coded_list, coded_ℕ}
 use Rattle.arrow_core.specs.declared.error.Error.{Error}
 use Rattle.arrow_core.specs.declared.error.Error.TheVariants.{NotYetImplemented, OutOfMemory}
@@ -19,6 +20,7 @@ use Rattle.avro_container.specs.Canonical.{canonical_block}
 use Rattle.avro_container.specs.File.{FileBlock, the_block}
 use Rattle.avro_decode.specs.Decoder.{Projected, projected, projected_code}
 use Rattle.avro_decode.specs.Refusals.{AreCounted, BlockRefused}
+use Rattle.avro_encode.specs.Listed.{PairsFieldsOf}
 use Rattle.avro_record.specs.Listed.{named_all}
 use Rattle.avro_record.specs.Named.{named_root}
 use Rattle.avro_record.specs.Schemas.{columns_fields, record_of}
@@ -75,13 +77,21 @@ abbrev pub table_block : List ℕ → List AvroField → List (List Slot) → Li
 table_block marker fields [] = []
 table_block marker fields (row ∷ table) = canonical_block marker (the_block (length (row ∷ table)) (plain_table fields (row ∷ table)))
 
--- The text is the canonical form of the block: its bytes are the rows of the table, and the text is the table's
--- block. Offsets can count its bytes, and dictionaries the symbols of enums.
+-- The block's bytes are the rows of the table. Offsets can count its bytes, and dictionaries the symbols of enums.
+pub record HasTable (p : Projected) (block : FileBlock) (table : List (List Slot)) : Type 0 where
+  pub rows : Rows block.rows p.avro_fields p.projection block.bytes table
+  pub counted : AreCounted block.rows p.fields p.projection block.bytes
+  pub symbols : KeptEnumsFit p.avro_fields p.projection
+
+-- each slot of the table has a canonical encoding under its field
+abbrev pub HasEncodings : List AvroField → List (List Slot) → Type 0
+HasEncodings fields = AllByRecursion (PairsFieldsOf fields)
+
+-- the text is the canonical form of the block, that of the table of its rows
 pub record RewritesBlock (w : Rewriting) (block : FileBlock) (text : List ℕ) : Type 0 where
   pub table : List (List Slot)
-  pub rows : Rows block.rows w.decoder.avro_fields w.decoder.projection block.bytes table
-  pub counted : AreCounted block.rows w.decoder.fields w.decoder.projection block.bytes
-  pub symbols : KeptEnumsFit w.decoder.avro_fields w.decoder.projection
+  pub has : HasTable w.decoder block table
+  pub encoded : HasEncodings w.fields table
   pub is : text ≡ table_block w.marker w.fields table
 
 -- the canonical form of the block was appended

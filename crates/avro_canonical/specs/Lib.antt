@@ -1,4 +1,6 @@
+pub mod Answers
 pub mod Canonical
 pub mod Columns
 pub mod Laws
+pub mod Rewritten
 pub mod Targets

@@ -3,7 +3,7 @@ ghost use Rattle.std.specs.Prelude.{◌≡◌, length, map, All, IfOk, OnOk};
 ghost use Rattle.arrow_core.specs.Errors.{OnlyOutOfMemory};
 ghost use Rattle.arrow_array.specs.Arrays.{array_slots};
 ghost use Rattle.avro_write.specs.Rows.{rows};
-ghost use Rattle.avro_canonical.specs.Columns.{AreAccepted, encodings};
+ghost use Rattle.avro_canonical.specs.Columns.{AreAccepted, HaveEncodings, encodings};
 
 use arrow_array::Array;
 use arrow_core::Result;
@@ -20,6 +20,7 @@ fn make_serializers<'a>(
     requires { AreAccepted fields.now columns.now }
     ensures items { IfOk result
         (λ serializers. map (λ s. s.left) serializers.items ≡ encodings fields.now (map array_slots columns.now)) }
+    ensures encoded { OnOk result (HaveEncodings fields.now columns.now) }
     ensures memory { OnlyOutOfMemory result }
 {
     let mut serializers = Vec::new(alloc);
@@ -40,6 +41,7 @@ pub(crate) fn fill_block(
     requires lengths { All (λ a. length (array_slots a) ≡ block.old.number_of_rows) columns.now }
     ensures bytes { OnOk result (block.new.bytes
         ≡ rows block.old.number_of_rows (encodings fields.now (map array_slots columns.now))) }
+    ensures encoded { OnOk result (HaveEncodings fields.now columns.now) }
     ensures number { block.new.number_of_rows ≡ block.old.number_of_rows }
     ensures memory { OnlyOutOfMemory result }
 {

@@ -1,4 +1,5 @@
-//! Laws of columns that are decoded and written again.
+//! Laws of columns that are decoded and written again, and of what a rewriting answers.
+ghost use Rattle.avro_canonical.specs.Answers.{FilesAreRewritten, FieldsAreRefused, RefusedIsNotRewritten, RewrittenDoesNotFail};
 ghost use Rattle.avro_canonical.specs.Laws.{DecodedIsSerializable, RowsAreTable, DecodedIsAccepted};
 
 /// What was decoded can be written again. Where a carried schema holds no float, and the type of its
@@ -10,4 +11,16 @@ pub fn decoded_is_serializable()
     ensures law { DecodedIsSerializable }
     ensures rows { RowsAreTable }
     ensures accepted { DecodedIsAccepted }
+{}
+
+/// What `avro_rewrite` answers, where the source tells its bytes and doesn't fail. A file of no more
+/// bytes than the limit that has a canonical form is rewritten. Where the rows of a header's record
+/// can't be rewritten, the error says why, and is never Ok. Bytes that were rewritten once are
+/// refused never. Each time `OutOfMemory` may come instead, and, after a header whose rows can be
+/// rewritten, `WriteFault` where the sink failed.
+pub fn rewriting_answers()
+    ensures rewritten { FilesAreRewritten }
+    ensures refused { FieldsAreRefused }
+    ensures not_rewritten { RefusedIsNotRewritten }
+    ensures none_if_rewritten { RewrittenDoesNotFail }
 {}

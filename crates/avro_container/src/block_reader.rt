@@ -5,7 +5,7 @@ ghost use Rattle.avro_container.specs.File.{the_block};
 ghost use Rattle.avro_container.specs.FileForms.{marked_block};
 ghost use Rattle.avro_container.specs.Taking.{state_of, Passed, Stopped};
 
-use crate::parts::{Allowance, Stop, count, fill};
+use crate::parts::{Allowance, Stop, count, fill_buffer};
 use arrow_base::{Error, Reason, Result, Source};
 use avro_schema::Block;
 use std::alloc::Global;
@@ -33,7 +33,7 @@ fn take_block<S: Source>(
 {
     let rows = count(source, allowed)?;
     let size = count(source, allowed)?;
-    fill(source, allowed, bytes, size + MARKER)?;
+    fill_buffer(source, allowed, bytes, size + MARKER)?;
     Ok(rows)
 }
 

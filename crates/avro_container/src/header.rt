@@ -8,7 +8,7 @@ ghost use Rattle.avro_container.specs.ReadHeader.{error_of, change, ReadsHeader,
 ghost use Rattle.avro_container.specs.Taking.{state_of, Passed, Stopped};
 
 use crate::entries::{Found, take_map};
-use crate::parts::{Allowance, Stop, fill};
+use crate::parts::{Allowance, Stop, fill_buffer};
 use arrow_base::{Bytes, Error, Reason, Result, Source};
 use std::alloc::Global;
 
@@ -34,7 +34,7 @@ fn take_magic<S: Source>(
     ensures same { S.whose source.new ≡ S.whose source.old }
 {
     let mut bytes = Vec::new(alloc);
-    fill(source, allowed, &mut bytes, 4)?;
+    fill_buffer(source, allowed, &mut bytes, 4)?;
     if !is_magic(&bytes) {
         return Err(Stop::Wrong);
     }
@@ -78,7 +78,7 @@ fn take_after_magic<S: Source>(
     };
     take_map(alloc, source, allowed, &mut entries)?;
     let mut bytes = Vec::new(alloc);
-    fill(source, allowed, &mut bytes, 16)?;
+    fill_buffer(source, allowed, &mut bytes, 16)?;
     let marker = sixteen(&bytes);
     Ok(AfterMagic { entries, marker })
 }
@@ -124,10 +124,9 @@ pub struct Header {
 /// where what follows isn't a header, or ends within one, or has no `avro.schema`;
 /// `NotYetImplemented(Codec)` where the header is whole and names another codec than `null`;
 /// `OutOfMemory`. An error is answered before any byte is taken past the part that shows it, and no
-/// byte is taken past the header. The buffer is filled in pieces of at most 65536 bytes, each asked
-/// for once the ones before it were read; no clause says so, since the buffers are its own, and what
-/// they hold at last is the schema's text alone. Numbers are read byte by byte: hand in a source that
-/// buffers, if a read is dear.
+/// byte is taken past the header. Each of its buffers is filled by `fill_buffer`, and so grows by at
+/// most 65536 bytes before those bytes were read (`grown` there). Numbers are read byte by byte: hand
+/// in a source that buffers, if a read is dear.
 pub fn read_header<S: Source>(
     alloc: Global,
     source: &mut S,

@@ -14,4 +14,5 @@ pub use block_reader::BlockReader;
 pub use encoded::zigzag_encode;
 pub use header::{Header, read_header};
 pub use laws::{block_answers, header_answers, one_file, parts_settle};
+pub use parts::{Allowance, Stop, fill_buffer};
 pub use writer::{write_block, write_header};

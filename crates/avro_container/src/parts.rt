@@ -12,28 +12,30 @@ use arrow_base::Source;
 // How many bytes are asked for at once, and by how many a buffer grows before they are read.
 const PIECE: usize = 65_536;
 
-// Why no more parts are taken.
+/// Why no more bytes are taken of a source.
 #[derive(Clone, Copy, PartialEq, Eq, Debug)]
-pub(crate) enum Stop {
-    // The source ended.
+pub enum Stop {
+    /// The source ended.
     Ended,
-    // The part at hand is wrong.
+    /// The bytes at hand are wrong.
     Wrong,
-    // The stated size is used up.
+    /// The stated size is used up.
     UsedUp,
-    // One byte more than the limit was taken.
+    /// One byte more than the limit was taken.
     Limit,
-    // A read failed.
+    /// A read failed.
     Fault,
-    // There is no memory.
+    /// There is no memory.
     Memory,
 }
 
-// How many bytes may still be taken: in all, and of a stated size, where one was stated.
+/// How many bytes may still be taken of a source.
 #[derive(Drop, Clone, Copy)]
-pub(crate) struct Allowance {
-    pub(crate) limit: u64,
-    pub(crate) size_left: Option<u64>,
+pub struct Allowance {
+    /// How many in all.
+    pub limit: u64,
+    /// How many of a stated size (Avro 1.11, "Complex Types": blocks of a map), where one was stated.
+    pub size_left: Option<u64>,
 }
 
 // Takes the next bytes into the buffer, from its start on, one at least.
@@ -198,8 +200,16 @@ fn extend_buffer(bytes: &mut Vec<u8>, at: usize, n: usize) -> Result<(), Stop>
     Ok(())
 }
 
-// Takes `n` bytes. What the vector had is written over, so that its memory is used again.
-pub(crate) fn fill<S: Source>(
+/// Takes `n` bytes of a source. What `bytes` had is written over, so that its memory is used again.
+/// Each buffer that the bytes of a header or a block are read into is filled by this call alone: of
+/// a header the magic, each key, each value and the marker; of a block its rows with the marker.
+///
+/// `UsedUp` where the stated size has fewer bytes; `Limit` where one byte more than the limit was
+/// taken; `Ended` where the source ended before; `Fault` where a read failed; `Memory`; never
+/// `Wrong`. After an error nothing is promised of what bytes `bytes` holds. It is filled in pieces of
+/// at most 65536 bytes, each asked for once the ones before it were read: so, whatever is answered,
+/// it has at most as many bytes as before, or 65536 more than this call took (`grown`).
+pub fn fill_buffer<S: Source>(
     source: &mut S,
     allowed: &mut Allowance,
     bytes: &mut Vec<u8>,
@@ -210,8 +220,9 @@ pub(crate) fn fill<S: Source>(
         bytes.new.items) }
     ensures stops { IfErr result (Stopped (raw n)
         (state_of S.left S.faults source.old allowed.old) (state_of S.left S.faults source.new allowed.new)) }
+    // The limit falls by the bytes that were taken, the one past it aside.
     ensures grown { vec_len bytes.new
-        ≤ max (vec_len bytes.old) (allowed.old.limit - allowed.new.limit + PIECE) }
+        ≤ max (vec_len bytes.old) (allowed.old.limit - allowed.new.limit + 65536) }
     ensures same { S.whose source.new ≡ S.whose source.old }
 {
     bytes.truncate(n);
@@ -253,6 +264,6 @@ pub(crate) fn sized<S: Source>(
     ensures same { S.whose source.new ≡ S.whose source.old }
 {
     let n = count(source, allowed)?;
-    fill(source, allowed, bytes, n)?;
+    fill_buffer(source, allowed, bytes, n)?;
     Ok(())
 }

@@ -1,6 +1,7 @@
 //! Blocks of rows into columns.
 
 ghost use Rattle.std.specs.Prelude.{◌≡◌, ◌≤◌, ◌+◌, ◌*◌, [], length, map, All, OnOk, IfOk, IfErr};
+ghost use Rattle.arrow_core.specs.Errors.{OnlyOutOfMemory};
 ghost use Rattle.arrow_core.specs.declared.error.Error.TheVariants.{OutOfMemory};
 ghost use Rattle.arrow_array.specs.Arrays.{array_type, array_slots};
 ghost use Rattle.arrow_builders.specs.Fits.{TypesFit};
@@ -231,7 +232,7 @@ fn freeze(alloc: Global, builders: &mut [MutableArray]) -> Result<Vec<Array>>
         ≡ map builder_type builders.old) }
     ensures slots { IfOk result (λ arrays. map array_slots arrays.items
         ≡ map builder_slots builders.old) }
-    ensures memory { IfErr result (λ e. e ≡ OutOfMemory) }
+    ensures memory { OnlyOutOfMemory result }
 {
     let mut arrays = Vec::new(alloc);
     for i in 0..builders.len() {

@@ -1,7 +1,7 @@
 //! Empty builders for the values of schemas.
 
-ghost use Rattle.std.specs.Prelude.{◌≡◌, ◌≤◌, length, map, sum_by, true, All, IfOk, IfErr};
-ghost use Rattle.arrow_core.specs.declared.error.Error.TheVariants.{OutOfMemory};
+ghost use Rattle.std.specs.Prelude.{◌≡◌, ◌≤◌, length, map, sum_by, true, All, IfOk};
+ghost use Rattle.arrow_core.specs.Errors.{OnlyOutOfMemory};
 ghost use Rattle.arrow_types.specs.declared.physical.PhysicalType.TheVariants.{List as ListKind, LargeList as LargeListKind};
 ghost use Rattle.arrow_types.specs.declared.slot.Slot.TheVariants.{String as StringSlot};
 ghost use Rattle.arrow_types.specs.Layouts.{physical_type};
@@ -37,7 +37,7 @@ pub fn make_builder(
     requires kept { CanBeKept schema.now }
     requires typed { HasType true schema.now data_type.now }
     ensures made { IfOk result (IsNewBuilder schema.now data_type.now) }
-    ensures memory { IfErr result (λ e. e ≡ OutOfMemory) }
+    ensures memory { OnlyOutOfMemory result }
 {
     match schema {
         AvroSchema::Union(members) => make_nullable(alloc, members.as_slice(), data_type),
@@ -74,7 +74,7 @@ fn make_nullable(
     requires kept { CanBeKept (Union members.now) }
     requires typed { HasType true (Union members.now) data_type.now }
     ensures made { IfOk result (IsNewBuilder (Union members.now) data_type.now) }
-    ensures memory { IfErr result (λ e. e ≡ OutOfMemory) }
+    ensures memory { OnlyOutOfMemory result }
 {
     let [first, second] = members else {
         unreachable!()
@@ -96,7 +96,7 @@ fn make_children(
     requires kept { All (λ a. CanBeKept a.schema) avro_fields.now }
     requires typed { HasColumnTypes true fields.now avro_fields.now }
     ensures made { IfOk result (λ bs. AreNewBuilders avro_fields.now fields.now bs.items) }
-    ensures memory { IfErr result (λ e. e ≡ OutOfMemory) }
+    ensures memory { OnlyOutOfMemory result }
 {
     let mut children = Vec::new(alloc);
     for i in 0..avro_fields.len() {
@@ -111,7 +111,7 @@ fn make_list(alloc: Global, values: MutableArray, data_type: &DataType) -> Resul
     requires empty { All IsEmpty (nodes values) }
     ensures shape { IfOk result (λ b. shape b ≡ lists ListKind data_type.now (shape values)) }
     ensures empty { IfOk result (λ b. All IsEmpty (nodes b)) }
-    ensures memory { IfErr result (λ e. e ≡ OutOfMemory) }
+    ensures memory { OnlyOutOfMemory result }
 {
     match data_type.try_clone(alloc) {
         Ok(data_type) => {
@@ -131,7 +131,7 @@ fn make_large_list(
     requires empty { All IsEmpty (nodes values) }
     ensures shape { IfOk result (λ b. shape b ≡ lists LargeListKind data_type.now (shape values)) }
     ensures empty { IfOk result (λ b. All IsEmpty (nodes b)) }
-    ensures memory { IfErr result (λ e. e ≡ OutOfMemory) }
+    ensures memory { OnlyOutOfMemory result }
 {
     match data_type.try_clone(alloc) {
         Ok(data_type) => {
@@ -152,7 +152,7 @@ fn make_struct(
     ensures shape { IfOk result (λ b. shape b
         ≡ records data_type.now (fields_of (map shape values.items))) }
     ensures empty { IfOk result (λ b. All IsEmpty (nodes b)) }
-    ensures memory { IfErr result (λ e. e ≡ OutOfMemory) }
+    ensures memory { OnlyOutOfMemory result }
 {
     match data_type.try_clone(alloc) {
         Ok(data_type) => {
@@ -170,7 +170,7 @@ fn make_dictionary(alloc: Global, symbols: &[Text]) -> Result<MutableArray>
     ensures shape { IfOk result (λ b. shape b
         ≡ dictionary symbol_type (map StringSlot symbols.now)) }
     ensures empty { IfOk result (λ b. All IsEmpty (nodes b)) }
-    ensures memory { IfErr result (λ e. e ≡ OutOfMemory) }
+    ensures memory { OnlyOutOfMemory result }
 {
     let strings = symbol_strings(alloc, symbols)?;
     let keys = FixedItemsUtf8Dictionary::with_capacity(alloc, strings, 0)?;
@@ -181,7 +181,7 @@ fn make_dictionary(alloc: Global, symbols: &[Text]) -> Result<MutableArray>
 fn symbol_strings(alloc: Global, symbols: &[Text]) -> Result<Utf8Array<i32>>
     requires total { sum_by length symbols.now ≤ small_limit }
     ensures slots { IfOk result (λ strings. strings.slots ≡ map StringSlot symbols.now) }
-    ensures memory { IfErr result (λ e. e ≡ OutOfMemory) }
+    ensures memory { OnlyOutOfMemory result }
 {
     let mut strings = MutableUtf8Array::with_capacity(alloc, 0)?;
     for i in 0..symbols.len() {
@@ -196,7 +196,7 @@ fn make_flat(alloc: Global, data_type: &DataType) -> Result<MutableArray>
     requires flat { IsFlatType data_type.now }
     ensures shape { IfOk result (λ b. shape b ≡ flat (physical_type data_type.now) data_type.now) }
     ensures empty { IfOk result (λ b. All IsEmpty (nodes b)) }
-    ensures memory { IfErr result (λ e. e ≡ OutOfMemory) }
+    ensures memory { OnlyOutOfMemory result }
 {
     match data_type {
         DataType::Boolean => {

@@ -1,7 +1,7 @@
 //! The builders of the columns of a block.
 
 ghost use Rattle.std.specs.Prelude.{◌≡◌, [], map, All, OnOk, IfOk, IfErr, MatchResult};
-ghost use Rattle.arrow_core.specs.declared.error.Error.TheVariants.{OutOfMemory};
+ghost use Rattle.arrow_core.specs.Errors.{OnlyOutOfMemory};
 ghost use Rattle.arrow_builders.specs.Fits.{TypesFit};
 ghost use Rattle.arrow_builders.specs.MutableArrays.{builder_type, builder_slots, nodes};
 ghost use Rattle.arrow_builders.specs.Nodes.{IsEmpty};
@@ -106,7 +106,7 @@ fn new_builders(
     requires together { BelongTogether fields.now avro_fields.now projection.now }
     ensures made { IfOk result (λ builders. AreNewBuilders (kept avro_fields.now projection.now)
         (kept fields.now projection.now) builders.items) }
-    ensures memory { IfErr result (λ e. e ≡ OutOfMemory) }
+    ensures memory { OnlyOutOfMemory result }
 {
     let mut builders = Vec::new(alloc);
     for i in 0..fields.len() {

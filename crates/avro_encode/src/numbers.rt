@@ -1,5 +1,5 @@
 //! Numbers, and bytes after their length (Avro 1.11, "Primitive Types").
-ghost use Rattle.std.specs.Prelude.{◌≡◌, ◌<◌, ◌++◌, ◌^◌, length, OnOk};
+ghost use Rattle.std.specs.Prelude.{◌≡◌, ℕ, ◌+◌, ◌/◌, ◌%◌, ◌<◌, ◌≤◌, ◌++◌, ◌^◌, length, OnOk};
 ghost use Rattle.avro_container.specs.Shortest.{groups, shortest, zigzagged as zigzagged_of};
 ghost use Rattle.avro_encode.specs.Plain.{counted};
 
@@ -25,20 +25,71 @@ pub(crate) fn append_number(value: i64, out: &mut Vec<u8>) -> Result<(), AllocEr
     append_groups(zigzagged(value), out)
 }
 
+/// The byte of a number's lowest seven bits, where others follow.
+#[inline(always)]
+fn low_group(number: u64) -> u8
+    ensures { result ≡ 128 + number % 128 }
+{
+    128 + (number % 128) as u8
+}
+
+/// Appends the groups of seven bits of a number that has at most four, the low ones first.
+/// `AllocError` alone.
+// Appending them at once costs one test and one write of the length, and not one of each a byte.
+#[inline(always)]
+fn append_few_groups(number: u64, out: &mut Vec<u8>) -> Result<(), AllocError>
+    requires few { number < 2 ^ 28 }
+    ensures ok { OnOk result (out.new.items ≡ out.old.items ++ groups 3 number) }
+{
+    if number < 128 {
+        out.push(number as u8)?;
+        return Ok(());
+    }
+    let (first, rest) = (low_group(number), number / 128);
+    if rest < 128 {
+        return out.extend_from_slice(&[first, rest as u8]);
+    }
+    let (second, rest) = (low_group(rest), rest / 128);
+    if rest < 128 {
+        return out.extend_from_slice(&[first, second, rest as u8]);
+    }
+    out.extend_from_slice(&[first, second, low_group(rest), (rest / 128) as u8])
+}
+
+/// Appends the four lowest groups of a number that has more. `AllocError` alone.
+#[inline(always)]
+fn append_low_groups(number: u64, out: &mut Vec<u8>) -> Result<(), AllocError>
+    requires more { 2 ^ 28 ≤ number }
+    ensures ok { (left : ℕ) → OnOk result (out.new.items ++ groups left (number / 2 ^ 28)
+        ≡ out.old.items ++ groups (left + 4) number) }
+{
+    let second = number / 128;
+    let third = second / 128;
+    let fourth = third / 128;
+    let groups = [
+        low_group(number),
+        low_group(second),
+        low_group(third),
+        low_group(fourth),
+    ];
+    out.extend_from_slice(&groups)
+}
+
 /// Appends the groups of seven bits of a number, the low ones first. `AllocError` alone.
 #[inline(always)]
 fn append_groups(number: u64, out: &mut Vec<u8>) -> Result<(), AllocError>
     ensures ok { OnOk result (out.new.items ≡ out.old.items ++ groups 9 number) }
 {
-    let mut rest = number;
-    let mut more: u32 = 9;
-    while rest >= 128 && more > 0 {
-        out.push(128 + (rest % 128) as u8)?;
-        rest /= 128;
-        more -= 1;
+    if number < 1 << 28 {
+        return append_few_groups(number, out);
     }
-    out.push((rest % 128) as u8)?;
-    Ok(())
+    append_low_groups(number, out)?;
+    let rest = number / (1 << 28);
+    if rest < 1 << 28 {
+        return append_few_groups(rest, out);
+    }
+    append_low_groups(rest, out)?;
+    append_few_groups(rest / (1 << 28), out)
 }
 
 /// Appends bytes. `AllocError` alone.

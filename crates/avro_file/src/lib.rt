@@ -5,7 +5,7 @@
 mod laws;
 mod metadata;
 
-pub use avro_container::{BlockReader, write_block, zigzag_encode};
+pub use avro_container::{Allowance, BlockReader, Stop, fill_buffer, write_block, zigzag_encode};
 pub use avro_schema::{
     AvroField, AvroSchema, Block, BytesLogical, Cursor, Enum, Fixed, FixedLogical, IntLogical,
     LongLogical, Record, Schema, SliceCursor, StringLogical, next_number, zigzag_i64,

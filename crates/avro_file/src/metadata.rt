@@ -57,8 +57,8 @@ fn read_root(alloc: Global, text: &[u8]) -> Result<Record>
 /// `ExternalFormat(SchemaText)`, `NotYetImplemented(TypeReference)` or `LimitExceeded`;
 /// `NotYetImplemented(RootNotRecord)` where the schema is no record. `OutOfMemory` may come at any
 /// time. An error is answered before any byte is taken past the part that shows it, and no byte is
-/// taken past the header. The buffer is filled in pieces of at most 65536 bytes, each asked for once
-/// the ones before it were read; no clause says so, since the buffer is its own, and dropped at last.
+/// taken past the header. Each buffer of the header is filled by `fill_buffer`, and so grows by at most
+/// 65536 bytes before those bytes were read (`grown` there).
 pub fn read_metadata<S: Source>(
     alloc: Global,
     source: &mut S,

@@ -1,7 +1,7 @@
 //! Why a value isn't decoded.
 
 ghost use Rattle.std.specs.Prelude.{◌≡◌, IsOk, IfErr, OnOk, OnErr};
-ghost use Rattle.arrow_core.specs.declared.error.Error.TheVariants.{OutOfMemory};
+ghost use Rattle.arrow_core.specs.Errors.{OnlyOutOfMemory};
 ghost use Rattle.avro_flat.specs.Decoding.{HasMemory};
 
 use arrow_core::Error;
@@ -18,7 +18,7 @@ pub enum DecodeFault {
 /// The answer of a push that only out of memory can refuse, as the decoder tells it.
 #[inline(always)]
 pub fn pushed(answer: Result<(), Error>) -> Result<(), DecodeFault>
-    requires memory { IfErr answer (λ e. e ≡ OutOfMemory) }
+    requires memory { OnlyOutOfMemory answer }
     ensures ok { OnOk result (OnErr answer ⊥) }
     ensures err { IfErr result (λ e. e ≡ DecodeFault.Memory) }
     ensures answered { IsOk answer → HasMemory result }

@@ -2,7 +2,7 @@
 
 ghost use Rattle.std.specs.Prelude.{◌≡◌, [], Some, None, IfOk, IfErr, OnOk};
 ghost use Rattle.std.specs.Option.{option_copied};
-ghost use Rattle.arrow_core.specs.declared.error.Error.TheVariants.{OutOfMemory};
+ghost use Rattle.arrow_core.specs.Errors.{OnlyOutOfMemory};
 ghost use Rattle.avro_schema.specs.declared.schema.Record.{out-Record};
 ghost use Rattle.avro_schema.specs.declared.schema.Schema.{Record as RecordSchema};
 ghost use Rattle.avro_grammar.specs.Carried.{CarriedList};
@@ -46,7 +46,7 @@ pub fn infer_schema(alloc: Global, root: &Record) -> Result<Schema>
     ensures ok { OnOk result (HasMapOrUnion (RecordSchema root.now) → ⊥) }
     ensures err { IfErr result (SchemaRefused (HasMapOrUnion (RecordSchema root.now))) }
     ensures carried { CarriedList (out-Record root.now).fields
-        → IfErr result (λ e. e ≡ OutOfMemory) }
+        → OnlyOutOfMemory result }
 {
     let mut fields = Vec::new(alloc);
     for field in root.fields.as_slice() {
@@ -86,7 +86,7 @@ fn named_field(
           = is_nullable;
       metadata = doc_entries (option_copied doc.entry);
     }) }
-    ensures memory { IfErr result (λ e. e ≡ OutOfMemory) }
+    ensures memory { OnlyOutOfMemory result }
 {
     match label(alloc, name, doc) {
         Ok((name, metadata)) => Ok(Field {
@@ -103,7 +103,7 @@ fn named_field(
 fn label(alloc: Global, name: &Text, doc: Option<&Text>) -> Result<(Text, Metadata)>
     ensures name { IfOk result (λ l. l.0 ≡ name.now) }
     ensures metadata { IfOk result (λ l. l.1 ≡ doc_entries (option_copied doc.entry)) }
-    ensures memory { IfErr result (λ e. e ≡ OutOfMemory) }
+    ensures memory { OnlyOutOfMemory result }
 {
     let mut metadata = Metadata::new(alloc);
     if let Some(doc) = doc {
@@ -178,7 +178,7 @@ fn infer_fields(alloc: Global, avro_fields: &Items<AvroField>) -> Result<Items<F
 fn flat_type(alloc: Global, schema: &AvroSchema) -> Result<DataType>
     requires flat { HasNoParts schema.now }
     ensures data_type { IfOk result (λ t. inferred schema.now ≡ Some t) }
-    ensures memory { IfErr result (λ e. e ≡ OutOfMemory) }
+    ensures memory { OnlyOutOfMemory result }
 {
     match schema {
         AvroSchema::Null => Ok(DataType::Null),
@@ -213,7 +213,7 @@ fn int_type(logical: Option<IntLogical>) -> DataType
 
 fn long_type(alloc: Global, logical: Option<LongLogical>) -> Result<DataType>
     ensures data_type { IfOk result (λ t. t ≡ long_type_of logical) }
-    ensures memory { IfErr result (λ e. e ≡ OutOfMemory) }
+    ensures memory { OnlyOutOfMemory result }
 {
     match logical {
         None => Ok(DataType::Int64),
@@ -230,7 +230,7 @@ fn long_type(alloc: Global, logical: Option<LongLogical>) -> Result<DataType>
 /// Instants, told in UTC.
 fn utc_type(alloc: Global, unit: TimeUnit) -> Result<DataType>
     ensures data_type { IfOk result (λ t. t ≡ DataType.Timestamp unit utc) }
-    ensures memory { IfErr result (λ e. e ≡ OutOfMemory) }
+    ensures memory { OnlyOutOfMemory result }
 {
     let zone = Text::try_from_str(alloc, UTC)?;
     Ok(DataType::Timestamp(unit, Some(zone)))

@@ -2,7 +2,7 @@
 
 ghost use Rattle.std.specs.Prelude.{◌≡◌, ◌≢◌, ◌⊎◌, ◌<◌, ◌≤◌, length, None, Some, OnOk, IfOk, IfErr, IfSome, IsOk};
 ghost use Rattle.std.specs.Option.{ForNone};
-ghost use Rattle.arrow_core.specs.declared.error.Error.TheVariants.{OutOfMemory};
+ghost use Rattle.arrow_core.specs.Errors.{OnlyOutOfMemory};
 ghost use Rattle.avro_schema.specs.declared.schema.Record.{out-Record};
 ghost use Rattle.avro_container.specs.BlockReader.{failure_of};
 ghost use Rattle.avro_read.specs.Projection.{projection_or_all, ReaderRefused};
@@ -37,7 +37,7 @@ fn projection_or_all(
     count: usize,
 ) -> Result<Vec<bool>>
     ensures ok { IfOk result (λ keeps. keeps.items ≡ projection_or_all projection count) }
-    ensures memory { IfErr result (λ e. e ≡ OutOfMemory) }
+    ensures memory { OnlyOutOfMemory result }
 {
     match projection {
         Some(projection) => Ok(projection),

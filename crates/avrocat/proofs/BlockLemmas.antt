@@ -7,7 +7,7 @@ use Rattle.avro_schema.specs.declared.schema.AvroField.{AvroField}
 use Rattle.avro_grammar.specs.ValidBlock.{kept}
 use Rattle.avro_decode.specs.Columns.{AreColumns, kept_types}
 use Rattle.avrocat.specs.Shown.{shown}
-use Rattle.avrocat.specs.declared.command.BlockWords.{BlockWords}
+use Rattle.command_words.specs.declared.command.BlockWords.{BlockWords}
 use Rattle.avrocat.specs.Blocks.{IsValid, ShowsColumns}
 
 mapped : {A B : Type 0} (f : A → B) (xs : List A) → length (map f xs) ≡ length xs

@@ -7,17 +7,21 @@ use Rattle.arrow_core.specs.declared.error.Error.TheVariants.{InvalidArgumentErr
 use Rattle.arrow_core.specs.declared.error.Reason.TheVariants as reason
 use Rattle.arrow_core.specs.Errors.{status_of}
 use Rattle.avro_grammar.proofs.RowLaws.{rows_have, rows_exclude}
-use Rattle.avrocat.specs.declared.command.BlockWords.{BlockWords}
-use Rattle.avrocat.specs.declared.command.Command.{Command}
-use Rattle.avrocat.specs.declared.command.Command.TheVariants.{Block, Ndjson}
+use Rattle.command_words.specs.declared.command.BlockWords.{BlockWords}
+use Rattle.command_words.specs.declared.command.Command.{Command}
+use Rattle.command_words.specs.declared.command.Command.TheVariants.{Block, Ndjson, Make, Rewrite}
 use Rattle.avrocat.specs.Blocks.{IsValid}
-use Rattle.arrow_convert.specs.Changes.{Change, Failed}
-use Rattle.avrocat.specs.Commands.{Stands, Done, Fails, CanBeDone, Due, Refused}
+use Rattle.avro_blocks.specs.Changes.{Change, Failed}
+use Rattle.avrocat.specs.Commands.{Done, Fails, CanBeDone, Due, Refused}
+use Rattle.command_words.specs.Stands.{Stands}
+use Rattle.command_words.specs.declared.command.MakeWords.{MakeWords}
+use Rattle.avrocat.specs.Make.{MakeFails}
 use Rattle.avrocat.specs.Input.{byte_limit, TakesAll, PassesLimit, Tells, TellsTooMany}
 use Rattle.avrocat.specs.Note.{error_note, Notes}
 use Rattle.avrocat.specs.Refusals.{IsWrong, BlockCannotBeShown, BlockCommandFails, BlockCanBeShown, BlockDue}
 use Rattle.avrocat.proofs.NdjsonEndings.{tells_one, ndjson_due_once, ndjson_never_due, ndjson_fails_in_memory, ndjson_fails_as_due, ndjson_done_not_due}
-use Rattle.avrocat.proofs.OneMeaning.{one_command}
+use Rattle.command_words.proofs.OneMeaning.{one_command}
+use Rattle.avrocat.proofs.RewriteEndings.{rewrite_due_once, rewrite_never_due, rewrite_fails_in_memory, rewrite_fails_as_due, rewrite_done_not_due}
 
 pub keeps_same : (told : Option (List ℕ)) → Keeps told told
 keeps_same None = tt
@@ -149,6 +153,8 @@ one_because block source one other (inr (bytes, tells, h)) (inr (others, told, d
 pub one_due : (command : Command) (source : Change) (one other : Error) → Due command source one → Due command source other → one ≡ other
 one_due (Block block) source one other h d = one_because block source one other (because block source one h) (because block source other d)
 one_due (Ndjson numbers) source one other h d = ndjson_due_once numbers source one other h d
+one_due (Make make) source one other h d = absurd h
+one_due (Rewrite rewrite) source one other h d = rewrite_due_once source one other h d
 
 right_because : (block : BlockWords) (source : Change) (e : Error) → BlockCanBeShown block source → Because block source e → ⊥
 right_because block source e (bytes, tells, valid) (inl h) = not_both source bytes h.1 tells
@@ -158,6 +164,8 @@ right_because block source e (bytes, tells, valid) (inr (others, told, h)) =
 pub none_due : (command : Command) (source : Change) (e : Error) → CanBeDone command source → Due command source e → ⊥
 none_due (Block block) source e can h = right_because block source e can (because block source e h)
 none_due (Ndjson numbers) source e can h = ndjson_never_due numbers source e can h
+none_due (Make make) source e can h = h
+none_due (Rewrite rewrite) source e can h = rewrite_never_due source e can h
 
 -- ---- how a block ends, against what is due
 
@@ -224,6 +232,11 @@ steady_because block source e (inr (bytes, tells, h)) = (tells.steady, (bytes, t
 
 -- ---- of every command
 
+make_fails_in_memory : (make : MakeWords) (sink : Change) (e : Error) → (Failed sink → ⊥) → MakeFails make sink e → e ≡ OutOfMemory
+make_fails_in_memory make sink OutOfMemory open_ended h = refl
+make_fails_in_memory make sink WriteFault open_ended h = absurd (open_ended h.1)
+make_fails_in_memory make sink _ open_ended h = absurd h
+
 fails_in_memory : (command : Command) (source sink : Change) (e : Error) → CanBeDone command source → (Failed sink → ⊥) → Fails command source sink e → e ≡ OutOfMemory
 fails_in_memory (Block block) source sink e can open_ended h = from (ending block source sink e (steady_can block source can) h)
   where
@@ -232,6 +245,8 @@ fails_in_memory (Block block) source sink e can open_ended h = from (ending bloc
     from (inl (inr due)) = absurd (none_due (Block block) source e can due)
     from (inr broken) = absurd (open_ended broken.0)
 fails_in_memory (Ndjson numbers) source sink e can open_ended h = ndjson_fails_in_memory numbers source sink e can open_ended h
+fails_in_memory (Make make) source sink e can open_ended h = make_fails_in_memory make sink e open_ended h.1
+fails_in_memory (Rewrite rewrite) source sink e can open_ended h = rewrite_fails_in_memory rewrite source sink e can open_ended h
 
 fails_as_due : (command : Command) (source sink : Change) (e due : Error) → Due command source due → Fails command source sink e → (e ≡ OutOfMemory) ⊎ (e ≡ due)
 fails_as_due (Block block) source sink e due h fails = from (ending block source sink e (steady_because block source due (because block source due h)) fails)
@@ -241,11 +256,15 @@ fails_as_due (Block block) source sink e due h fails = from (ending block source
     from (inl (inr d)) = inr (one_due (Block block) source e due d h)
     from (inr broken) = absurd (none_due (Block block) source due broken.1 h)
 fails_as_due (Ndjson numbers) source sink e due h fails = ndjson_fails_as_due numbers source sink e due h fails
+fails_as_due (Make make) source sink e due h fails = absurd h
+fails_as_due (Rewrite rewrite) source sink e due h fails = rewrite_fails_as_due rewrite source sink e due h fails
 
 done_not_due : (command : Command) (source sink : Change) (due : Error) → Due command source due → Done command source sink → ⊥
 done_not_due (Block block) source sink due h done =
     none_due (Block block) source due (told_right block source done.bytes (steady_because block source due (because block source due h)) done.read done.shows.valid) h
 done_not_due (Ndjson numbers) source sink due h done = ndjson_done_not_due numbers source sink due h done
+done_not_due (Make make) source sink due h done = h
+done_not_due (Rewrite rewrite) source sink due h done = rewrite_done_not_due rewrite source sink due h done
 
 status_above : (e : Error) → 1 < status_of e
 status_above (InvalidArgumentError r) = omega arith

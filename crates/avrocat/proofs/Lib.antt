@@ -2,12 +2,12 @@ pub mod BlockLemmas
 pub mod ColumnLemmas
 pub mod Endings
 pub mod Joined
+pub mod KeepWords
+pub mod MakeEndings
 pub mod NdjsonEndings
-pub mod NumberWords
-pub mod OneMeaning
 pub mod RefusalLemmas
+pub mod RewriteEndings
 pub mod ShownLemmas
 pub mod SlotTexts
 pub mod Taken
 pub mod Told
-pub mod WordsLemmas

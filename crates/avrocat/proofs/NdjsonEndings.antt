@@ -3,9 +3,9 @@ use Rattle.std.proofs.Common.{◌≡◌, ◌∙◌, ◌⊎◌, inl, inr, ℕ, Li
 use Rattle.std.proofs.lemmas.Option.{same_Some}
 use Rattle.arrow_core.specs.declared.error.Error.{Error}
 use Rattle.arrow_core.specs.declared.error.Error.TheVariants.{OutOfMemory}
-use Rattle.arrow_convert.specs.Laws.{IsHeaderDue}
-use Rattle.arrow_convert.proofs.Complete.{files_are_converted, fields_are_refused, refused_is_not_converted, due_once, never_due}
-use Rattle.arrow_convert.specs.Changes.{Change, Failed}
+use Rattle.avro_ndjson.specs.Laws.{IsHeaderDue}
+use Rattle.avro_ndjson.proofs.Complete.{files_are_converted, fields_are_refused, refused_is_not_converted, due_once, never_due}
+use Rattle.avro_blocks.specs.Changes.{Change, Failed}
 use Rattle.avrocat.specs.Input.{byte_limit}
 use Rattle.avrocat.specs.Ndjson.{keep_of, NdjsonDone, NdjsonFails, HasLines, NdjsonDue}
 

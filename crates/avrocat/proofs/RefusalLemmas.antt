@@ -11,9 +11,9 @@ use Rattle.avro_grammar.specs.Carried.{CarriedList}
 use Rattle.avro_grammar.specs.Types.{Fits}
 use Rattle.avro_decode.specs.Refusals.{BelongTogether, FieldsRefused, BytesRefused, BlockRefused}
 use Rattle.arrow_base.specs.Outside.{AppendsPrefix}
-use Rattle.avrocat.specs.declared.command.BlockWords.{BlockWords}
+use Rattle.command_words.specs.declared.command.BlockWords.{BlockWords}
 use Rattle.avrocat.specs.Blocks.{AreColumnsOf, ShowsColumns}
-use Rattle.arrow_convert.specs.Changes.{Change, Failed}
+use Rattle.avro_blocks.specs.Changes.{Change, Failed}
 use Rattle.avrocat.specs.Input.{byte_limit, TakesAll, NotRead}
 use Rattle.avrocat.specs.Refusals.{IsWrong, BlockCommandFails}
 use Rattle.avrocat.proofs.ColumnLemmas.{forms_fit}

@@ -8,8 +8,8 @@ use Rattle.avro_grammar.specs.Inferred.{inferred_columns}
 use Rattle.avro_grammar.specs.ValidBlock.{kept, ValidBlock}
 use Rattle.avro_infer.specs.Enlarged.{enlarged}
 use Rattle.avro_decode.specs.Columns.{AreColumns}
-use Rattle.avrocat.specs.declared.command.BlockWords.{BlockWords}
-use Rattle.arrow_convert.specs.Changes.{Change}
+use Rattle.command_words.specs.declared.command.BlockWords.{BlockWords}
+use Rattle.avro_blocks.specs.Changes.{Change}
 use Rattle.avrocat.specs.Input.{TakesAll}
 use Rattle.avrocat.specs.Shown.{shown}
 

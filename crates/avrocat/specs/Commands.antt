@@ -1,48 +1,49 @@
--- The commands: which words stand for one, and what the program's status tells of it.
-use Rattle.std.specs.Prelude.{◌≡◌, ◌⊎◌, ℕ, List}
+-- The commands: what the program's status tells of one.
+use Rattle.std.specs.Prelude.{◌≡◌, ◌⊎◌, ⊤, ℕ, List}
 use Rattle.std.specs.Io.KnownBytes.{Keeps}
 use Rattle.arrow_core.specs.declared.error.Error.{Error}
 use Rattle.arrow_core.specs.declared.error.Error.TheVariants.{OutOfMemory}
 use Rattle.arrow_core.specs.Errors.{status_of}
-use Rattle.avrocat.specs.declared.command.Command.{Command}
-use Rattle.avrocat.specs.declared.command.Command.TheVariants.{Block, Ndjson}
+use Rattle.command_words.specs.declared.command.Command.{Command}
+use Rattle.command_words.specs.declared.command.Command.TheVariants.{Block, Ndjson, Make, Rewrite}
 use Rattle.avrocat.specs.Blocks.{BlockDone}
-use Rattle.arrow_convert.specs.Changes.{Change}
+use Rattle.avro_blocks.specs.Changes.{Change}
+use Rattle.avrocat.specs.Make.{MakeDone, MakeFails}
 use Rattle.avrocat.specs.Ndjson.{NdjsonDone, NdjsonFails, HasLines, NdjsonDue}
 use Rattle.avrocat.specs.Note.{error_note, Notes}
 use Rattle.avrocat.specs.Refusals.{BlockCommandFails, BlockCanBeShown, BlockDue}
-use Rattle.avrocat.specs.Words.{IsBlock, IsNdjson}
-
--- the words stand for the command
-abbrev pub Stands : List (List ℕ) → Command → Type 0
-Stands words (Block block) = IsBlock words block
-Stands words (Ndjson numbers) = IsNdjson words numbers
-
--- the words stand for none
-abbrev pub IsUsage : List (List ℕ) → Type 0
-IsUsage words = (command : Command) → Stands words command → ⊥
+use Rattle.avrocat.specs.Rewrite.{RewriteDone, RewriteFails, CanBeRewritten, RewriteDue}
+use Rattle.command_words.specs.Stands.{Stands}
 
 -- what status 0 tells: the command was done, from this source to this sink
 abbrev pub Done : Command → Change → Change → Type 0
 Done (Block block) source sink = BlockDone block source sink
 Done (Ndjson numbers) source sink = NdjsonDone numbers source sink
+Done (Make make) source sink = Keeps source.bytes source.bytes_after × MakeDone make sink
+Done (Rewrite rewrite) source sink = RewriteDone rewrite source sink
 
 -- why the command fails by this error
 abbrev pub Fails : Command → Change → Change → Error → Type 0
 Fails (Block block) source sink e = BlockCommandFails block source sink e
 Fails (Ndjson numbers) source sink e = NdjsonFails numbers source sink e
+Fails (Make make) source sink e = Keeps source.bytes source.bytes_after × MakeFails make sink e
+Fails (Rewrite rewrite) source sink e = RewriteFails rewrite source sink e
 
 -- The command is done wherever there is memory and the sink doesn't fail: the source doesn't fail, and
 -- tells what the command can be done on.
 abbrev pub CanBeDone : Command → Change → Type 0
 CanBeDone (Block block) source = BlockCanBeShown block source
 CanBeDone (Ndjson numbers) source = HasLines numbers source
+CanBeDone (Make make) source = ⊤
+CanBeDone (Rewrite rewrite) source = CanBeRewritten source
 
 -- The command fails by this error wherever there is memory: the source doesn't fail, and tells what
 -- the error is due to.
 abbrev pub Due : Command → Change → Error → Type 0
 Due (Block block) source e = BlockDue block source e
 Due (Ndjson numbers) source e = NdjsonDue numbers source e
+Due (Make make) source e = ⊥
+Due (Rewrite rewrite) source e = RewriteDue source e
 
 -- the words stand for a command that fails by this error, or there is no memory for what they say
 abbrev pub IsCause : List (List ℕ) → Change → Change → Error → Type 0

@@ -3,8 +3,7 @@ use Rattle.std.specs.Prelude.{◌≡◌, ℕ, ◌+◌, ◌<◌, ◌≤◌, ⊤, 
 use Rattle.std.specs.Io.KnownBytes.{Consumes, IsAtEnd}
 use Rattle.arrow_core.specs.declared.error.Error.{Error}
 use Rattle.arrow_core.specs.declared.error.Error.TheVariants.{LimitExceeded, ReadFault, OutOfMemory}
-use Rattle.arrow_convert.specs.Changes.{Change, Failed}
-use Rattle.arrow_convert.specs.Laws.{IsTold}
+use Rattle.avro_blocks.specs.Changes.{Change, Failed, IsTold}
 
 -- the most bytes that the program takes
 abbrev pub byte_limit : ℕ

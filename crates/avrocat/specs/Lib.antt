@@ -1,8 +1,9 @@
 pub mod Blocks
 pub mod Commands
 pub mod Input
+pub mod Make
 pub mod Ndjson
 pub mod Note
 pub mod Refusals
+pub mod Rewrite
 pub mod Shown
-pub mod Words

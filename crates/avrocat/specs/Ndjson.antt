@@ -1,9 +1,9 @@
 -- The lines of a file, as `ndjson KEEP..` asks for them.
 use Rattle.std.specs.Prelude.{ℕ, List, [], ◌∷◌, Option, Some, None}
 use Rattle.arrow_core.specs.declared.error.Error.{Error}
-use Rattle.arrow_convert.specs.Laws.{CanBeConverted, IsHeaderDue}
-use Rattle.arrow_convert.specs.Refusals.{Converts, ConversionFails}
-use Rattle.arrow_convert.specs.Changes.{Change}
+use Rattle.avro_ndjson.specs.Laws.{CanBeConverted, IsHeaderDue}
+use Rattle.avro_ndjson.specs.Refusals.{Converts, ConversionFails}
+use Rattle.avro_blocks.specs.Changes.{Change}
 use Rattle.avrocat.specs.Input.{byte_limit, Tells}
 
 -- the fields to keep: all, where no number is given

@@ -5,7 +5,7 @@ use Rattle.arrow_base.specs.Outside.{AppendsPrefix}
 use Rattle.arrow_core.specs.declared.error.Error.{Error}
 use Rattle.arrow_core.specs.declared.error.Error.TheVariants.{InvalidArgumentError, NotYetImplemented, ExternalFormat, OutOfSpec, ReadFault}
 use Rattle.arrow_core.specs.Errors.{error_name, reason_name}
-use Rattle.arrow_convert.specs.Changes.{Change, Failed}
+use Rattle.avro_blocks.specs.Changes.{Change, Failed}
 
 -- of words that are no command
 abbrev pub usage_note : List ℕ

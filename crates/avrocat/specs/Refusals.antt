@@ -10,9 +10,9 @@ use Rattle.avro_grammar.specs.Carried.{CarriedList}
 use Rattle.avro_grammar.specs.NegativeSize.{NegativeSize as StatesNegativeSize}
 use Rattle.avro_grammar.specs.Rows.{Rows as AreRows}
 use Rattle.avro_grammar.specs.ValidBlock.{KeepNoFloat, KeptEnumsFit}
-use Rattle.avrocat.specs.declared.command.BlockWords.{BlockWords}
+use Rattle.command_words.specs.declared.command.BlockWords.{BlockWords}
 use Rattle.avrocat.specs.Blocks.{IsValid, ShowsColumns}
-use Rattle.arrow_convert.specs.Changes.{Change, Failed}
+use Rattle.avro_blocks.specs.Changes.{Change, Failed}
 use Rattle.avrocat.specs.Input.{TakesAll, PassesLimit, Tells, TellsTooMany}
 
 -- there is a field, and each schema is carried

@@ -3,18 +3,18 @@ ghost use Rattle.std.specs.Prelude.{◌≡◌, ◌≤◌, ◌⊎◌, length, map
 ghost use Rattle.arrow_core.specs.declared.error.Error.TheVariants.{OutOfMemory};
 ghost use Rattle.avro_grammar.specs.ValidBlock.{kept};
 ghost use Rattle.avrocat.specs.Blocks.{AreColumnsOf, ShowsColumns, BlockDone};
-ghost use Rattle.arrow_convert.specs.Changes.{change_of};
+ghost use Rattle.avro_blocks.specs.Changes.{change_of};
 ghost use Rattle.avrocat.specs.Input.{byte_limit};
 ghost use Rattle.avrocat.specs.Refusals.{IsWrong, BlockCommandFails};
 
 use crate::columns::columns_of;
-use crate::command::BlockWords;
 use crate::input::read_all;
 use crate::lines::Lines;
 use arrow_base::{Bytes, Items, Result, Sink, Source, Text, write_all};
 use arrow_types::Field;
 use avro_read::deserialize;
 use avro_schema::{AvroField, Block, Record};
+use command_words::BlockWords;
 use std::alloc::Global;
 
 /// The name of the record that a row is. Nothing asks for it.

@@ -2,7 +2,7 @@
 
 ghost use Rattle.std.specs.Prelude.{◌≡◌, ◌≤◌, IfOk, IfErr, vec_len};
 ghost use Rattle.arrow_core.specs.declared.error.Error.TheVariants.{OutOfMemory};
-ghost use Rattle.arrow_convert.specs.Changes.{change_of};
+ghost use Rattle.avro_blocks.specs.Changes.{change_of};
 ghost use Rattle.avrocat.specs.Input.{TakesAll, NotRead};
 
 use arrow_base::{Error, Result, Source};

@@ -1,15 +1,9 @@
 //! Laws of the definitions. The functions do nothing: the contract of each is a law.
-ghost use Rattle.std.specs.Prelude.{◌≡◌, ℕ, List};
+ghost use Rattle.std.specs.Prelude.{◌≡◌};
 ghost use Rattle.arrow_core.specs.declared.error.Error.{Error};
-ghost use Rattle.avrocat.specs.declared.command.Command.{Command};
-ghost use Rattle.arrow_convert.specs.Changes.{Change};
-ghost use Rattle.avrocat.specs.Commands.{Stands, CanBeDone, Due};
-
-/// Words stand for one command at most.
-pub fn one_command()
-    ensures { (words : List (List ℕ)) (one other : Command)
-        → Stands words one → Stands words other → one ≡ other }
-{}
+ghost use Rattle.command_words.specs.declared.command.Command.{Command};
+ghost use Rattle.avro_blocks.specs.Changes.{Change};
+ghost use Rattle.avrocat.specs.Commands.{CanBeDone, Due};
 
 /// At most one error is due to a command and its source.
 pub fn one_error_is_due()

@@ -9,20 +9,24 @@ ghost use Rattle.std.specs.declared.io.ErrorKind.TheVariants.{OutOfMemory};
 
 mod block;
 mod columns;
-mod command;
 mod input;
 mod laws;
 mod lines;
 #[cfg(test)]
 mod lines_tests;
+mod make;
+#[cfg(test)]
+mod make_tests;
 mod ndjson;
 #[cfg(test)]
 mod ndjson_tests;
 mod note;
+mod rewrite;
+#[cfg(test)]
+mod rewrite_tests;
 mod run;
 #[cfg(test)]
 mod tests;
-mod words;
 
 use arrow_base::{Error, StdSink, StdSource, Text};
 use run::conclude;

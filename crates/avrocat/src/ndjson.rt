@@ -1,11 +1,11 @@
 //! The command `ndjson`: the rows of an Avro file as JSON lines.
 ghost use Rattle.std.specs.Prelude.{OnOk, IfErr};
-ghost use Rattle.arrow_convert.specs.Changes.{change_of};
+ghost use Rattle.avro_blocks.specs.Changes.{change_of};
 ghost use Rattle.avrocat.specs.Ndjson.{NdjsonDone, NdjsonFails};
 
 use crate::input::BYTE_LIMIT;
 use arrow_base::{Items, Result, Sink, Source};
-use arrow_convert::avro_to_ndjson;
+use avro_ndjson::avro_to_ndjson;
 use std::alloc::Global;
 
 /// Reads the source to its end as an Avro file, and writes a line for each row, with the fields of

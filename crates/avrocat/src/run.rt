@@ -3,17 +3,19 @@ ghost use Rattle.std.specs.Prelude.{◌≡◌, ◌<◌, ◌⊎◌, ℕ, List, If
 ghost use Rattle.std.specs.Io.KnownBytes.{Keeps};
 ghost use Rattle.arrow_core.specs.declared.error.Error.{Error as TheError};
 ghost use Rattle.arrow_core.specs.Errors.{status_of};
-ghost use Rattle.avrocat.specs.declared.command.Command.{Command as TheCommand};
-ghost use Rattle.arrow_convert.specs.Changes.{change_of, Failed};
-ghost use Rattle.avrocat.specs.Commands.{Stands, IsUsage, Done, Fails, CanBeDone, Due, Refused};
+ghost use Rattle.command_words.specs.declared.command.Command.{Command as TheCommand};
+ghost use Rattle.avro_blocks.specs.Changes.{change_of, Failed};
+ghost use Rattle.avrocat.specs.Commands.{Done, Fails, CanBeDone, Due, Refused};
+ghost use Rattle.command_words.specs.Stands.{Stands, IsUsage};
 ghost use Rattle.avrocat.specs.Note.{usage_note, error_note, Notes};
 
 use crate::block::run_block;
-use crate::command::Command;
+use crate::make::run_make;
 use crate::ndjson::run_ndjson;
 use crate::note::{note_error, note_usage};
-use crate::words::read_words;
+use crate::rewrite::run_rewrite;
 use arrow_base::{Error, Result, Sink, Source, Text};
+use command_words::{Command, read_words};
 use field_words::WordsFault;
 use std::alloc::Global;
 
@@ -93,6 +95,8 @@ fn run_command<S: Source, K: Sink>(
     match command {
         Command::Block(block) => run_block(alloc, block, source, sink),
         Command::Ndjson(numbers) => run_ndjson(alloc, numbers, source, sink),
+        Command::Make(make) => run_make(alloc, make, sink),
+        Command::Rewrite(rewrite) => run_rewrite(alloc, rewrite, source, sink),
     }
 }
 

@@ -70,6 +70,11 @@ pub(crate) fn is_answer(answer: Answer, status: u8, output: &str, note: &str) ->
         && answer.note.held() == note.as_bytes()
 }
 
+/// Whether the status is 0, and these bytes were written.
+pub(crate) fn has_written(answer: Answer, output: &[u8]) -> bool {
+    answer.status == 0 && answer.output.held() == output
+}
+
 /// The answer of a line on these bytes, where no read and no write fails.
 pub(crate) fn plain_answer(rt: &impl Abort, alloc: Global, line: &str, bytes: &[u8]) -> Answer {
     answer_of(

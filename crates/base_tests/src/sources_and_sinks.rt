@@ -7,7 +7,7 @@ use arrow_base::{
 };
 use std::alloc::Global;
 use std::io;
-use std::io::{Read, Write};
+use std::io::{BufRead, Read, Write};
 use std::process::Abort;
 
 // A device that is out of order: it gives an error to each read, and takes nothing.
@@ -18,6 +18,14 @@ impl Read for Broken {
     fn read(&mut self, _buffer: &mut [u8]) -> io::Result<usize> {
         Err(io::Error::from(io::ErrorKind::Other))
     }
+}
+
+impl BufRead for Broken {
+    fn fill_buf(&mut self) -> io::Result<&[u8]> {
+        Err(io::Error::from(io::ErrorKind::Other))
+    }
+
+    fn consume(&mut self, _amount: usize) {}
 }
 
 impl Write for Broken {
@@ -120,6 +128,23 @@ fn readers_of_std_are_read(rt: HostRuntime) {
     assert!(rt; source.read(&mut buffer) == Ok(2) && buffer == *b"ab");
     assert!(rt; source.read(&mut buffer) == Ok(1) && source.read(&mut buffer) == Ok(0));
     assert!(rt; StdSource::new(Broken).read(&mut buffer) == Err(Failed));
+}
+
+#[test]
+fn a_source_is_read_through_a_byte(rt: HostRuntime) {
+    let mut source = StdSource::new(b"ab\ncd".as_slice());
+    let mut line: Vec<u8> = Vec::new(rt.alloc());
+    assert!(rt; source.read_through(b'\n', 2, &mut line).ok() == Some(2));
+    assert!(rt;
+        source.read_through(b'\n', 9, &mut line).ok() == Some(1)
+            && line.as_slice() == b"ab\n".as_slice()
+    );
+    assert!(rt; source.read_through(b'\n', 9, &mut line).ok() == Some(2));
+    assert!(rt; source.read_through(b'\n', 9, &mut line).ok() == Some(0));
+    assert!(rt;
+        StdSource::new(Broken).read_through(b'\n', 9, &mut line)
+            == Err(Error::ReadFault { line: None })
+    );
 }
 
 #[test]

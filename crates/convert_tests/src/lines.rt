@@ -4,11 +4,9 @@ use crate::files::{
     BINARY, BLOCK, DATES, EVENTS, FALSE_COUNT, FLOAT, HEADER, MAP, NAMES, NAMES_LINE, NANOSECONDS,
     NO_FIELD,
 };
-use crate::written::{
-    CARD_LINES, CARDS_AND_NONE, CARDS_OF_C, CARDS_OF_JAVA, TIMED_LINES, WRITTEN, WRITTEN_LINES,
-};
+use crate::written::{WRITTEN, WRITTEN_LINES};
 use arrow_base::{Bytes, Error, Items, MemorySink, MemorySource, Reason, Result};
-use arrow_convert::avro_to_ndjson;
+use avro_ndjson::avro_to_ndjson;
 use std::alloc::Global;
 use std::process::Abort;
 
@@ -92,47 +90,6 @@ fn lines_are_those_of_another_program(rt: HostRuntime) {
     let alloc = rt.alloc();
     assert!(rt; gives(&rt, alloc, &[WRITTEN], None, PLAIN, Ok(3), WRITTEN_LINES));
     assert!(rt; gives(&rt, alloc, &[NAMES], None, PLAIN, Ok(1), NAMES_LINE));
-}
-
-/// The numbers of the fields of cards but the second, which is of a fixed type and so has no line.
-const SHOWN: &[usize] = &[0, 2, 3];
-
-#[test]
-fn cards_of_other_writers_become_lines(rt: HostRuntime) {
-    let alloc = rt.alloc();
-    assert!(rt;
-        gives(
-            &rt,
-            alloc,
-            &[CARDS_OF_C],
-            Some(SHOWN),
-            PLAIN,
-            Ok(3),
-            CARD_LINES
-        )
-    );
-    assert!(rt;
-        gives(
-            &rt,
-            alloc,
-            &[CARDS_OF_JAVA],
-            Some(SHOWN),
-            PLAIN,
-            Ok(3),
-            TIMED_LINES
-        )
-    );
-    assert!(rt;
-        gives(
-            &rt,
-            alloc,
-            &[CARDS_AND_NONE],
-            Some(SHOWN),
-            PLAIN,
-            Ok(3),
-            TIMED_LINES
-        )
-    );
 }
 
 #[test]

@@ -1,29 +1,38 @@
 -- Sums of a file's columns, block after block.
-use Rattle.std.proofs.Common.{◌≡◌, ◌∙◌, ℕ, ◌<◌, ℤ, pos, List, [], ◌∷◌, ◌++◌, map, length, Option, Some, None, Result, Ok, Err, IfOk, refl, sym, ap, subst, rules}
-use Rattle.std.specs.Prelude.{fold, Bool, IfSome, IsOk}
+use Rattle.std.proofs.Common.{◌≡◌, ◌∙◌, ℕ, suc, ◌-◌, ◌^◌, ◌<◌, ◌≤◌, inl, inr, ◌⊎◌, ℤ, pos, ◌+ℤ◌, take, get_or, SomeIff, ok_or, FitsSigned, take-suc, List, [], ◌∷◌, ◌++◌, map, length, Option, Some, None, Result, Ok, Err, IfOk, refl, sym, ap, subst, rules}
+use Rattle.std.specs.Prelude.{fold, Bool, IfSome, IfErr, IsOk}
+use Rattle.std.specs.Int.{w128}
 use Rattle.arrow_core.specs.declared.error.Error.{Error}
+use Rattle.arrow_core.specs.declared.error.Error.TheVariants.{InvalidArgumentError, Overflow, OutOfMemory}
+use Rattle.arrow_core.specs.declared.error.Reason.TheVariants.{KeepNumber}
 use Rattle.std.specs.List.{AllZip}
 use Rattle.std.proofs.KnownBytes.{Consumes-trans}
 use Rattle.std.proofs.lemmas.List.{append-nil}
 use Rattle.std.proofs.lemmas.List.Sums.{fold-append}
 use Rattle.std.specs.Io.KnownBytes.{Consumes, IsAtEnd}
 use Rattle.arrow_array.specs.declared.array.Array.{Array}
+use Rattle.arrow_array.specs.declared.array.Array.TheVariants.{Int64}
 use Rattle.arrow_array.specs.Arrays.{array_slots}
 use Rattle.arrow_types.specs.declared.slot.Slot.{Slot}
 use Rattle.arrow_types.specs.declared.types.Field.{Field}
 use Rattle.avro_schema.specs.declared.schema.Record.{Record, out-Record}
+use Rattle.avro_schema.specs.declared.schema.Schema as schema
 use Rattle.avro_container.specs.BlockReader.{AtEnd}
 use Rattle.avro_container.specs.File.{IsFileBlock, none}
 use Rattle.avro_container.specs.ReadHeader.{Change}
-use Rattle.avro_container.specs.Taking.{State, Takes}
+use Rattle.avro_container.specs.Taking.{State, state, Takes}
 use Rattle.avro_container.proofs.BlockParts.{fewer}
 use Rattle.avro_container.proofs.Sequences.{one_more}
 use Rattle.avro_container.proofs.Taken.{takes_nothing, takes_more}
 use Rattle.avro_decode.specs.Columns.{AreColumns}
 use Rattle.avro_decode.specs.Decoder.{Projected, projected}
-use Rattle.avro_file.specs.Metadata.{ReadsMetadata}
+use Rattle.avro_file.specs.Metadata.{ReadsMetadata, MetadataFails}
+use Rattle.avro_file.specs.declared.metadata.Compression.{Compression}
+use Rattle.avro_grammar.specs.Inferred.{inferred_columns, HasMapOrUnion}
+use Rattle.avro_infer.specs.Inference.{SchemaRefused}
+use Rattle.avro_read.specs.Projection.{ReaderRefused}
 use Rattle.avro_read.specs.Reader.{ReadsChunk, Next}
-use Rattle.guide.specs.Sum.{only, added, AddsColumn, SumsSoFar, SumsBlocks, IsSumOfFile}
+use Rattle.guide.specs.Sum.{only, long_of, added, AddsColumn, SumsSoFar, SumsBlocks, IsSumOfFile, PassesBits, ColumnFails, StopsAtBlock, FieldFails, SumFails}
 
 zip_push : {A B : Type 0} (R : A → B → Type 0) (xs : List A) (ys : List B) (x : A) (y : B) → AllZip R xs ys → R x y → AllZip R (xs ++ x ∷ []) (ys ++ y ∷ [])
 zip_push R [] [] x y h r = (r, tt)
@@ -118,3 +127,79 @@ pub if_sum : (field : ℕ) (result : Result ℤ Error) (c : Change) (root : Reco
 if_sum field (Err e) c root marker k count fields p projection old new reads is one same after h = tt
 if_sum field (Ok n) c root marker k count fields p projection old new reads is one same after h = λ bytes tells.
     sum_of_file field bytes n c root marker count fields projection old new tells reads one after (subst (λ (z : Projected). SumsBlocks z marker old new n) is (subst (λ (z : List ℕ). SumsBlocks p z old new n) same h))
+
+-- ---- why there is no sum
+
+pub passes_column : (n : ℤ) (chunk : List Array) (column : List Slot) (result : Result ℤ Error) → map array_slots chunk ≡ column ∷ []
+    → IfErr result (λ e. (e ≡ Overflow) × PassesBits n column) → IfErr result (ColumnFails n chunk)
+passes_column n chunk column (Ok total) is h = tt
+passes_column n chunk column (Err e) is h = subst (ColumnFails n chunk) (sym h.0) (column, is, h.1)
+
+-- the integer of slot i takes the sum past 128 bits
+pub passes_at : (n : ℤ) (slots : List Slot) (i : ℕ) (d : Slot) (sum long : ℤ) → i < length slots → sum ≡ added n (take i slots) → long ≡ long_of (get_or slots i d)
+    → (FitsSigned w128 (sum +ℤ long) → ⊥) → PassesBits n slots
+passes_at n slots i d sum long l is one past =
+    let more : added n (take (suc i) slots) ≡ sum +ℤ long =
+    ap (added n) (take-suc slots i d l) ∙ fold-append (λ (m : ℤ) (x : Slot). m +ℤ long_of x) n (take i slots) (get_or slots i d ∷ []) ∙ (λ j. sym is j +ℤ sym one j) in
+    (suc i, λ fits. past (subst (FitsSigned w128) more fits))
+
+-- a sum that is checked, and was too great
+pub too_great : (checked : Option ℤ) (result : Result ℤ Error) (e : Error) (P : Type 0) (v : ℤ) → result ≡ ok_or checked Overflow → result ≡ Err e → SomeIff checked P v
+    → (e ≡ Overflow) × (P → ⊥)
+too_great None result e P v made failed fits = (cc, fits)
+too_great (Some x) result e P v made failed fits = absurd cc
+
+pub block_stops : (p q : Projected) (marker k : List ℕ) (a b c : State) (n : ℤ) (answer : Option (Result (List Array) Error)) (r : Result (List Array) Error) (e : Error)
+    → q ≡ p → k ≡ marker → answer ≡ Some r → r ≡ Err e → SumsSoFar p marker a b n → Next q k b c answer → StopsAtBlock p marker a c e
+block_stops p q marker k a b c n answer r e same_p same_k is was s h =
+    let one : Next p k b c answer = subst (λ (z : Projected). Next z k b c answer) same_p h in
+    let two : Next p marker b c answer = subst (λ (z : List ℕ). Next p z b c answer) same_k one in
+    let fails : answer ≡ Some (Err e) = is ∙ ap Some was in
+    record { between = b; sum = n; before = s; why = inl (subst (Next p marker b c) fails two) }
+
+pub column_stops : (p q : Projected) (marker k : List ℕ) (a b c : State) (n m : ℤ) (answer : Option (Result (List Array) Error)) (r : Result (List Array) Error) (chunk : List Array) (e : Error)
+    → q ≡ p → k ≡ marker → answer ≡ Some r → r ≡ Ok chunk → SumsSoFar p marker a b n → Next q k b c answer → m ≡ n → ColumnFails m chunk e → StopsAtBlock p marker a c e
+column_stops p q marker k a b c n m answer r chunk e same_p same_k is was s h same_n why =
+    let one : Next p k b c answer = subst (λ (z : Projected). Next z k b c answer) same_p h in
+    let two : Next p marker b c answer = subst (λ (z : List ℕ). Next p z b c answer) same_k one in
+    let reads : answer ≡ Some (Ok chunk) = is ∙ ap Some was in
+    record {
+      between = b;
+      sum = n;
+      before = s;
+      why = inr (record { chunk = chunk; reads = subst (Next p marker b c) reads two; why = subst (λ (z : ℤ). ColumnFails z chunk e) same_n why });
+    }
+
+pub no_projection : (field count : ℕ) (root : Record) (e : Error) → count ≡ length (out-Record root).fields
+    → ((e ≡ InvalidArgumentError KeepNumber) × (count ≤ field)) ⊎ (e ≡ OutOfMemory) → FieldFails field root e
+no_projection field count root e is (inl why) = inr (inl (why.0, subst (λ (n : ℕ). n ≤ field) is why.1))
+no_projection field count root e is (inr why) = inl (subst (SchemaRefused (HasMapOrUnion (schema.Record root))) (sym why) tt)
+
+pub no_reader : (field : ℕ) (root : Record) (fields : List Field) (compression : Option Compression) (projection : List Bool) (e : Error)
+    → inferred_columns (out-Record root).fields ≡ Some fields → compression ≡ None → projection ≡ only field (length (out-Record root).fields)
+    → ReaderRefused compression (projected fields (out-Record root).fields projection) e → FieldFails field root e
+no_reader field root fields compression projection e inferred plain one refused =
+    let at_none = subst (λ (z : Option Compression). ReaderRefused z (projected fields (out-Record root).fields projection) e) plain refused in
+    inr (inr (fields, inferred, subst (λ (z : List Bool). ReaderRefused None (projected fields (out-Record root).fields z) e) one at_none))
+
+module _ (field : ℕ) (h : Change) (within : h.limit ≡ 2 ^ 40) where
+  pub no_header : (e : Error) → MetadataFails h e → SumFails field h.left h.faults e
+  no_header e fails = record { header = h; from_left = refl; from_faults = refl; within = within; why = inl fails }
+
+  module _ (root : Record) (marker : List ℕ) (count : ℕ) (reads : ReadsMetadata h root marker count) where
+    pub no_field : (e : Error) → FieldFails field root e → SumFails field h.left h.faults e
+    no_field e fails =
+        record { header = h; from_left = refl; from_faults = refl; within = within; why = inr (record { root = root; marker = marker; count = count; reads = reads; why = inl fails }) }
+
+    pub no_rows : (fields : List Field) (p : Projected) (k : List ℕ) (projection : List Bool) (old new : State) (result : Result ℤ Error)
+        → p ≡ projected fields (out-Record root).fields projection → projection ≡ only field (length (out-Record root).fields) → k ≡ marker → old ≡ state h.left_after h.faults_after (h.limit - count) None
+        → IfErr result (StopsAtBlock p k old new) → IfErr result (SumFails field h.left h.faults)
+    no_rows fields p k projection old new (Ok total) is one same from stops = tt
+    no_rows fields p k projection old new (Err e) is one same from stops =
+        let q : Projected = projected fields (out-Record root).fields (only field (length (out-Record root).fields)) in
+        let at : State = state h.left_after h.faults_after (h.limit - count) None in
+        let kept : p ≡ q = is ∙ ap (projected fields (out-Record root).fields) one in
+        let one_p : StopsAtBlock q k old new e = subst (λ (z : Projected). StopsAtBlock z k old new e) kept stops in
+        let one_k : StopsAtBlock q marker old new e = subst (λ (z : List ℕ). StopsAtBlock q z old new e) same one_p in
+        let here : StopsAtBlock q marker at new e = subst (λ (z : State). StopsAtBlock q marker z new e) from one_k in
+        record { header = h; from_left = refl; from_faults = refl; within = within; why = inr (record { root = root; marker = marker; count = count; reads = reads; why = inr (fields, new, here) }) }

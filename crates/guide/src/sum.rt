@@ -1,10 +1,13 @@
 //! A file, chunk by chunk.
 
-ghost use Rattle.std.specs.Prelude.{◌≡◌, ◌<◌, ℕ, List, Some, length, map, IfOk};
+ghost use Rattle.std.specs.Prelude.{◌≡◌, ◌⊎◌, ◌<◌, ◌≤◌, ℕ, List, Some, length, map, IfOk, IfErr};
 ghost use Rattle.arrow_array.specs.Arrays.{array_slots};
 ghost use Rattle.arrow_array.specs.Slots.{slot_at};
+ghost use Rattle.arrow_core.specs.declared.error.Error.TheVariants.{InvalidArgumentError, Overflow, OutOfMemory};
+ghost use Rattle.arrow_core.specs.declared.error.Reason.TheVariants.{KeepNumber};
 ghost use Rattle.avro_read.specs.Reader.{source_of, projected_of, marker_of, state_of, IsOpen};
 ghost use Rattle.guide.specs.Sum.{only, long_of, added, AddsColumn, SumsBlocks, IsSumOfFile};
+ghost use Rattle.guide.specs.Sum.{PassesBits, ColumnFails, StopsAtBlock, SumFails};
 
 use arrow_array::{Array, Chunk, PrimitiveArray};
 use arrow_base::{Error, Reason, Result, Source};
@@ -24,6 +27,7 @@ const BYTE_LIMIT: u64 = 1 << 40;
 pub fn sum_of_longs<S: Source + Drop>(alloc: Global, mut source: S, field: usize) -> Result<i128>
     ensures sum { IfOk result (λ sum. (bytes : List ℕ) → S.left source ≡ Some bytes
         → IsSumOfFile field bytes sum) }
+    ensures err { IfErr result (SumFails field (S.left source) (S.faults source)) }
 {
     let (metadata, taken) = read_metadata(alloc, &mut source, BYTE_LIMIT)?;
     let fields = infer_schema(alloc, &metadata.root)?.fields.into_vec();
@@ -35,7 +39,9 @@ pub fn sum_of_longs<S: Source + Drop>(alloc: Global, mut source: S, field: usize
 
 /// The projection that keeps one of so many fields.
 fn only(alloc: Global, field: usize, count: usize) -> Result<Vec<bool>>
-    ensures { IfOk result (λ projection. projection.items ≡ only field count) }
+    ensures ok { IfOk result (λ projection. projection.items ≡ only field count) }
+    ensures err { IfErr result (λ e. (e ≡ InvalidArgumentError KeepNumber) × (count ≤ field)
+        ⊎ (e ≡ OutOfMemory)) }
 {
     if field >= count {
         return Err(Error::InvalidArgumentError(Reason::KeepNumber));
@@ -48,8 +54,10 @@ fn only(alloc: Global, field: usize, count: usize) -> Result<Vec<bool>>
 /// The sum of the longs of all blocks that are left.
 fn sum_of_chunks<S: Source>(reader: &mut Reader<S>) -> Result<i128>
     requires { IsOpen reader.old }
-    ensures { IfOk result (λ sum. SumsBlocks (projected_of reader.old) (marker_of reader.old)
-        (state_of S.left S.faults reader.old) (state_of S.left S.faults reader.new) sum) }
+    ensures ok { IfOk result (SumsBlocks (projected_of reader.old) (marker_of reader.old)
+        (state_of S.left S.faults reader.old) (state_of S.left S.faults reader.new)) }
+    ensures err { IfErr result (StopsAtBlock (projected_of reader.old) (marker_of reader.old)
+        (state_of S.left S.faults reader.old) (state_of S.left S.faults reader.new)) }
 {
     let mut sum: i128 = 0;
     while let Some(chunk) = reader.next() {
@@ -60,7 +68,8 @@ fn sum_of_chunks<S: Source>(reader: &mut Reader<S>) -> Result<i128>
 
 /// A sum, and the longs of a chunk's one column.
 fn add_chunk(sum: i128, chunk: &Chunk) -> Result<i128>
-    ensures { IfOk result (AddsColumn sum (map array_slots chunk.now)) }
+    ensures ok { IfOk result (AddsColumn sum (map array_slots chunk.now)) }
+    ensures err { IfErr result (ColumnFails sum chunk.now) }
 {
     match chunk.arrays() {
         [Array::Int64(longs)] => add_longs(sum, longs),
@@ -70,7 +79,8 @@ fn add_chunk(sum: i128, chunk: &Chunk) -> Result<i128>
 
 /// A sum, and the longs of a column.
 fn add_longs(sum: i128, longs: &PrimitiveArray<i64>) -> Result<i128>
-    ensures { IfOk result (λ total. total ≡ added sum longs.now.slots) }
+    ensures ok { IfOk result (λ total. total ≡ added sum longs.now.slots) }
+    ensures err { IfErr result (λ e. (e ≡ Overflow) × PassesBits sum longs.now.slots) }
 {
     let mut sum = sum;
     for i in 0..longs.len() {

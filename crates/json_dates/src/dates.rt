@@ -1,6 +1,6 @@
 //! Days and their text.
-ghost use Rattle.std.specs.Prelude.{◌≡◌, ◌++◌, ◌∷◌, ◌+◌, ◌<◌, ◌≤◌, codes, vec_len, vec_capacity, true, IsTrue, OnOk, OnErr, IfErr};
-ghost use Rattle.arrow_core.specs.declared.error.Error.TheVariants.{OutOfMemory};
+ghost use Rattle.std.specs.Prelude.{◌≡◌, ◌++◌, ◌∷◌, ◌+◌, ◌<◌, ◌≤◌, codes, vec_len, vec_capacity, true, IsTrue, OnOk, OnErr};
+ghost use Rattle.arrow_core.specs.Errors.{OnlyOutOfMemory};
 ghost use Rattle.json_dates.specs.Civil.{is_printed_day, date_text};
 ghost use Rattle.json_dates.specs.Times.{date_json, day_of_milliseconds};
 
@@ -39,7 +39,7 @@ pub fn day_of_milliseconds(value: i64) -> i64
 #[tactic(auto, unfolding(crate::specs::Times::date_json))]
 pub fn push_date(out: &mut Vec<u8>, day: i64) -> Result<()>
     ensures ok { OnOk result (out.new.items ≡ out.old.items ++ date_json day) }
-    ensures memory { IfErr result (λ e. e ≡ OutOfMemory) }
+    ensures memory { OnlyOutOfMemory result }
     ensures err { OnErr result (out.new.items ≡ out.old.items) }
 {
     if !is_printed_day(day) {
@@ -53,7 +53,7 @@ pub fn push_date(out: &mut Vec<u8>, day: i64) -> Result<()>
 /// Appends `null`.
 pub fn push_null(out: &mut Vec<u8>) -> Result<()>
     ensures ok { OnOk result (out.new.items ≡ out.old.items ++ codes "null") }
-    ensures memory { IfErr result (λ e. e ≡ OutOfMemory) }
+    ensures memory { OnlyOutOfMemory result }
     ensures err { OnErr result (out.new.items ≡ out.old.items) }
 {
     Ok(out.extend_from_slice(b"null")?)

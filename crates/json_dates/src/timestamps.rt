@@ -1,6 +1,6 @@
 //! Timestamps and their text.
-ghost use Rattle.std.specs.Prelude.{◌≡◌, ◌++◌, ◌∷◌, ◌+◌, ◌<◌, ◌≤◌, [], vec_len, vec_capacity, IsTrue, OnOk, OnErr, IfErr};
-ghost use Rattle.arrow_core.specs.declared.error.Error.TheVariants.{OutOfMemory};
+ghost use Rattle.std.specs.Prelude.{◌≡◌, ◌++◌, ◌∷◌, ◌+◌, ◌<◌, ◌≤◌, [], vec_len, vec_capacity, IsTrue, OnOk, OnErr};
+ghost use Rattle.arrow_core.specs.Errors.{OnlyOutOfMemory};
 ghost use Rattle.json_dates.specs.Civil.{date_text, is_printed_day};
 ghost use Rattle.json_dates.specs.Times.{is_printed_timestamp, timestamp_json, time_text, three_digits, fraction_text, zone_text, separator};
 
@@ -39,7 +39,7 @@ pub fn push_timestamp(
     value: i64,
 ) -> Result<()>
     ensures ok { OnOk result (out.new.items ≡ out.old.items ++ timestamp_json unit offset value) }
-    ensures memory { IfErr result (λ e. e ≡ OutOfMemory) }
+    ensures memory { OnlyOutOfMemory result }
     ensures err { OnErr result (out.new.items ≡ out.old.items) }
 {
     let Some(at) = local_second(unit, offset, value) else {
@@ -57,7 +57,7 @@ fn push_second(out: &mut Vec<u8>, offset: Option<i16>, at: LocalSecond) -> Resul
     ensures ok { OnOk result (out.new.items ≡ out.old.items
         ++ 34 ∷ (date_text at.day ++ separator offset ∷ time_text at.second)) }
     ensures len { OnOk result (vec_len out.new ≡ vec_len out.old + 20) }
-    ensures memory { IfErr result (λ e. e ≡ OutOfMemory) }
+    ensures memory { OnlyOutOfMemory result }
     ensures capacity { vec_capacity out.old ≤ vec_capacity out.new }
     ensures full { OnErr result (vec_capacity out.old < vec_len out.old + 20) }
 {
@@ -104,7 +104,7 @@ fn time_digits(second: u32) -> [u8; 8]
 fn push_fraction(out: &mut Vec<u8>, nanoseconds: u32) -> Result<()>
     ensures ok { OnOk result (out.new.items ≡ out.old.items ++ fraction_text nanoseconds) }
     ensures len { OnOk result (vec_len out.new ≤ vec_len out.old + 10) }
-    ensures memory { IfErr result (λ e. e ≡ OutOfMemory) }
+    ensures memory { OnlyOutOfMemory result }
     ensures capacity { vec_capacity out.old ≤ vec_capacity out.new }
     ensures full { OnErr result (vec_capacity out.old < vec_len out.old + 10) }
 {
@@ -134,7 +134,7 @@ fn three_digits(n: u32) -> [u8; 3]
 #[tactic(auto, unfolding(crate::specs::Times::zone_text))]
 fn push_zone(out: &mut Vec<u8>, offset: Option<i16>) -> Result<()>
     ensures ok { OnOk result (out.new.items ≡ out.old.items ++ zone_text offset ++ 34 ∷ []) }
-    ensures memory { IfErr result (λ e. e ≡ OutOfMemory) }
+    ensures memory { OnlyOutOfMemory result }
     ensures capacity { vec_capacity out.old ≤ vec_capacity out.new }
     ensures full { OnErr result (vec_capacity out.old < vec_len out.old + 7) }
 {

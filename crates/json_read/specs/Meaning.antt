@@ -48,10 +48,11 @@ whole_in low high _ = slot_of slot.Null
 abbrev pub int64_in : Layer → Meaning
 int64_in = whole_in (negsuc 9223372036854775807) (pos 9223372036854775807)
 
--- the same, where a text is refused
+-- the whole value of a number in 64 bits; a text is refused; else null
 abbrev pub moment_in : Layer → Meaning
+moment_in (layer.Number number) = int64_in (layer.Number number)
 moment_in (layer.String text) = text_timestamp
-moment_in l = int64_in l
+moment_in _ = slot_of slot.Null
 
 -- the text of a number: its mantissa, and where there is an exponent, `e` and the exponent
 abbrev pub with_exponent : List ℕ → List ℕ → List ℕ

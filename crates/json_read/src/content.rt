@@ -9,7 +9,7 @@ ghost use Rattle.arrow_types.specs.declared.slot.Slot.TheVariants.{Binary as Bin
 ghost use Rattle.arrow_flat.specs.Builders.{optional_slot};
 ghost use Rattle.json_tree.specs.Grammar.{text_false, text_true};
 ghost use Rattle.json_read.specs.Meaning.{bytes_in, slot_of, text_in, with_exponent};
-ghost use Rattle.json_read.specs.Columns.{AreSlotsOf, IsTextFault, IsTooLong, Pushes, means, size_of};
+ghost use Rattle.json_read.specs.Columns.{AreSlotsOf, IsColumnFault, IsTextFault, IsTooLong, Pushes, lent, means, size_of};
 
 use arrow_array::{BinaryArray, Utf8Array};
 use arrow_core::Result;
@@ -91,10 +91,11 @@ fn push_text<O: Offset>(
 ///
 /// `Overflow` only where they have more bytes together than the greatest offset, 2^31 - 1 or
 /// 2^63 - 1. `OutOfMemory` may come in place of any answer.
-pub fn read_texts<O: Offset>(alloc: Global, values: &[Value]) -> Result<Utf8Array<O>>
+pub fn read_texts<O: Offset>(alloc: Global, values: &[&Value]) -> Result<Utf8Array<O>>
     ensures data_type { IfOk result (λ a. a.data_type ≡ utf8_type O.IS_LARGE) }
-    ensures slots { IfOk result (λ a. AreSlotsOf text_in values.now a.slots) }
-    ensures err { IfErr result (IsTooLong (greatest_offset O.IS_LARGE) text_in values.now) }
+    ensures slots { IfOk result (λ a. AreSlotsOf text_in (lent values.now) a.slots) }
+    ensures err { IfErr result (IsColumnFault text_in
+        (IsTooLong (greatest_offset O.IS_LARGE) text_in (lent values.now)) (lent values.now)) }
 {
     let mut builder = MutableUtf8Array::<O>::with_capacity(alloc, values.len())?;
     let mut buffer = String::new(alloc);
@@ -132,10 +133,11 @@ fn push_bytes<O: Offset>(builder: &mut MutableBinaryArray<O>, value: &Value) -> 
 ///
 /// `Overflow` only where there are more bytes together than the greatest offset, 2^31 - 1 or
 /// 2^63 - 1. `OutOfMemory` may come in place of any answer.
-pub fn read_binaries<O: Offset>(alloc: Global, values: &[Value]) -> Result<BinaryArray<O>>
+pub fn read_binaries<O: Offset>(alloc: Global, values: &[&Value]) -> Result<BinaryArray<O>>
     ensures data_type { IfOk result (λ a. a.data_type ≡ binary_type O.IS_LARGE) }
-    ensures slots { IfOk result (λ a. AreSlotsOf bytes_in values.now a.slots) }
-    ensures err { IfErr result (IsTooLong (greatest_offset O.IS_LARGE) bytes_in values.now) }
+    ensures slots { IfOk result (λ a. AreSlotsOf bytes_in (lent values.now) a.slots) }
+    ensures err { IfErr result (IsColumnFault bytes_in
+        (IsTooLong (greatest_offset O.IS_LARGE) bytes_in (lent values.now)) (lent values.now)) }
 {
     let mut builder = MutableBinaryArray::<O>::with_capacity(alloc, values.len())?;
     for value in values {

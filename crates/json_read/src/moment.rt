@@ -1,9 +1,9 @@
 //! Columns of timestamps.
-ghost use Rattle.std.specs.Prelude.{◌≡◌, OnOk, IfOk, IfErr, MatchBool};
+ghost use Rattle.std.specs.Prelude.{◌≡◌, OnOk, IfOk, IfErr};
 ghost use Rattle.arrow_array.specs.Parts.{IsPlain};
 ghost use Rattle.arrow_types.specs.declared.physical.PrimitiveType.TheVariants.{Int64 as Int64Layout};
-ghost use Rattle.json_read.specs.Meaning.{moment_in, text_timestamp};
-ghost use Rattle.json_read.specs.Columns.{AreSlotsOf, Has, IsMomentFault, IsMomentPushFault, Pushes, means};
+ghost use Rattle.json_read.specs.Meaning.{moment_in};
+ghost use Rattle.json_read.specs.Columns.{AreSlotsOf, IsColumnFault, IsPushFault, Pushes, lent};
 
 use crate::native::WholeNumber;
 use arrow_array::PrimitiveArray;
@@ -13,64 +13,41 @@ use arrow_types::DataType;
 use json_tree::Value;
 use std::alloc::Global;
 
-// Appends the whole value of a number, 1 for true or 0 for false, and else a null.
+// Appends the whole value of a number, and else a null.
 // `NotYetImplemented(TextTimestamp)` exactly for a text, and `Overflow` exactly where a number has no
 // whole value in 64 bits.
 fn push_moment(builder: &mut MutablePrimitiveArray<i64>, value: &Value) -> Result<()>
     ensures data_type { builder.new.data_type ≡ builder.old.data_type }
     ensures ok { OnOk result (Pushes moment_in value.now builder.old.slots builder.new.slots) }
-    ensures err { IfErr result (IsMomentPushFault value.now) }
+    ensures err { IfErr result (IsPushFault moment_in value.now) }
 {
     match value {
         Value::Number(number) => match i64::from_number(number) {
             Some(whole) => builder.push(Some(whole)),
             None => Err(Error::Overflow),
         },
-        Value::Bool(boolean) => builder.push(Some(i64::from_bool(*boolean))),
         Value::String(_) => Err(Error::NotYetImplemented(Reason::TextTimestamp)),
         _ => builder.push(None),
     }
 }
 
-fn is_text(value: &Value) -> bool
-    ensures { MatchBool result (means moment_in value.now ≡ text_timestamp)
-        (means moment_in value.now ≡ text_timestamp → ⊥) }
-{
-    matches!(value, Value::String(_))
-}
-
-// Whether there is a text.
-fn has_text(values: &[Value]) -> bool
-    ensures { MatchBool result (Has text_timestamp moment_in values.now)
-        (Has text_timestamp moment_in values.now → ⊥) }
-{
-    for value in values {
-        if is_text(value) {
-            return true;
-        }
-    }
-    false
-}
-
-/// The column of this type, one slot a value: the exact value of a number, cut towards zero, 1 for
-/// true, 0 for false, and null for any other value but a text. The type is one whose values lie in
-/// memory as 64-bit integers.
+/// The column of this type, one slot a value: the exact value of a number, cut towards zero, and
+/// null for any other value but a text. The type is one whose values lie in memory as 64-bit
+/// integers.
 ///
-/// `NotYetImplemented(TextTimestamp)` only where there is a text, and `Overflow` only where there is
-/// none and a number has no whole value in 64 bits. `OutOfMemory` may come in place of any answer.
+/// `NotYetImplemented(TextTimestamp)` where a text comes, and `Overflow` where a number that has no
+/// whole value in 64 bits comes; either may be answered where both come. `OutOfMemory` may come in
+/// place of any answer.
 pub fn read_moments(
     alloc: Global,
-    values: &[Value],
+    values: &[&Value],
     data_type: &DataType,
 ) -> Result<PrimitiveArray<i64>>
     requires plain { IsPlain Int64Layout data_type.now }
     ensures data_type { IfOk result (λ a. a.data_type ≡ data_type.now) }
-    ensures slots { IfOk result (λ a. AreSlotsOf moment_in values.now a.slots) }
-    ensures err { IfErr result (IsMomentFault values.now) }
+    ensures slots { IfOk result (λ a. AreSlotsOf moment_in (lent values.now) a.slots) }
+    ensures err { IfErr result (IsColumnFault moment_in ⊥ (lent values.now)) }
 {
-    if has_text(values) {
-        return Err(Error::NotYetImplemented(Reason::TextTimestamp));
-    }
     let builder = MutablePrimitiveArray::<i64>::with_capacity(alloc, values.len())?;
     let mut builder = builder.to(data_type.try_clone(alloc)?);
     for value in values {

@@ -4,7 +4,7 @@ ghost use Rattle.arrow_array.specs.Parts.{IsPlain};
 ghost use Rattle.arrow_core.specs.declared.error.Error.TheVariants.{OutOfMemory};
 ghost use Rattle.arrow_types.specs.declared.types.DataType.TheVariants.{Boolean, Null};
 ghost use Rattle.json_read.specs.Meaning.{boolean_meaning, null_in, truth_in, whole_in};
-ghost use Rattle.json_read.specs.Columns.{AreSlotsOf, IsFaultOf, Pushes, means, IsPushFault};
+ghost use Rattle.json_read.specs.Columns.{AreSlotsOf, IsColumnFault, IsPushFault, Pushes, lent, means};
 
 use crate::native::WholeNumber;
 use arrow_array::{BooleanArray, NullArray, PrimitiveArray};
@@ -40,13 +40,13 @@ fn push_integer<T: WholeNumber>(builder: &mut MutablePrimitiveArray<T>, value: &
 /// of any answer.
 pub fn read_integers<T: WholeNumber>(
     alloc: Global,
-    values: &[Value],
+    values: &[&Value],
     data_type: &DataType,
 ) -> Result<PrimitiveArray<T>>
     requires plain { IsPlain T.PRIMITIVE data_type.now }
     ensures data_type { IfOk result (λ a. a.data_type ≡ data_type.now) }
-    ensures slots { IfOk result (λ a. AreSlotsOf (whole_in T.low T.high) values.now a.slots) }
-    ensures err { IfErr result (IsFaultOf (whole_in T.low T.high) values.now) }
+    ensures slots { IfOk result (λ a. AreSlotsOf (whole_in T.low T.high) (lent values.now) a.slots) }
+    ensures err { IfErr result (IsColumnFault (whole_in T.low T.high) ⊥ (lent values.now)) }
 {
     let builder = MutablePrimitiveArray::<T>::with_capacity(alloc, values.len())?;
     let mut builder = builder.to(data_type.try_clone(alloc)?);
@@ -67,9 +67,9 @@ fn boolean_of(value: &Value) -> Option<bool>
 }
 
 /// The column of booleans, one slot a value, null where the value is no boolean. `OutOfMemory` alone.
-pub fn read_booleans(alloc: Global, values: &[Value]) -> Result<BooleanArray>
+pub fn read_booleans(alloc: Global, values: &[&Value]) -> Result<BooleanArray>
     ensures data_type { IfOk result (λ a. a.data_type ≡ Boolean) }
-    ensures slots { IfOk result (λ a. AreSlotsOf truth_in values.now a.slots) }
+    ensures slots { IfOk result (λ a. AreSlotsOf truth_in (lent values.now) a.slots) }
     ensures memory { IfErr result (λ e. e ≡ OutOfMemory) }
 {
     let mut builder = MutableBooleanArray::with_capacity(alloc, values.len())?;
@@ -80,9 +80,9 @@ pub fn read_booleans(alloc: Global, values: &[Value]) -> Result<BooleanArray>
 }
 
 /// The column of nulls, one a value. `OutOfMemory` alone.
-pub fn read_nulls(alloc: Global, values: &[Value]) -> Result<NullArray>
+pub fn read_nulls(alloc: Global, values: &[&Value]) -> Result<NullArray>
     ensures data_type { IfOk result (λ a. a.data_type ≡ Null) }
-    ensures slots { IfOk result (λ a. AreSlotsOf null_in values.now a.slots) }
+    ensures slots { IfOk result (λ a. AreSlotsOf null_in (lent values.now) a.slots) }
     ensures memory { IfErr result (λ e. e ≡ OutOfMemory) }
 {
     let mut builder = MutableNullArray::new(alloc);

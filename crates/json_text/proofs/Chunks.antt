@@ -1,7 +1,8 @@
--- Strings that need no escape, part by part.
-use Rattle.std.proofs.Common.{◌≡◌, ℕ, List, ◌++◌, take, drop, flat_map, refl, sym, ap, ◌∙◌}
+-- Strings that need no escape, part by part; and keys that were filled up.
+use Rattle.std.proofs.Common.{◌≡◌, ◌≤◌, ℕ, List, ◌++◌, length, take, drop, flat_map, refl, sym, ap, ◌∙◌, arith}
+use Rattle.std.proofs.Math.Seq.{take-append_seam}
 use Rattle.std.proofs.lemmas.Grind.{flat_map-append}
-use Rattle.std.proofs.lemmas.List.{take-append-drop}
+use Rattle.std.proofs.lemmas.List.{take-append-drop, take-take, take_all}
 use Rattle.arrow_base.proofs.Runs.{Passed}
 use Rattle.arrow_base.specs.WrittenString.{escaped}
 use Rattle.json_text.specs.Unescaped.{IsUnescaped}
@@ -21,3 +22,11 @@ chunk_then string chunk rest n e d p q =
 -- chunks that were passed and the rest
 pub passed_then : (string rest : List ℕ) → Passed string rest → IsUnescaped rest → IsUnescaped string
 passed_then string rest h q = ap (flat_map escaped) (sym h.splits) ∙ both_parts h.prefix rest h.plain q ∙ h.splits
+
+-- the front of a key that was filled up
+pub front_kept : (key filled front zeros : List ℕ) (n : ℕ) → n ≡ length key → length key ≤ 16 → filled ≡ take 16 key ++ zeros → front ≡ take 16 filled → take n front ≡ key
+front_kept key filled front zeros n e l d h =
+    let short : n ≤ 16 = omega (arith, e, l) in
+    ap (λ (z : List ℕ). take n z) h ∙ take-take n 16 filled short
+    ∙ ap (λ (z : List ℕ). take n z) (d ∙ ap (λ (z : List ℕ). z ++ zeros) (take_all 16 key l))
+    ∙ ap (λ m. take m (key ++ zeros)) e ∙ take-append_seam key zeros

@@ -23,7 +23,8 @@ use Rattle.arrow_base.specs.WrittenString.{json_string}
 use Rattle.json_text.specs.declared.columns.Column.{Column}
 use Rattle.json_text.specs.declared.integers.IntegerForm.{IntegerForm}
 use Rattle.json_text.specs.JsonText.{text, joined, member, object, field_members}
-use Rattle.json_text.specs.Columns.{IsForm, integer_text, AreWithin, AreMembers, AreNamedFrom, AreNamed, AreFields, AreColumns, AddsColumn, key_of, columns_text, columns_object}
+use Rattle.json_text.specs.Refusals.{in_range}
+use Rattle.json_text.specs.Columns.{IsForm, integer_in_range, integer_text, AreWithin, AreMembers, AreNamedFrom, AreNamed, AreFields, AreColumns, AddsColumn, key_bytes, key_of, columns_text, columns_object}
 use Rattle.json_text.proofs.Forms.{struct_is}
 use Rattle.json_text.proofs.Records.{fields_at}
 
@@ -79,7 +80,15 @@ plain_form p form (data_type.Dictionary' key shape value sorted) n h k = absurd 
 plain_form p form (data_type.List' shape item) n h k = absurd (cc)
 plain_form p form (data_type.LargeList' shape item) n h k = absurd (cc)
 plain_form p form (data_type.FixedSizeList' shape item size) n h k = absurd (cc)
-plain_form p form _ n h k = k n
+plain_form p form _ n h k = (k n).0
+
+-- and so are the integers in range
+pub plain_range : (p : PrimitiveType) (form : IntegerForm) (t : DataType) (n : ℤ) → IsPlain p t → IsForm form t → integer_in_range form n ≡ in_range t (slot.Integer n)
+plain_range p form (data_type.Dictionary' key shape value sorted) n h k = absurd (cc)
+plain_range p form (data_type.List' shape item) n h k = absurd (cc)
+plain_range p form (data_type.LargeList' shape item) n h k = absurd (cc)
+plain_range p form (data_type.FixedSizeList' shape item size) n h k = absurd (cc)
+plain_range p form _ n h k = (k n).1
 
 -- ---- the columns within a type
 
@@ -177,7 +186,7 @@ drop_all : (w : List Column) (n : ℕ) → n ≡ length w → length (drop n w) 
 drop_all w n e = omega (arith, e, length-drop n w)
 
 -- the only column of a row, with those within it
-one_column : (b : Bool) (name : List ℕ) (t : DataType) (c : Column) (w : List Column) → c.key.items ≡ key_of b name → c.within ≡ length w → IsForm c.form t → AreWithin t w
+one_column : (b : Bool) (name : List ℕ) (t : DataType) (c : Column) (w : List Column) → key_bytes c.key ≡ key_of b name → c.within ≡ length w → IsForm c.form t → AreWithin t w
     → AreNamedFrom b (name ∷ []) (t ∷ []) (c ∷ w)
 one_column b name t c w k n f h =
     ((k, (omega (arith, n), (f, subst (AreWithin t) (sym (take_all w c.within n)) h))), drop_all w c.within n)
@@ -187,7 +196,7 @@ later b [] = refl
 later b (c ∷ cs) = refl
 
 more_named : (b : Bool) (names : List (List ℕ)) (ts : List DataType) (cs : List Column) (name : List ℕ) (t : DataType) (c : Column) (w : List Column)
-    → AreNamedFrom b names ts cs → c.key.items ≡ key_of (is_first_of b cs) name → c.within ≡ length w → IsForm c.form t → AreWithin t w
+    → AreNamedFrom b names ts cs → key_bytes c.key ≡ key_of (is_first_of b cs) name → c.within ≡ length w → IsForm c.form t → AreWithin t w
     → AreNamedFrom b (names ++ (name ∷ [])) (ts ++ (t ∷ [])) (cs ++ (c ∷ w))
 more_named b [] [] cs name t c w h k n f i =
     let none = no_columns cs h in
@@ -212,7 +221,7 @@ added names ts old new name t h a =
 
 -- what was pushed is a column, and those within it
 pub column_added : {E : Type 0} (r : Result (Unit {0}) E) (name : List ℕ) (t : DataType) (old middle new : List Column) (c : Column) (w : List Column) → middle ≡ old ++ (c ∷ []) → new ≡ (if is_ok r then middle ++ w else middle)
-    → c.key.items ≡ key_of (length old == 0) name → c.within ≡ length w → IsForm c.form t → AreWithin t w → OnOk r (AddsColumn name t old new)
+    → key_bytes c.key ≡ key_of (length old == 0) name → c.within ≡ length w → IsForm c.form t → AreWithin t w → OnOk r (AddsColumn name t old new)
 column_added (Ok u) name t old middle new c w e d k n f h = record {
   column = c;
   beneath = w;
@@ -357,13 +366,13 @@ column_here arrays k a rest c more l e d h = subst (λ z. AreColumns z (c ∷ mo
 -- a key and a value more
 pub text_more : (arrays : List Array) (k i : ℕ) (a : Array) (rest : List Column) (c : Column) (more : List Column) (whole before with_key now : List ℕ)
     → k < length arrays → a ≡ get_or arrays k a → rest ≡ c ∷ more
-    → before ++ columns_text (drop k arrays) rest i ≡ whole → with_key ≡ before ++ c.key.items → now ≡ with_key ++ text (array_type a) (slot_at (array_slots a) i)
+    → before ++ columns_text (drop k arrays) rest i ≡ whole → with_key ≡ before ++ key_bytes c.key → now ≡ with_key ++ text (array_type a) (slot_at (array_slots a) i)
     → now ++ columns_text (drop (k + 1) arrays) (drop c.within more) i ≡ whole
 text_more arrays k i a rest c more whole before with_key now l e d h p q =
     let v : List ℕ = text (array_type a) (slot_at (array_slots a) i) in
     let left : List ℕ = columns_text (drop (k + 1) arrays) (drop c.within more) i in
-    let is : columns_text (drop k arrays) rest i ≡ c.key.items ++ (v ++ left) = ap (λ z. columns_text z rest i) (here arrays k a l e) ∙ ap (λ z. columns_text (a ∷ drop (k + 1) arrays) z i) d in
-    ap (λ z. z ++ left) (q ∙ ap (λ z. z ++ v) p) ∙ append_assoc (before ++ c.key.items) v left ∙ append_assoc before c.key.items (v ++ left)
+    let is : columns_text (drop k arrays) rest i ≡ key_bytes c.key ++ (v ++ left) = ap (λ z. columns_text z rest i) (here arrays k a l e) ∙ ap (λ z. columns_text (a ∷ drop (k + 1) arrays) z i) d in
+    ap (λ z. z ++ left) (q ∙ ap (λ z. z ++ v) p) ∙ append_assoc (before ++ key_bytes c.key) v left ∙ append_assoc before (key_bytes c.key) (v ++ left)
     ∙ ap (λ z. before ++ z) (sym is) ∙ h
 
 -- at the end the bracket makes the object

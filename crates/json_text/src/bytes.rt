@@ -1,5 +1,5 @@
 //! Text that grows in memory.
-ghost use Rattle.std.specs.Prelude.{◌≡◌, ◌++◌, ◌==◌, [], pos, codes, OnOk, if◌then◌else◌};
+ghost use Rattle.std.specs.Prelude.{◌≡◌, ◌++◌, ◌==◌, [], pos, codes, take, OnOk, if◌then◌else◌};
 ghost use Rattle.std.specs.Bool.{OnFalse};
 ghost use Rattle.std.specs.Fmt.{signed_decimal};
 ghost use Rattle.arrow_base.specs.WrittenString.{json_string};
@@ -22,6 +22,20 @@ pub fn push(out: &mut Vec<u8>, bytes: &[u8]) -> Appended
     ensures ok { OnOk result (out.new.items ≡ out.old.items ++ bytes.now) }
 {
     out.extend_from_slice(bytes)?;
+    Ok(())
+}
+
+/// Appends the first of 16 bytes, as many as `len` says. All are copied, in one step of constant
+/// length, and the others taken away again.
+///
+/// `AllocError` where there is no memory.
+#[inline]
+pub(crate) fn push_front(out: &mut Vec<u8>, bytes: &[u8; 16], len: u8) -> Appended
+    ensures ok { OnOk result (out.new.items ≡ out.old.items ++ take len bytes.now) }
+{
+    let start = out.len();
+    out.extend_from_slice(bytes)?;
+    out.truncate(start + len as usize);
     Ok(())
 }
 
@@ -161,7 +175,7 @@ fn push_integer<I: Integer>(out: &mut Vec<u8>, integer: I) -> Appended
 }
 
 /// Appends a signed integer in decimal.
-#[inline]
+#[inline(never)]
 pub(crate) fn push_signed(out: &mut Vec<u8>, integer: i64) -> Appended
     ensures ok { OnOk result (out.new.items ≡ out.old.items ++ signed_decimal integer) }
 {

@@ -4,6 +4,7 @@ ghost use Rattle.std.specs.List.{list_all};
 ghost use Rattle.arrow_array.specs.Arrays.{array_type, array_slots};
 ghost use Rattle.json_text.specs.Refusals.{refusal, in_range};
 
+use crate::integers::integer_form;
 use crate::range::in_range;
 use crate::types::{has_offsets, has_text, holds_dates};
 use arrow_array::Array;
@@ -16,8 +17,9 @@ fn all_in_range(array: &Array) -> bool
     if !holds_dates(array.data_type()) {
         return true;
     }
+    let form = integer_form(array.data_type());
     for i in 0..array.len() {
-        if !in_range(array, i) {
+        if !in_range(array, i, &form) {
             return false;
         }
     }

@@ -2,32 +2,68 @@
 ghost use Rattle.std.specs.Prelude.{◌≡◌, ◌++◌, [], ◌∷◌, ◌==◌, codes, length, map, IfOk, OnOk, if◌then◌else◌};
 ghost use Rattle.arrow_base.specs.WrittenString.{json_string};
 ghost use Rattle.arrow_types.specs.declared.types.Field.{Field as TheField};
-ghost use Rattle.json_text.specs.Columns.{AddsColumn, AreWithin, AreFields, key_of};
+ghost use Rattle.json_text.specs.Columns.{AddsColumn, AreWithin, AreFields, key_bytes, key_of};
 
-use crate::bytes::{Appended, push, push_string};
+use crate::bytes::{Appended, push, push_front, push_string};
 use crate::integers::{IntegerForm, integer_form};
 use arrow_types::{DataType, Field};
 use std::alloc::{AllocError, Global};
+
+/// What stands before the value of a member. A short key is copied in one step of constant length.
+#[derive(Drop)]
+pub enum Key {
+    /// The first of these bytes, as many as said.
+    Short([u8; 16], u8),
+    /// More than 16 bytes.
+    Long(Vec<u8>),
+}
 
 /// A column beneath rows: what stands before each of its values, and how its integers are written.
 /// The columns of a row stand in a list, each followed by those within it.
 #[derive(Drop)]
 pub struct Column {
-    pub(crate) key: Vec<u8>,
+    pub(crate) key: Key,
     pub(crate) form: IntegerForm,
     pub(crate) within: usize,
 }
 
+/// The key of these bytes.
+fn shorten(key: Vec<u8>) -> std::result::Result<Key, AllocError>
+    ensures { IfOk result (λ short. key_bytes short ≡ key.items) }
+{
+    let len = key.len();
+    if len > 16 {
+        return Ok(Key::Long(key));
+    }
+    let mut bytes = key;
+    bytes.resize(16, 0)?;
+    match bytes.as_slice().first_chunk::<16>() {
+        Some(head) => Ok(Key::Short(*head, len as u8)),
+        None => unreachable!(),
+    }
+}
+
 /// What stands before the value of a member: a bracket or a comma, the name's JSON string, and a
 /// colon.
-fn make_key(alloc: Global, is_first: bool, name: &str) -> std::result::Result<Vec<u8>, AllocError>
-    ensures { IfOk result (λ key. key.items ≡ key_of is_first name.now) }
+fn make_key(alloc: Global, is_first: bool, name: &str) -> std::result::Result<Key, AllocError>
+    ensures { IfOk result (λ key. key_bytes key ≡ key_of is_first name.now) }
 {
     let mut key = Vec::new(alloc);
     push(&mut key, if is_first { b"{" } else { b"," })?;
     push_string(&mut key, name)?;
     push(&mut key, b":")?;
-    Ok(key)
+    shorten(key)
+}
+
+/// Appends a key.
+#[inline]
+pub(crate) fn push_key(out: &mut Vec<u8>, key: &Key) -> Appended
+    ensures ok { OnOk result (out.new.items ≡ out.old.items ++ key_bytes key.now) }
+{
+    match key {
+        Key::Short(bytes, len) => push_front(out, bytes, *len),
+        Key::Long(bytes) => push(out, bytes.as_slice()),
+    }
 }
 
 /// Adds the column of a member of this name and type, and after it the columns within it.

@@ -1,11 +1,8 @@
 //! Integers by the type that they are of: dates, timestamps, and integers.
 ghost use Rattle.std.specs.Prelude.{◌≡◌, ◌++◌, OnOk, if◌then◌else◌};
-ghost use Rattle.arrow_types.specs.declared.slot.Slot.TheVariants.{Integer as IntegerSlot};
-ghost use Rattle.arrow_array.specs.Parts.{IsPlain};
 ghost use Rattle.json_dates.specs.Times.{date_json, timestamp_json};
-ghost use Rattle.json_text.specs.Columns.{IsForm, integer_text};
+ghost use Rattle.json_text.specs.Columns.{IsForm, integer_in_range, integer_text};
 ghost use Rattle.json_text.specs.JsonText.{null, zone_offset};
-ghost use Rattle.json_text.specs.Refusals.{in_range};
 
 use crate::bytes::{Appended, push_null, push_signed};
 use arrow_core::Text;
@@ -77,8 +74,21 @@ fn push_moment(out: &mut Vec<u8>, unit: TimeUnit, offset: Option<i16>, value: i6
     }
 }
 
-/// Appends the text of an integer by its form, or `null` where there is none.
+/// Appends the text of an integer by its form.
 #[inline(never)]
+fn push_formed(out: &mut Vec<u8>, form: &IntegerForm, integer: i64) -> Appended
+    ensures ok { OnOk result (out.new.items ≡ out.old.items ++ integer_text form.now integer) }
+{
+    match form {
+        IntegerForm::Decimal => push_signed(out, integer),
+        IntegerForm::Days => push_day(out, integer),
+        IntegerForm::Milliseconds => push_day(out, day_of_milliseconds(integer)),
+        IntegerForm::Timestamp(unit, offset) => push_moment(out, *unit, *offset, integer),
+    }
+}
+
+/// Appends the text of an integer by its form, or `null` where there is none.
+#[inline]
 pub(crate) fn push_integer_if(
     out: &mut Vec<u8>,
     form: &IntegerForm,
@@ -94,21 +104,19 @@ pub(crate) fn push_integer_if(
     }
     match form {
         IntegerForm::Decimal => push_signed(out, integer),
-        IntegerForm::Days => push_day(out, integer),
-        IntegerForm::Milliseconds => push_day(out, day_of_milliseconds(integer)),
-        IntegerForm::Timestamp(unit, offset) => push_moment(out, *unit, *offset, integer),
+        _ => push_formed(out, form, integer),
     }
 }
 
-/// Whether an integer of the type, if it is a date or a timestamp, is printed.
-pub(crate) fn number_in_range(data_type: &DataType, number: i64) -> bool
-    requires { (p : _) × IsPlain p data_type.now }
-    ensures { result ≡ in_range data_type.now (IntegerSlot number) }
+/// Whether an integer of the form, if it is a date or a timestamp, is printed.
+#[inline]
+pub(crate) fn integer_in_range(form: &IntegerForm, integer: i64) -> bool
+    ensures { result ≡ integer_in_range form.now integer }
 {
-    match data_type {
-        DataType::Date32 => is_printed_day(number),
-        DataType::Date64 => is_printed_day(day_of_milliseconds(number)),
-        DataType::Timestamp(unit, zone) => is_printed_timestamp(*unit, minutes_of(zone), number),
-        _ => true,
+    match form {
+        IntegerForm::Decimal => true,
+        IntegerForm::Days => is_printed_day(integer),
+        IntegerForm::Milliseconds => is_printed_day(day_of_milliseconds(integer)),
+        IntegerForm::Timestamp(unit, offset) => is_printed_timestamp(*unit, *offset, integer),
     }
 }

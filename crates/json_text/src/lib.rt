@@ -5,12 +5,14 @@ mod bytes;
 mod checks;
 mod columns;
 mod integers;
+mod items;
 mod range;
 mod slots;
 mod types;
 
 pub use bytes::{Appended, push, push_string};
 pub use checks::check;
-pub use columns::{Column, push_column};
-pub use slots::{push_object, push_slot, push_slots};
+pub use columns::{Column, columns_within, push_column};
+pub use integers::{IntegerForm, integer_form};
+pub use slots::{push_object, push_slot, push_slots, push_value};
 pub use types::has_text;

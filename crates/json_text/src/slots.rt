@@ -13,8 +13,9 @@ use crate::bytes::{
     Appended, push, push_boolean_if, push_comma, push_null, push_signed_if, push_string_if,
     push_unsigned_if, push_wide_if,
 };
-use crate::columns::{Column, columns_within};
+use crate::columns::{Column, columns_within, push_key};
 use crate::integers::{IntegerForm, integer_form, push_integer_if};
+use crate::items::{push_integers, push_strings};
 use arrow_array::{
     Array, DictionaryArray, FixedSizeListArray, LargeListArray, ListArray, Part, StructArray,
 };
@@ -50,10 +51,12 @@ pub fn push_slots(out: &mut Vec<u8>, array: &Array) -> Appended
     push_items(out, array, 0, array.len(), &form, columns.as_slice())
 }
 
-/// Appends the text of slot `i` of the array, whose integers have this form, and within which stand
-/// these columns.
+/// Appends the text of slot `i` of the array, as `push_slot` does, where the form of its integers and
+/// the columns within it have been made before, by `integer_form` and `columns_within`.
+///
+/// `AllocError` where there is no memory.
 #[cycle(slots)]
-fn push_value(
+pub fn push_value(
     out: &mut Vec<u8>,
     array: &Array,
     i: usize,
@@ -247,6 +250,7 @@ fn push_struct(out: &mut Vec<u8>, array: &StructArray, i: usize, columns: &[Colu
 }
 
 /// Appends the text of a list, or `null` where there is none.
+#[inline]
 #[cycle(slots)]
 fn push_part(
     out: &mut Vec<u8>,
@@ -290,6 +294,35 @@ fn push_items(
         ≡ out.old.items
         ++ joined (map (text (array_type array.now)) (take (end - start) (drop start (array_slots array.now))))) }
 {
+    match array {
+        Array::Int64(array) => {
+            let _ = array.data_type();
+            push_integers(out, array, start, end, form)
+        }
+        Array::Utf8(array) => push_strings(out, array, start, end),
+        _ => push_values(out, array, start, end, form, columns),
+    }
+}
+
+/// The same of an array of any kind.
+#[cycle(slots)]
+fn push_values(
+    out: &mut Vec<u8>,
+    array: &Array,
+    start: usize,
+    end: usize,
+    form: &IntegerForm,
+    columns: &[Column],
+) -> Appended
+    requires order { start ≤ end }
+    requires within { end ≤ length (array_slots array.now) }
+    requires form { IsForm form.now (array_type array.now) }
+    requires columns { AreWithin (array_type array.now) columns.now }
+    ensures ok { OnOk result
+        (out.new.items
+        ≡ out.old.items
+        ++ joined (map (text (array_type array.now)) (take (end - start) (drop start (array_slots array.now))))) }
+{
     for k in 0..end - start {
         push_comma(out, k)?;
         push_value(out, array, start + k, form, columns)?;
@@ -315,7 +348,7 @@ pub fn push_object(out: &mut Vec<u8>, arrays: &[Array], i: usize, columns: &[Col
         let [column, more @ ..] = rest else {
             unreachable!()
         };
-        push(out, column.key.as_slice())?;
+        push_key(out, &column.key)?;
         let (within, after) = more.split_at(column.within);
         push_value(out, array, i, &column.form, within)?;
         rest = after;

@@ -1,6 +1,6 @@
 -- Cited by a ghost field alone: that columns fit arrays has one proof at most, so a struct may keep it. Nobody has to believe these lemmas.
 use Rattle.std.specs.Prelude.{◌≡◌, ℕ, Bool, true, false, List, [], ◌∷◌, length, take, drop}
-use Rattle.std.specs.Coded.{Coded-set, coded_list, coded_ℕ, ×_prop, Π_prop, Unit-prop, le_prop}
+use Rattle.std.specs.Coded.{Coded-set, coded_bool, coded_list, coded_ℕ, ×_prop, Π_prop, Unit-prop, le_prop}
 use Rattle.arrow_types.specs.declared.types.DataType.{DataType, Row_of-Field, end_of-Field, more_of-Field, Row_of-DataType, end_of-DataType, more_of-DataType}
 use Rattle.arrow_types.specs.declared.types.DataType as types
 use Rattle.arrow_array.specs.declared.array.Array.{Array}
@@ -15,13 +15,16 @@ bytes-prop a b = Coded-set (coded_list coded_ℕ) a b
 number-prop : (a b : ℕ) → IsProp (a ≡ b)
 number-prop a b = Coded-set coded_ℕ a b
 
+bool-prop : (a b : Bool) → IsProp (a ≡ b)
+bool-prop a b = Coded-set coded_bool a b
+
 mutual
   form-prop : (form : IntegerForm) (t : DataType) → IsProp (IsForm form t)
   form-prop form (types.List' shape item) = item_form-prop form item
   form-prop form (types.LargeList' shape item) = item_form-prop form item
   form-prop form (types.FixedSizeList' shape item size) = item_form-prop form item
   form-prop form (types.Dictionary' key shape value is_sorted) = value_form-prop form value
-  form-prop form _ = Π_prop λ n. bytes-prop _ _
+  form-prop form _ = Π_prop λ n. ×_prop (bytes-prop _ _) (bool-prop _ _)
 
   item_form-prop : {m : _} → (form : IntegerForm) (row : Row_of-Field m) → IsProp (IsItemForm form row)
   item_form-prop form end_of-Field = Unit-prop

@@ -62,6 +62,15 @@ fn next_byte<S: Source>(source: &mut S) -> Option<u8> {
 }
 
 #[test]
+fn next_shows_a_batch_or_none(rt: HostRuntime) {
+    let mut rows = reader(&rt, rt.alloc(), b"1\n");
+    let shown = rows.next().ok().flatten();
+    assert!(rt; matches!(shown, Some([text]) if text.as_str() == "1\n"));
+    assert!(rt; matches!(rows.next(), Ok(None)));
+    assert!(rt; rows.lines() == 1);
+}
+
+#[test]
 fn no_byte_is_taken_past_a_batch(rt: HostRuntime) {
     let mut rows = reader(&rt, rt.alloc(), b"1\n2\n");
     assert!(rt; shows(&mut rows, "1\n"));

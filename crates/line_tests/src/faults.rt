@@ -14,14 +14,24 @@ fn a_line_that_is_not_utf8_is_refused(rt: HostRuntime) {
 #[test]
 fn a_failed_read_names_its_line(rt: HostRuntime) {
     let alloc = rt.alloc();
-    // A byte a read: `1`, line feed, line feed, `2`, line feed, and the end.
-    let lines = [1u64, 1, 2, 3, 3, 4];
-    for number in 1..7u64 {
-        let failing = source(&rt, alloc, b"1\n\n2\n", &[number]);
+    // Three bytes a read, and no further than a line feed: `123`, `4` and a line feed, a line feed,
+    // `2` and a line feed, and the end.
+    let lines = [1u64, 1, 2, 3, 4];
+    for number in 1..6u64 {
+        let failing = source(&rt, alloc, b"1234\n\n2\n", &[number]);
         let mut rows = FileReader::new(alloc, failing, texts(&rt, alloc, 3), None, 1000);
         let line = lines.get(number as usize - 1).copied();
         assert!(rt; refuses(&mut rows, Error::ReadFault { line }), "{number}");
     }
+}
+
+#[test]
+fn a_line_that_is_not_utf8_is_refused_in_a_later_batch(rt: HostRuntime) {
+    let alloc = rt.alloc();
+    let three = source(&rt, alloc, b"1\n2\n3\n\xe2\x82\n", &[]);
+    let mut rows = FileReader::new(alloc, three, texts(&rt, alloc, 2), None, 1000);
+    assert!(rt; rows.advance() == Ok(()));
+    assert!(rt; refuses(&mut rows, Error::ExternalFormat(Reason::Utf8Line)));
 }
 
 #[test]

@@ -1,5 +1,7 @@
 -- The lines of bytes after whole lines, and of bytes without a line feed.
-use Rattle.std.proofs.Common.{◌≡◌, ℕ, ◌+◌, inl, inr, true, false, cond, List, [], ◌∷◌, ◌++◌, length, refl, sym, ap, ◌∙◌, subst, append_assoc, arith}
+use Rattle.std.proofs.Common.{◌≡◌, ◌≢◌, ℕ, suc, ◌+◌, ◌-◌, ◌<◌, inl, inr, Bool, true, false, cond, List, [], ◌∷◌, ◌++◌, length, take, get_or, All, refl, sym, ap, ◌∙◌, subst, append_assoc, ne_eqb, arith}
+use Rattle.std.specs.Io.{StopsAt}
+use Rattle.std.proofs.lemmas.Grind.{common_steps}
 use Rattle.std.proofs.lemmas.Bool.{cases_Bool}
 use Rattle.std.proofs.lemmas.List.{append-nil}
 use Rattle.std.proofs.lemmas.List.Sums.{sum_by-append}
@@ -84,6 +86,18 @@ lines_one [] byte p =
 lines_one (first ∷ part) byte p =
     rw ((feedless first part p).0) (ap (onto_first first) (lines_one part byte (feedless first part p).1))
 
+onto_one : (byte : ℕ) (bytes : List ℕ) → onto_first byte (one_or_none bytes) ≡ (byte ∷ bytes) ∷ []
+unfolding onto_first
+onto_one byte [] = refl
+onto_one byte (next ∷ bytes) = refl
+
+-- one line or none, after a part of it
+pub lines_after_part : (part more : List ℕ) → IsPart part → lines more ≡ one_or_none more → lines (part ++ more) ≡ one_or_none (part ++ more)
+unfolding lines
+lines_after_part [] more p one = one
+lines_after_part (byte ∷ part) more p one =
+    rw ((feedless byte part p).0) (ap (onto_first byte) (lines_after_part part more (feedless byte part p).1 one) ∙ onto_one byte (part ++ more))
+
 pub one_or_none-push : (part : List ℕ) (byte : ℕ) → one_or_none (part ++ byte ∷ []) ≡ (part ++ byte ∷ []) ∷ []
 one_or_none-push [] byte = refl
 one_or_none-push (first ∷ part) byte = refl
@@ -135,10 +149,43 @@ pub EndsLine-append : (whole rest : List ℕ) → EndsLine whole → EndsLine re
 EndsLine-append whole rest w (inl none) = subst EndsLine (sym (ap (λ (z : List ℕ). whole ++ z) none ∙ append-nil whole)) w
 EndsLine-append whole rest w (inr feed) = inr (whole ++ feed.0, ap (λ (z : List ℕ). whole ++ z) feed.1 ∙ sym (append_assoc whole feed.0 (10 ∷ [])))
 
-no_row : is_row [] ≡ false
+-- nothing is no row
+pub no_row : is_row [] ≡ false
 unfolding trim_start trim_end chars encode
 no_row = refl
 
 pub rows_of_one : (line : List ℕ) → filter is_row (one_or_none line) ≡ cond (is_row line) (line ∷ []) []
 rows_of_one [] = rw no_row refl
 rows_of_one (byte ∷ line) = refl
+
+-- ---- bytes of which none but the last is a line feed
+
+feedless_all : (bytes : List ℕ) → All (λ byte. byte ≢ 10) bytes → IsPart bytes
+feedless_all [] all = refl
+feedless_all (byte ∷ bytes) all =
+    let rest = feedless_all bytes (λ k d below. all (suc k) d (omega (arith, below))) in
+    let other : is_line_feed byte ≡ false = ne_eqb byte 10 (all 0 0 (omega arith)) in
+    feeds_cons byte bytes ∙ ap (λ (b : Bool). cond b 1 0 + line_feeds bytes) other ∙ ap (λ (z : ℕ). 0 + z) rest
+
+-- some bytes, of which none but the last is a line feed, as a part of a line and the last of them
+pub record Parted (bytes : List ℕ) : Type 0 where
+  pub part : List ℕ
+  pub last : ℕ
+  pub is_part : IsPart part
+  pub split : bytes ≡ part ++ last ∷ []
+
+pub parted : (bytes : List ℕ) → StopsAt bytes 10 → 0 < length bytes → Parted bytes
+parted bytes stops some = record {
+  part = take (length bytes - 1) bytes;
+  last = get_or bytes (length bytes - 1) 0;
+  is_part = feedless_all _ stops;
+  split = grind (arith, common_steps, some);
+}
+
+-- such bytes are one line, or none
+pub stops_one : (bytes : List ℕ) → StopsAt bytes 10 → lines bytes ≡ one_or_none bytes
+unfolding lines
+stops_one [] stops = refl
+stops_one (byte ∷ bytes) stops =
+    let p = parted (byte ∷ bytes) stops (omega arith) in
+    ap lines p.split ∙ lines_one p.part p.last p.is_part ∙ sym (one_or_none-push p.part p.last) ∙ ap one_or_none (sym p.split)

@@ -1,23 +1,25 @@
 -- What is taken line after line.
-use Rattle.std.proofs.Common.{◌≡◌, ℕ, ◌+◌, ◌<◌, ◌≤◌, inl, inr, true, false, Bool, cond, List, [], ◌∷◌, ◌++◌, length, take, Option, Some, Result, Ok, Err, IfErr, refl, sym, ap, ◌∙◌, subst, append_assoc, arith}
+use Rattle.std.proofs.Common.{◌≡◌, ℕ, zero, suc, ◌+◌, ◌-◌, ◌<◌, ◌≤◌, inl, inr, true, false, Bool, cond, List, [], ◌∷◌, ◌++◌, length, take, get_or, slice_get, Option, Some, None, IfSome, Result, Ok, Err, IfErr, refl, sym, ap, ◌∙◌, subst, append_assoc, arith}
 use Rattle.std.specs.Prelude.{All, IsUtf8, filter, ◌⊎◌}
 use Rattle.std.proofs.lemmas.Bool.{cases_lt}
+use Rattle.std.proofs.lemmas.Grind.{common_steps}
 use Rattle.std.proofs.lemmas.List.{append-nil, length-append, take-append-le}
 use Rattle.std.specs.Result.{IsErrAnd}
 use Rattle.std.proofs.Math.Seq.{take-append_seam}
 use Rattle.std.proofs.lemmas.List.Elements.{All-append, All-cons, All-nil, All-pop, filter-append}
 use Rattle.std.proofs.lemmas.Str.{IsUtf8-nil}
 use Rattle.std.proofs.lemmas.List.Sums.{sum_by-append}
-use Rattle.std.proofs.KnownBytes.{Consumes-nil, Consumes-trans}
-use Rattle.std.specs.Io.KnownBytes.{Consumes, IsAtEnd}
-use Rattle.arrow_base.specs.Outside.{RoseOrFull}
+use Rattle.std.proofs.KnownBytes.{Consumes-nil, Consumes-kept, Consumes-trans}
+use Rattle.std.specs.Io.{StopsAt}
+use Rattle.std.specs.Io.KnownBytes.{Consumes, Keeps, IsAtEnd}
+use Rattle.arrow_base.specs.Outside.{RoseOrFull, NoneGiven}
 use Rattle.arrow_core.specs.declared.error.Error.{Error}
 use Rattle.arrow_core.specs.declared.error.Error.TheVariants.{ExternalFormat, LimitExceeded, ReadFault, OutOfMemory}
 use Rattle.arrow_core.specs.declared.error.Reason.TheVariants as reason
 use Rattle.ndjson_read.specs.Lines.{lines, is_line_feed, rows_of, is_row, EndsLine, IsWanted, EachWanted}
-use Rattle.ndjson_read.specs.OneLine.{one_or_none, IsPart, NoByte, TakesLine, TakesWrong, FailsWithin, PassesWithin, NoMemoryWithin, NoLine, RowsSoFar}
+use Rattle.ndjson_read.specs.OneLine.{one_or_none, within_line, IsPart, NoBytes, PushesBytes, TakesLine, TakesWrong, FailsWithin, PassesWithin, NoMemoryWithin, NoLine, RowsSoFar}
 use Rattle.ndjson_read.specs.Reading.{State, n_more, Takes, TakesPast, ShowsRows, ReadFails, PassesLimit, LineNotUtf8, NoMemory, NoRows}
-use Rattle.ndjson_read.proofs.LineLemmas.{lines-append, lines_part, lines_one, one_or_none-push, line_feeds-part, EndsLine-append, rows_of_one}
+use Rattle.ndjson_read.proofs.LineLemmas.{lines-append, lines_part, lines_one, lines_after_part, part_more, parted, one_or_none-push, line_feeds-part, EndsLine-append, rows_of_one}
 
 pub takes_nothing : (s : State) → Takes s s []
 takes_nothing s = record { consumed = Consumes-nil s.left; limit = omega arith; faults = omega arith }
@@ -131,37 +133,51 @@ part-append : (part more : List ℕ) → IsPart part → IsPart more → IsPart 
 part-append part more p q = sum_by-append (λ b. cond (is_line_feed b) 1 0) part more ∙ omega (arith, p, q)
 
 -- an error within a line whose first part was taken
-pub no_line_after : (a b c : State) (part : List ℕ) → Takes a b part → IsPart part → b.lines ≡ a.lines → (e : Error) → NoByte b c e → NoLine a c e
+pub no_line_after : (a b c : State) (part : List ℕ) → Takes a b part → IsPart part → b.lines ≡ a.lines → (e : Error) → NoBytes b c e → NoLine a c e
 no_line_after a b c part t p same (ReadFault (Some number)) h = record {
-  part = part;
-  takes = subst (Takes a c) (append-nil part) (takes_more a b c part [] t h.0);
-  is_part = p;
-  cause = rose_after a.faults b.faults c.faults t.faults h.1;
-  counted = h.2 ∙ ap (λ (z : ℕ). n_more z 1) same;
+  part = part ++ h.part;
+  takes = takes_more a b c part h.part t h.takes;
+  is_part = part-append part h.part p h.is_part;
+  cause = rose_after a.faults b.faults c.faults t.faults h.cause;
+  counted = h.counted ∙ ap (λ (z : ℕ). n_more z 1) same;
 }
 no_line_after a b c part t p same LimitExceeded h = record {
-  part = part;
-  byte = h.0;
-  takes = subst (λ (z : List ℕ). TakesPast a c z h.0) (append-nil part) (past_more a b c part [] h.0 t h.1);
-  is_part = p;
+  part = part ++ h.part;
+  byte = h.byte;
+  takes = past_more a b c part h.part h.byte t h.takes;
+  is_part = part-append part h.part p h.is_part;
 }
 no_line_after a b c part t p same OutOfMemory h = record {
-  part = part ++ h.0 ∷ [];
-  takes = takes_more a b c part (h.0 ∷ []) t h.1;
-  one = lines_one part h.0 p ∙ sym (one_or_none-push part h.0);
+  part = part ++ h.part;
+  takes = takes_more a b c part h.part t h.takes;
+  one = lines_after_part part h.part p h.one;
 }
 no_line_after a b c part t p same e h = absurd h
 
--- the line feed came
-pub line_ends : (a b c : State) (part line : List ℕ) (byte : ℕ) → Takes a b part → IsPart part → b.lines ≡ a.lines → Takes b c (byte ∷ []) → c.lines ≡ b.lines → byte ≡ 10 → line ≡ part ++ byte ∷ []
-    → TakesLine a (record c { lines = n_more c.lines (length (one_or_none line)) }) line true
-line_ends a b c part line byte t p same u same_too feed is = record {
-  takes = let all = takes_more a b c part (byte ∷ []) t u in record { consumed = subst (Consumes a.left c.left) (sym is) all.consumed; limit = omega (arith, all.limit, ap length is); faults = all.faults };
-  one = ap lines is ∙ lines_one part byte p ∙ sym (one_or_none-push part byte) ∙ ap one_or_none (sym is);
-  whole = inr (part, is ∙ ap (λ (z : ℕ). part ++ z ∷ []) feed);
-  some = λ _. omega (arith, ap length is, length-append part (byte ∷ []));
-  counted = ap (λ (z : ℕ). n_more z (length (one_or_none line))) (same_too ∙ same);
-}
+-- bytes that came after a part of a line
+module _ (a b c : State) (part line : List ℕ) (byte : ℕ) (t : Takes a b part) (p : IsPart part) (h : PushesBytes b c part line byte) where
+  pushed : line ≡ (part ++ h.part) ++ byte ∷ []
+  pushed = h.appended ∙ sym (append_assoc part h.part (byte ∷ []))
+
+  still_part : IsPart (part ++ h.part)
+  still_part = part-append part h.part p h.is_part
+
+  pub pushed_takes : Takes a c line
+  pushed_takes = subst (Takes a c) (sym h.appended) (takes_more a b c part (h.part ++ byte ∷ []) t h.takes)
+
+  -- no line feed came
+  pub pushed_part : is_line_feed byte ≡ false → IsPart line
+  pushed_part other = subst IsPart (sym pushed) (part_more (part ++ h.part) byte still_part other)
+
+  -- the line feed came
+  pub line_ends : b.lines ≡ a.lines → c.lines ≡ b.lines → byte ≡ 10 → TakesLine a (record c { lines = n_more c.lines (length (one_or_none line)) }) line true
+  line_ends same same_too feed = record {
+    takes = record { consumed = pushed_takes.consumed; limit = pushed_takes.limit; faults = pushed_takes.faults };
+    one = ap lines pushed ∙ lines_one (part ++ h.part) byte still_part ∙ sym (one_or_none-push (part ++ h.part) byte) ∙ ap one_or_none (sym pushed);
+    whole = inr (part ++ h.part, pushed ∙ ap (λ (z : ℕ). (part ++ h.part) ++ z ∷ []) feed);
+    some = λ _. omega (arith, ap length pushed, length-append (part ++ h.part) (byte ∷ []));
+    counted = ap (λ (z : ℕ). n_more z (length (one_or_none line))) (same_too ∙ same);
+  }
 
 -- the source ended
 pub line_at_end : (a b c : State) (part line : List ℕ) → Takes a b part → IsPart part → b.lines ≡ a.lines → Takes b c [] → IsAtEnd c.left → c.lines ≡ b.lines → line ≡ part
@@ -242,3 +258,57 @@ shows wanted a b rows more s most last = record {
 pub handed_on : {T E : Type 0} (P : E → Type 0) (e : E) (r : Result T E) → IsErrAnd r (λ y. y ≡ e) → P e → IfErr r P
 handed_on P e (Ok x) is h = absurd is
 handed_on P e (Err y) is h = subst P (sym is) h
+
+-- ---- what comes in one call
+
+-- bytes came, within the limit or one past it
+module _ (a c : State) (bytes : List ℕ) (consumed : Consumes a.left c.left bytes) (faults : a.faults ≤ c.faults) (stops : StopsAt bytes 10) where
+  -- within the limit
+  pub some_pushed : (before line : List ℕ) → 0 < length bytes → a.limit ≡ length bytes + c.limit → line ≡ before ++ bytes → (last : ℕ) → last ≡ get_or line (length line - 1) 0
+      → PushesBytes a c before line last
+  some_pushed before line some limit appended last is =
+      let q = parted bytes stops some in
+      let whole : line ≡ (before ++ q.part) ++ q.last ∷ [] = appended ∙ ap (λ (z : List ℕ). before ++ z) q.split ∙ sym (append_assoc before q.part (q.last ∷ [])) in
+      let same : q.last ≡ last = grind (arith, common_steps, whole, is) in
+      record {
+        part = q.part;
+        takes = let all : Takes a c bytes = record { consumed = consumed; limit = limit; faults = faults } in subst (Takes a c) (q.split ∙ ap (λ (z : ℕ). q.part ++ z ∷ []) same) all;
+        is_part = q.is_part;
+        appended = appended ∙ ap (λ (z : List ℕ). before ++ z) (q.split ∙ ap (λ (z : ℕ). q.part ++ z ∷ []) same);
+      }
+
+  -- one past it
+  pub past_limit : length bytes ≡ a.limit + 1 → PassesWithin a c
+  past_limit long =
+      let q = parted bytes stops (omega (arith, long)) in
+      record {
+        part = q.part;
+        byte = q.last;
+        takes = record { consumed = subst (Consumes a.left c.left) q.split consumed; limit = omega (arith, long, ap length q.split, length-append q.part (q.last ∷ [])); faults = faults };
+        is_part = q.is_part;
+      }
+
+kept_nothing : (a c : State) → Keeps a.left c.left → c.limit ≡ a.limit → a.faults ≤ c.faults → Takes a c []
+kept_nothing a c kept limit faults = record { consumed = Consumes-kept a.left a.left c.left [] (Consumes-nil a.left) kept; limit = omega (arith, limit); faults = faults }
+
+last_item : (line : List ℕ) (i : ℕ) → IfSome (slice_get line i) (λ byte. byte ≡ get_or line i 0)
+last_item [] i = tt
+last_item (byte ∷ line) zero = refl
+last_item (byte ∷ line) (suc i) = last_item line i
+
+-- the last of the bytes, where there is one
+pub last_pushed : (a c : State) (before line : List ℕ) (result : Option ℕ) → ((byte : ℕ) → byte ≡ get_or line (length line - 1) 0 → PushesBytes a c before line byte)
+    → result ≡ slice_get line (length line - 1) → IfSome result (PushesBytes a c before line)
+last_pushed a c before line result pushed is =
+    pushed_if result (subst (λ (z : Option ℕ). IfSome z (λ byte. byte ≡ get_or line (length line - 1) 0)) (sym is) (last_item line (length line - 1)))
+  where
+    pushed_if : (some : Option ℕ) → IfSome some (λ byte. byte ≡ get_or line (length line - 1) 0) → IfSome some (PushesBytes a c before line)
+    pushed_if None h = tt
+    pushed_if (Some byte) h = pushed byte h
+
+-- why none came, with the number of the line
+pub none_pushed : (a c : State) (e : Error) → Keeps a.left c.left → c.limit ≡ a.limit → a.faults ≤ c.faults → NoneGiven a.faults c.faults e → NoBytes a c (within_line e (n_more a.lines 1))
+unfolding lines
+none_pushed a c (ReadFault None) kept limit faults h = record { part = []; takes = kept_nothing a c kept limit faults; is_part = refl; cause = h; counted = refl }
+none_pushed a c OutOfMemory kept limit faults h = record { part = []; takes = kept_nothing a c kept limit faults; one = refl }
+none_pushed a c e kept limit faults h = absurd h

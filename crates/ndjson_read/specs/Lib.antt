@@ -1,3 +1,4 @@
+pub mod Advancing
 pub mod FileReader
 pub mod Lines
 pub mod OneLine

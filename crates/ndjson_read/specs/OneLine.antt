@@ -1,5 +1,5 @@
 -- Cited by private contracts alone: what is taken for one line.
-use Rattle.std.specs.Prelude.{◌≡◌, ℕ, ◌<◌, List, [], ◌∷◌, length, Bool, true, cond, Option, Some, All, IsUtf8}
+use Rattle.std.specs.Prelude.{◌≡◌, ℕ, ◌<◌, List, [], ◌∷◌, ◌++◌, length, Bool, true, cond, Option, Some, All, IsUtf8}
 use Rattle.std.specs.Io.KnownBytes.{IsAtEnd}
 use Rattle.arrow_base.specs.Outside.{RoseOrFull}
 use Rattle.arrow_core.specs.declared.error.Error.{Error}
@@ -13,21 +13,26 @@ use Rattle.ndjson_read.specs.declared.line_source.LineSource.{LineSource}
 abbrev pub state_of : {S : Type 0} → (S → Option (List ℕ)) → (S → ℕ) → LineSource S → State
 state_of left faults s = record { left = left s.source; faults = faults s.source; limit = s.limit; lines = s.lines }
 
--- why there is no byte, by the error that says so
-abbrev pub NoByte : State → State → Error → Type 0
-NoByte old new (ReadFault (Some number)) = Takes old new [] × RoseOrFull old.faults new.faults × (number ≡ n_more old.lines 1)
-NoByte old new LimitExceeded = (byte : ℕ) × TakesPast old new [] byte
-NoByte old new OutOfMemory = (byte : ℕ) × Takes old new (byte ∷ [])
-NoByte old new _ = ⊥
-
 -- none, or one
 abbrev pub one_or_none : List ℕ → List (List ℕ)
 one_or_none [] = []
 one_or_none (byte ∷ bytes) = (byte ∷ bytes) ∷ []
 
+-- a failed read has the number of the line that it came in
+abbrev pub within_line : Error → ℕ → Error
+within_line (ReadFault line) number = ReadFault (Some number)
+within_line error number = error
+
 -- no line feed is among the bytes
 abbrev pub IsPart : List ℕ → Type 0
 IsPart bytes = line_feeds bytes ≡ 0
+
+-- bytes were taken, and stand at the end of the line: at least one, of which `byte` is the last and none before it is a line feed
+pub record PushesBytes (old new : State) (before line : List ℕ) (byte : ℕ) : Type 0 where
+  pub part : List ℕ
+  pub takes : Takes old new (part ++ byte ∷ [])
+  pub is_part : IsPart part
+  pub appended : line ≡ before ++ (part ++ byte ∷ [])
 
 -- a line was taken: through its line feed, and there may be more, or to the end of the source. At the end it may be
 -- empty, which is no line.
@@ -65,6 +70,13 @@ pub record NoMemoryWithin (old new : State) : Type 0 where
   pub part : List ℕ
   pub takes : Takes old new part
   pub one : lines part ≡ one_or_none part
+
+-- why bytes of a line are missing, by the error that says so
+abbrev pub NoBytes : State → State → Error → Type 0
+NoBytes old new (ReadFault (Some number)) = FailsWithin old new number
+NoBytes old new LimitExceeded = PassesWithin old new
+NoBytes old new OutOfMemory = NoMemoryWithin old new
+NoBytes old new _ = ⊥
 
 -- why there is no line, by the error that says so
 abbrev pub NoLine : State → State → Error → Type 0

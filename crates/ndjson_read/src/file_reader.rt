@@ -155,6 +155,13 @@ impl<S: Source> FileReader<S> {
         Some(&self.rows[..self.shown])
     }
 
+    /// How many lines were read so far, as far as 64 bits count them. It takes no memory.
+    pub fn lines(&self) -> u64
+        ensures { result ≡ lines_of self.now }
+    {
+        self.lines.lines
+    }
+
     /// The error that an `advance` answered. It takes no memory.
     pub fn failed(&self) -> Option<Error>
         ensures { result ≡ failure_of self.now }

@@ -3,5 +3,6 @@
 
 mod file_reader;
 mod line_source;
+mod next_rows;
 
 pub use file_reader::FileReader;

@@ -1,8 +1,8 @@
 //! Lines, taken from a source one after another.
-ghost use Rattle.std.specs.Prelude.{◌≡◌, ◌≤◌, ◌∷◌, ◌++◌, [], IfOk, IfErr, IfSome, IfNone, length, take, IsUtf8};
+ghost use Rattle.std.specs.Prelude.{◌≡◌, ◌≤◌, [], IfOk, IfErr, IfSome, IfNone, length, take, IsUtf8};
 ghost use Rattle.std.specs.Io.KnownBytes.{IsAtEnd};
 ghost use Rattle.ndjson_read.specs.Lines.{is_row};
-ghost use Rattle.ndjson_read.specs.OneLine.{state_of, one_or_none, TakesLine, NoByte, NoLine};
+ghost use Rattle.ndjson_read.specs.OneLine.{state_of, one_or_none, within_line, PushesBytes, TakesLine, NoBytes, NoLine};
 ghost use Rattle.ndjson_read.specs.Reading.{Takes, n_more, ShowsRows, NoRows};
 
 use arrow_base::{Error, Reason, Result, Source, Text};
@@ -26,55 +26,41 @@ fn count_of(line: &[u8]) -> u64
     if line.is_empty() { 0 } else { 1 }
 }
 
-impl<S: Source> LineSource<S> {
-    // Takes a byte; none at the end of the source.
-    //
-    // A source takes nothing back, and no byte may be taken past a line. So one byte is asked for
-    // at a time.
-    fn next_byte(&mut self) -> Result<Option<u8>>
-        ensures byte { IfOk result (λ next. IfSome next
-            (λ byte. Takes (state_of S.left S.faults self.old) (state_of S.left S.faults self.new) (byte ∷ []))) }
-        ensures end { IfOk result (λ next. IfNone next
-            (Takes (state_of S.left S.faults self.old) (state_of S.left S.faults self.new) []
-            × IsAtEnd (S.left self.new.source))) }
-        ensures err { IfErr result (NoByte (state_of S.left S.faults self.old) (state_of S.left S.faults self.new)) }
-        ensures lines { self.new.lines ≡ self.old.lines }
-        ensures same { S.whose self.new.source ≡ S.whose self.old.source }
-    {
-        let mut buffer = [0u8; 1];
-        match self.source.read(&mut buffer) {
-            Ok(0) => Ok(None),
-            Ok(_) => {
-                if self.limit == 0 {
-                    return Err(Error::LimitExceeded);
-                }
-                self.limit -= 1;
-                Ok(Some(buffer[0]))
-            }
-            Err(_) => Err(Error::ReadFault {
-                line: Some(self.lines.saturating_add(1)),
-            }),
-        }
+// A failed read, with the number of the line that it came in; another error as it is.
+fn within_line(error: Error, number: u64) -> Error
+    ensures { result ≡ within_line error number }
+{
+    match error {
+        Error::ReadFault { .. } => Error::ReadFault { line: Some(number) },
+        other => other,
     }
+}
 
-    // Takes a byte, and puts it at the end of `line`.
-    fn push_byte(&mut self, line: &mut Vec<u8>) -> Result<Option<u8>>
-        ensures byte { IfOk result (λ next. IfSome next
-            (λ byte. Takes (state_of S.left S.faults self.old) (state_of S.left S.faults self.new) (byte ∷ [])
-            × (line.new.items ≡ line.old.items ++ byte ∷ []))) }
+impl<S: Source> LineSource<S> {
+    // Takes bytes, and puts them at the end of `line`, no further than a line feed and than one
+    // byte past the limit. Answers the last of them; none at the end of the source.
+    fn push_bytes(&mut self, line: &mut Vec<u8>) -> Result<Option<u8>>
+        ensures bytes { IfOk result (λ next. IfSome next
+            (λ byte. PushesBytes (state_of S.left S.faults self.old) (state_of S.left S.faults self.new)
+            line.old.items line.new.items byte)) }
         ensures end { IfOk result (λ next. IfNone next
             (Takes (state_of S.left S.faults self.old) (state_of S.left S.faults self.new) []
             × IsAtEnd (S.left self.new.source) × (line.new.items ≡ line.old.items))) }
-        ensures err { IfErr result (NoByte (state_of S.left S.faults self.old) (state_of S.left S.faults self.new)) }
+        ensures err { IfErr result (NoBytes (state_of S.left S.faults self.old) (state_of S.left S.faults self.new)) }
         ensures lines { self.new.lines ≡ self.old.lines }
         ensures same { S.whose self.new.source ≡ S.whose self.old.source }
     {
-        match self.next_byte()? {
-            Some(byte) => {
-                line.push(byte)?;
-                Ok(Some(byte))
+        let most = (self.limit as usize).saturating_add(1);
+        match self.source.read_through(b'\n', most, line) {
+            Ok(0) => Ok(None),
+            Ok(taken) => {
+                if taken as u64 > self.limit {
+                    return Err(Error::LimitExceeded);
+                }
+                self.limit -= taken as u64;
+                Ok(line.last().copied())
             }
-            None => Ok(None),
+            Err(error) => Err(within_line(error, self.lines.saturating_add(1))),
         }
     }
 
@@ -94,7 +80,7 @@ impl<S: Source> LineSource<S> {
         ensures same { S.whose self.new.source ≡ S.whose self.old.source }
     {
         line.clear();
-        while let Some(byte) = self.push_byte(line)? {
+        while let Some(byte) = self.push_bytes(line)? {
             if byte == b'\n' {
                 self.count_line(line);
                 return Ok(true);

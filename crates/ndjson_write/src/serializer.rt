@@ -13,7 +13,7 @@ ghost use Rattle.ndjson_write.specs.Serializer.{array_lines, AddsGiven, FindsLin
 
 use arrow_base::{Error, Result};
 use arrow_columns::Array;
-use json_text::{check, push, push_slot};
+use json_text::{check, columns_within, integer_form, push, push_value};
 use lending::FallibleStreamingIterator;
 
 /// Shows, for each array that isn't empty, each slot's JSON text with a line feed after it.
@@ -35,8 +35,10 @@ fn push_lines(out: &mut Vec<u8>, array: &Array) -> Result<()>
     ensures ok { IfOk result (λ _. out.new.items ≡ out.old.items ++ array_lines array.now) }
     ensures memory { IfErr result (λ e. e ≡ OutOfMemory) }
 {
+    let columns = columns_within(*out.allocator(), array.data_type())?;
+    let form = integer_form(array.data_type());
     for i in 0..array.len() {
-        push_slot(out, array, i)?;
+        push_value(out, array, i, &form, columns.as_slice())?;
         push(out, b"\n")?;
     }
     Ok(())

@@ -14,22 +14,22 @@ returns-in_err-size-clause-stops g c =
     (taken.second_stops count after_rows _ _ _ c.in_ok-rows.rows _ c.in_ok-rows.ensures.ok
     (taken.first_stops count (after_size c.in_ok-rows.rows) _ _ _ c.in_err-size.ensures.stops))
 
-pub returns-in_err-fill-clause-stops : goal.returns-in_err-fill-clause-stops
-returns-in_err-fill-clause-stops g c =
-    taken.handed_on _ _ c.from_residual-in_err-fill.result c.from_residual-in_err-fill.ensures.1
+pub returns-in_err-fill_buffer-clause-stops : goal.returns-in_err-fill_buffer-clause-stops
+returns-in_err-fill_buffer-clause-stops g c =
+    taken.handed_on _ _ c.from_residual-in_err-fill_buffer.result c.from_residual-in_err-fill_buffer.ensures.1
     (taken.second_stops count after_rows _ _ _ c.in_ok-rows.rows _ c.in_ok-rows.ensures.ok
     (taken.second_stops count (after_size c.in_ok-rows.rows) _ _ _ c.in_ok-size.size _ c.in_ok-size.ensures.ok
-    (data_stops c.in_ok-rows.rows c.in_ok-size.size _ _ _ c.in_err-fill.ensures.stops)))
+    (data_stops c.in_ok-rows.rows c.in_ok-size.size _ _ _ c.in_err-fill_buffer.ensures.stops)))
 
 pub returns-clause-ok : goal.returns-clause-ok
 returns-clause-ok g c =
     taken.both_pass count after_rows _ _ _ c.in_ok-rows.rows _ c.in_ok-rows.ensures.ok
     (taken.both_pass count (after_size c.in_ok-rows.rows) _ _ _ c.in_ok-size.size _ c.in_ok-size.ensures.ok
-    (data_passes c.in_ok-rows.rows c.in_ok-size.size _ _ c.fill.new.bytes.items c.in_ok-fill.ensures.ok))
+    (data_passes c.in_ok-rows.rows c.in_ok-size.size _ _ c.fill_buffer.new.bytes.items c.in_ok-fill_buffer.ensures.ok))
 
 pub returns-clause-fewer : goal.returns-clause-fewer
 returns-clause-fewer g c =
     fewer _ _ _ _
     (taken.both_pass count after_rows _ _ _ c.in_ok-rows.rows _ c.in_ok-rows.ensures.ok
     (taken.both_pass count (after_size c.in_ok-rows.rows) _ _ _ c.in_ok-size.size _ c.in_ok-size.ensures.ok
-    (data_passes c.in_ok-rows.rows c.in_ok-size.size _ _ c.fill.new.bytes.items c.in_ok-fill.ensures.ok)))
+    (data_passes c.in_ok-rows.rows c.in_ok-size.size _ _ c.fill_buffer.new.bytes.items c.in_ok-fill_buffer.ensures.ok)))

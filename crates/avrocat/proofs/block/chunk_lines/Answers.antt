@@ -1,7 +1,7 @@
 -- The lines are those of the columns that were read.
 use Rattle.std.proofs.lemmas.Result.{err_from_is_err_and}
 use Rattle.avrocat.specs.Blocks.{IsValid}
-use Rattle.avrocat.specs.declared.command.BlockWords.{BlockWords}
+use Rattle.command_words.specs.declared.command.BlockWords.{BlockWords}
 use Rattle.avrocat.proofs.BlockLemmas.{a_name_each, block_shown}
 use Rattle.avrocat.proofs.RefusalLemmas.{is_wrong}
 use Rattle.avrocat.proofs.block.chunk_lines.Goals as goal

@@ -1,6 +1,6 @@
 -- Each turn adds the name of a field that is kept.
 use Rattle.std.proofs.Common.{arith}
-use Rattle.arrow_convert.proofs.KeptLists.{some_of, kept_more, kept_passed}
+use Rattle.avro_ndjson.proofs.KeptLists.{some_of, kept_more, kept_passed}
 use Rattle.avrocat.proofs.block.kept_names.Goals as goal
 use Rattle.avrocat.proofs.block.kept_names.Goals.{then-projection-i+in_ok-try_clone+in_ok-push, else-projection-i}
 

@@ -1,5 +1,5 @@
 -- The names so far and those of the fields that are left are all of them.
-use Rattle.arrow_convert.proofs.KeptLists.{KeptSoFar}
+use Rattle.avro_ndjson.proofs.KeptLists.{KeptSoFar}
 use Rattle.avrocat.proofs.block.kept_names.Given as goal
 
 abbrev pub invariant-loop-i : goal.invariant-loop-i

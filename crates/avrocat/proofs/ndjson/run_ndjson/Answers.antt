@@ -1,10 +1,10 @@
 use Rattle.std.proofs.Common.{rules, ◌≡◌, ◌∙◌, ℕ, List, Option, Some, sym, ap, subst}
 use Rattle.std.specs.Option.{option_copied}
-use Rattle.arrow_convert.specs.Changes.{Change, change_of}
-use Rattle.arrow_convert.specs.Refusals.{ConversionFails}
+use Rattle.avro_blocks.specs.Changes.{Change, change_of}
+use Rattle.avro_ndjson.specs.Refusals.{ConversionFails}
 use Rattle.avrocat.specs.Input.{byte_limit}
 use Rattle.avrocat.specs.Ndjson.{keep_of}
-use Rattle.avrocat.proofs.NumberWords.{keep_none, keep_some}
+use Rattle.avrocat.proofs.KeepWords.{keep_none, keep_some}
 use Rattle.avrocat.proofs.ndjson.run_ndjson.Goals.{then-is_empty, else-is_empty}
 use Rattle.avrocat.proofs.ndjson.run_ndjson.Goals as goal
 

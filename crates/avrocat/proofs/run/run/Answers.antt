@@ -1,7 +1,7 @@
 -- Each way in which a command ends, and what its status tells.
 use Rattle.std.proofs.Common.{Err, ap, inl, inr, refl}
 use Rattle.arrow_core.specs.declared.error.Error.TheVariants.{OutOfMemory}
-use Rattle.arrow_convert.specs.Changes.{change_of}
+use Rattle.avro_blocks.specs.Changes.{change_of}
 use Rattle.avrocat.proofs.Endings.{is_done, is_silent, not_one, is_refused, is_complete, is_due, keeps_same}
 use Rattle.avrocat.proofs.run.run.Goals as goal
 

@@ -1,6 +1,8 @@
--- The words of a block have as many fields as flags.
-use Rattle.avrocat.proofs.OneMeaning.{command_each}
+-- The words of a block have as many fields as flags, and `make` reads nothing.
+use Rattle.std.proofs.Common.{subst}
+use Rattle.command_words.proofs.OneMeaning.{block_each}
+use Rattle.command_words.specs.Stands.{Stands}
 use Rattle.avrocat.proofs.run.run_command.Goals as goal
 
 pub run_block-requires : goal.run_block-requires
-run_block-requires g c = command_each c.requires.0 c.args.command c.in-Block.block c.in-Block.is c.requires.1
+run_block-requires g c = block_each c.requires.0 c.in-Block.block (subst (Stands c.requires.0) c.in-Block.is c.requires.1)

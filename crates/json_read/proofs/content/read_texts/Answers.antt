@@ -1,6 +1,7 @@
 use Rattle.std.proofs.lemmas.Result.{err_from_is_err_and}
 use Rattle.arrow_array.specs.Parts.{utf8_type}
 use Rattle.arrow_types.specs.Numbers.{greatest_offset}
+use Rattle.json_read.specs.Columns.{IsTooLong, lent}
 use Rattle.json_read.specs.Meaning.{text_in}
 use Rattle.json_read.proofs.Growing.{boxed, no-memory, too-long, typed}
 use Rattle.json_read.proofs.content.read_texts.Goals as goal
@@ -19,4 +20,4 @@ returns-clause-slots g c =
     boxed c.as_box.result (λ a. a.slots) text_in c.args.values.now c.loop-value.value-index c.loop-value.builder.slots c.loop-value-test.false c.loop-value.invariant.slots c.as_box.ensures.array_slots
 
 pub returns-clause-err : goal.returns-clause-err
-returns-clause-err g c = no-memory c.as_box.result (greatest_offset g.O.Offset.IS_LARGE) text_in c.args.values.now c.as_box.ensures.memory
+returns-clause-err g c = no-memory c.as_box.result text_in (IsTooLong (greatest_offset g.O.Offset.IS_LARGE) text_in (lent c.args.values.now)) (lent c.args.values.now) c.as_box.ensures.memory

@@ -1,10 +1,10 @@
 use Rattle.std.proofs.Common.{◌≡◌, take}
-use Rattle.json_read.specs.Columns.{AreSlotsOf}
+use Rattle.json_read.specs.Columns.{AreSlotsOf, lent}
 use Rattle.json_read.specs.Meaning.{whole_in}
 use Rattle.json_read.proofs.plain.read_integers.Given as goal
 
 abbrev pub invariant-loop-value : goal.invariant-loop-value
 invariant-loop-value g l = record {
   data_type : l.builder.data_type ≡ l.fn.data_type;
-  slots : AreSlotsOf (whole_in g.T.WholeNumber.low g.T.WholeNumber.high) (take l.value-index l.values) l.builder.slots;
+  slots : AreSlotsOf (whole_in g.T.WholeNumber.low g.T.WholeNumber.high) (lent (take l.value-index l.values)) l.builder.slots;
 }

@@ -1,11 +1,11 @@
 use Rattle.std.proofs.Common.{◌≡◌, take}
 use Rattle.arrow_types.specs.declared.types.DataType.TheVariants.{Null}
-use Rattle.json_read.specs.Columns.{AreSlotsOf}
+use Rattle.json_read.specs.Columns.{AreSlotsOf, lent}
 use Rattle.json_read.specs.Meaning.{null_in}
 use Rattle.json_read.proofs.plain.read_nulls.Given as goal
 
 abbrev pub invariant-loop-value : goal.invariant-loop-value
 invariant-loop-value l = record {
   data_type : l.builder.data_type ≡ Null;
-  slots : AreSlotsOf null_in (take l._value-index l.values) l.builder.slots;
+  slots : AreSlotsOf null_in (lent (take l._value-index l.values)) l.builder.slots;
 }

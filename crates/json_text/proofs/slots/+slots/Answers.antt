@@ -24,21 +24,21 @@ pub push_list-push_part-requires : goal.push_list-push_part-requires
 push_list-push_part-requires t c =
     let t = c.args.array.now.data_type in
     let kind = c.value.ensures.data_type in
-    let below : 4 * size-DataType (array_type c.value.result.array.now) + 5 < 4 * size-DataType t + 2 = omega (arith, item_below false _ _ kind) in
+    let below : 5 * size-DataType (array_type c.value.result.array.now) + 6 < 5 * size-DataType t + 2 = omega (arith, item_below false _ _ kind) in
     (search (rules, below), (c.value.ensures.part, (in_list false _ _ _ kind c.requires.form, within_item false _ _ _ kind c.requires.columns)))
 
 pub push_large_list-push_part-requires : goal.push_large_list-push_part-requires
 push_large_list-push_part-requires t c =
     let t = c.args.array.now.data_type in
     let kind = c.value.ensures.data_type in
-    let below : 4 * size-DataType (array_type c.value.result.array.now) + 5 < 4 * size-DataType t + 2 = omega (arith, item_below true _ _ kind) in
+    let below : 5 * size-DataType (array_type c.value.result.array.now) + 6 < 5 * size-DataType t + 2 = omega (arith, item_below true _ _ kind) in
     (search (rules, below), (c.value.ensures.part, (in_list true _ _ _ kind c.requires.form, within_item true _ _ _ kind c.requires.columns)))
 
 pub push_fixed_size_list-push_part-requires : goal.push_fixed_size_list-push_part-requires
 push_fixed_size_list-push_part-requires t c =
     let t = c.args.array.now.data_type in
     let kind = c.value.ensures.data_type in
-    let below : 4 * size-DataType (array_type c.value.result.array.now) + 5 < 4 * size-DataType t + 2 = omega (arith, fixed_item_below _ _ kind) in
+    let below : 5 * size-DataType (array_type c.value.result.array.now) + 6 < 5 * size-DataType t + 2 = omega (arith, fixed_item_below _ _ kind) in
     (search (rules, below), (c.value.ensures.part, (in_fixed_list _ _ _ kind c.requires.form, within_fixed_item _ _ _ kind c.requires.columns)))
 
 pub push_list-returns : goal.push_list-returns
@@ -63,7 +63,7 @@ pub push_dictionary-push_value-requires : goal.push_dictionary-push_value-requir
 push_dictionary-push_value-requires t c =
     let a = c.args.array.now in
     let kind = c.values.ensures.data_type in
-    let below : 4 * size-DataType (array_type c.values.result.now) + 3 < 4 * size-DataType a.data_type + 2 = omega (arith, value_below _ _ _ kind) in
+    let below : 5 * size-DataType (array_type c.values.result.now) + 3 < 5 * size-DataType a.data_type + 2 = omega (arith, value_below _ _ _ kind) in
     (search (rules, below), (search rules, (in_dictionary _ _ _ _ kind c.requires.form, within_value _ _ _ _ kind c.requires.columns)))
 
 pub push_dictionary-returns-in-Some : goal.push_dictionary-returns-in-Some
@@ -78,7 +78,7 @@ pub push_struct-push_object-requires : goal.push_struct-push_object-requires
 push_struct-push_object-requires t c =
     let a = c.args.array.now in
     let kind = c.values.ensures.data_type in
-    let below : 4 * children_depth c.values.result.now < 4 * size-DataType a.data_type + 2 = omega (arith, children_below _ _ _ kind) in
+    let below : 5 * children_depth c.values.result.now < 5 * size-DataType a.data_type + 2 = omega (arith, children_below _ _ _ kind) in
     (search (rules, below), (capacity _ _ _ _ kind (omega (arith, c.requires.within)), children_columns _ _ _ _ kind c.requires.columns))
 
 pub push_struct-returns : goal.push_struct-returns
@@ -88,11 +88,11 @@ push_struct-returns t c =
     let is = c.values.ensures.slots c.args.i c.requires.within held in
     record { ok = on_ok_weaker c.push_object.result (λ e. e ∙ ap (λ z. c.args.out.now.items ++ z) (children_object _ _ _ c.args.i _ c.values.ensures.data_type c.requires.columns ∙ ap (text a.data_type) (sym is))) c.push_object.ensures.ok }
 
-pub push_items-push_value-requires : goal.push_items-push_value-requires
-push_items-push_value-requires t c = (search rules, (omega (arith, c.requires.order, c.requires.within), (c.requires.form, c.requires.columns)))
+pub push_values-push_value-requires : goal.push_values-push_value-requires
+push_values-push_value-requires t c = (search rules, (omega (arith, c.requires.order, c.requires.within), (c.requires.form, c.requires.columns)))
 
-pub push_items-loop-k-preserved : goal.push_items-loop-k-preserved
-push_items-loop-k-preserved t c =
+pub push_values-loop-k-preserved : goal.push_values-loop-k-preserved
+push_values-loop-k-preserved t c =
     let slots = array_slots c.args.array.now in
     let f = text (array_type c.args.array.now) in
     let xs = take (c.args.end - c.args.start) (drop c.args.start slots) in
@@ -120,7 +120,7 @@ push_object-push_value-requires t c =
     let k = c.loop-array.array-index in
     let front = front_is _ c.column-item.result c.in-len1-up.len_at_least c.column-item.is in
     let here = column_here arrays k c.array-item.result _ _ _ c.loop-array-test.true c.array-item.is front c.loop-array.invariant.columns in
-    let below : 4 * size-DataType (array_type c.array-item.result) + 3 < 4 * children_depth arrays = omega (arith, child_below arrays k c.array-item.result c.loop-array-test.true c.array-item.is) in
+    let below : 5 * size-DataType (array_type c.array-item.result) + 3 < 5 * children_depth arrays = omega (arith, child_below arrays k c.array-item.result c.loop-array-test.true c.array-item.is) in
     (search (rules, below), (search rules, (here.0.1.0, subst (AreWithin (array_type c.array-item.result)) (sym c.split_at.ensures.front) here.0.1.1)))
 
 pub push_object-loop-array-preserved : goal.push_object-loop-array-preserved
@@ -133,7 +133,7 @@ push_object-loop-array-preserved t c =
       columns = subst (AreColumns (drop (k + 1) arrays)) (sym c.split_at.ensures.back) here.1;
       text = ap (λ z. c.push_value.new.out.items ++ columns_text (drop (k + 1) arrays) z c.args.i) c.split_at.ensures.back
           ∙ text_more arrays k c.args.i c.array-item.result _ c.column-item.result _ _ _ _ _ c.loop-array-test.true c.array-item.is front c.loop-array.invariant.text
-          (c.in_ok-push.ensures.ok ∙ ap (λ z. c.loop-array.out.items ++ z) c.as_slice.ensures.value) c.in_ok-push_value.ensures.ok;
+          c.in_ok-push_key.ensures.ok c.in_ok-push_value.ensures.ok;
     }
 
 pub push_object-returns : goal.push_object-returns
@@ -163,29 +163,29 @@ push_value-returns-in-Int64 t c =
 pub push_value-push_list-requires : goal.push_value-push_list-requires
 push_value-push_list-requires t c =
     let same : size-DataType c.in-List.array.data_type ≡ size-DataType (array_type c.args.array.now) = rw c.in-List.is refl in
-    let below : 4 * size-DataType c.in-List.array.data_type + 2 < 4 * size-DataType (array_type c.args.array.now) + 3 = omega (arith, same) in
+    let below : 5 * size-DataType c.in-List.array.data_type + 2 < 5 * size-DataType (array_type c.args.array.now) + 3 = omega (arith, same) in
     (search (rules, below), (rw c.in-List.is at c.requires.within, (rw c.in-List.is at c.requires.form, rw c.in-List.is at c.requires.columns)))
 
 pub push_value-push_large_list-requires : goal.push_value-push_large_list-requires
 push_value-push_large_list-requires t c =
     let same : size-DataType c.in-LargeList.array.data_type ≡ size-DataType (array_type c.args.array.now) = rw c.in-LargeList.is refl in
-    let below : 4 * size-DataType c.in-LargeList.array.data_type + 2 < 4 * size-DataType (array_type c.args.array.now) + 3 = omega (arith, same) in
+    let below : 5 * size-DataType c.in-LargeList.array.data_type + 2 < 5 * size-DataType (array_type c.args.array.now) + 3 = omega (arith, same) in
     (search (rules, below), (rw c.in-LargeList.is at c.requires.within, (rw c.in-LargeList.is at c.requires.form, rw c.in-LargeList.is at c.requires.columns)))
 
 pub push_value-push_fixed_size_list-requires : goal.push_value-push_fixed_size_list-requires
 push_value-push_fixed_size_list-requires t c =
     let same : size-DataType c.in-FixedSizeList.array.data_type ≡ size-DataType (array_type c.args.array.now) = rw c.in-FixedSizeList.is refl in
-    let below : 4 * size-DataType c.in-FixedSizeList.array.data_type + 2 < 4 * size-DataType (array_type c.args.array.now) + 3 = omega (arith, same) in
+    let below : 5 * size-DataType c.in-FixedSizeList.array.data_type + 2 < 5 * size-DataType (array_type c.args.array.now) + 3 = omega (arith, same) in
     (search (rules, below), (rw c.in-FixedSizeList.is at c.requires.within, (rw c.in-FixedSizeList.is at c.requires.form, rw c.in-FixedSizeList.is at c.requires.columns)))
 
 pub push_value-push_dictionary-requires : goal.push_value-push_dictionary-requires
 push_value-push_dictionary-requires t c =
     let same : size-DataType c.in-Dictionary.array.data_type ≡ size-DataType (array_type c.args.array.now) = rw c.in-Dictionary.is refl in
-    let below : 4 * size-DataType c.in-Dictionary.array.data_type + 2 < 4 * size-DataType (array_type c.args.array.now) + 3 = omega (arith, same) in
+    let below : 5 * size-DataType c.in-Dictionary.array.data_type + 2 < 5 * size-DataType (array_type c.args.array.now) + 3 = omega (arith, same) in
     (search (rules, below), (rw c.in-Dictionary.is at c.requires.within, (rw c.in-Dictionary.is at c.requires.form, rw c.in-Dictionary.is at c.requires.columns)))
 
 pub push_value-push_struct-requires : goal.push_value-push_struct-requires
 push_value-push_struct-requires t c =
     let same : size-DataType c.in-Struct.array.data_type ≡ size-DataType (array_type c.args.array.now) = rw c.in-Struct.is refl in
-    let below : 4 * size-DataType c.in-Struct.array.data_type + 2 < 4 * size-DataType (array_type c.args.array.now) + 3 = omega (arith, same) in
+    let below : 5 * size-DataType c.in-Struct.array.data_type + 2 < 5 * size-DataType (array_type c.args.array.now) + 3 = omega (arith, same) in
     (search (rules, below), (rw c.in-Struct.is at c.requires.within, rw c.in-Struct.is at c.requires.columns))

@@ -7,8 +7,8 @@ use Rattle.json_text.specs.Columns.{AreColumns, columns_text}
 use Rattle.json_text.specs.JsonText.{text, joined}
 use Rattle.json_text.proofs.slots.+slots.Given as goal
 
-abbrev pub invariant-push_items-loop-k : goal.invariant-push_items-loop-k
-invariant-push_items-loop-k l = l.out.items ≡ l.fn.out.items ++ joined (take l.k (map (text (array_type l.array)) (take (l.end - l.start) (drop l.start (array_slots l.array)))))
+abbrev pub invariant-push_values-loop-k : goal.invariant-push_values-loop-k
+invariant-push_values-loop-k l = l.out.items ≡ l.fn.out.items ++ joined (take l.k (map (text (array_type l.array)) (take (l.end - l.start) (drop l.start (array_slots l.array)))))
 
 abbrev pub invariant-push_object-loop-array : goal.invariant-push_object-loop-array
 invariant-push_object-loop-array l = record {
@@ -17,28 +17,31 @@ invariant-push_object-loop-array l = record {
 }
 
 abbrev pub decreases-push_value : goal.decreases-push_value
-decreases-push_value l = 4 * size-DataType (array_type l.array.now) + 3
+decreases-push_value l = 5 * size-DataType (array_type l.array.now) + 3
 
 abbrev pub decreases-push_list : goal.decreases-push_list
-decreases-push_list l = 4 * size-DataType l.array.now.data_type + 2
+decreases-push_list l = 5 * size-DataType l.array.now.data_type + 2
 
 abbrev pub decreases-push_large_list : goal.decreases-push_large_list
-decreases-push_large_list l = 4 * size-DataType l.array.now.data_type + 2
+decreases-push_large_list l = 5 * size-DataType l.array.now.data_type + 2
 
 abbrev pub decreases-push_fixed_size_list : goal.decreases-push_fixed_size_list
-decreases-push_fixed_size_list l = 4 * size-DataType l.array.now.data_type + 2
+decreases-push_fixed_size_list l = 5 * size-DataType l.array.now.data_type + 2
 
 abbrev pub decreases-push_dictionary : goal.decreases-push_dictionary
-decreases-push_dictionary l = 4 * size-DataType l.array.now.data_type + 2
+decreases-push_dictionary l = 5 * size-DataType l.array.now.data_type + 2
 
 abbrev pub decreases-push_struct : goal.decreases-push_struct
-decreases-push_struct l = 4 * size-DataType l.array.now.data_type + 2
+decreases-push_struct l = 5 * size-DataType l.array.now.data_type + 2
 
 abbrev pub decreases-push_part : goal.decreases-push_part
-decreases-push_part l = 4 * size-DataType (array_type l.part.now.array.now) + 5
+decreases-push_part l = 5 * size-DataType (array_type l.part.now.array.now) + 6
 
 abbrev pub decreases-push_items : goal.decreases-push_items
-decreases-push_items l = 4 * size-DataType (array_type l.array.now) + 4
+decreases-push_items l = 5 * size-DataType (array_type l.array.now) + 5
+
+abbrev pub decreases-push_values : goal.decreases-push_values
+decreases-push_values l = 5 * size-DataType (array_type l.array.now) + 4
 
 abbrev pub decreases-push_object : goal.decreases-push_object
-decreases-push_object l = 4 * children_depth l.arrays.now
+decreases-push_object l = 5 * children_depth l.arrays.now

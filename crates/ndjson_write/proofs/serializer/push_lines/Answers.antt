@@ -18,4 +18,4 @@ line_more text_of slots i d old before with_text now within so_far added ended =
 pub loop-i-preserved : goal.loop-i-preserved
 loop-i-preserved c =
     let within : c.loop-i.i < length (array_slots c.args.array.now) = omega arith in
-    line_more (text (array_type c.args.array.now)) (array_slots c.args.array.now) c.loop-i.i slot.Null _ _ _ _ within c.loop-i.invariant c.in_ok-push_slot.ensures.ok c.in_ok-push.ensures.ok
+    line_more (text (array_type c.args.array.now)) (array_slots c.args.array.now) c.loop-i.i slot.Null _ _ _ _ within c.loop-i.invariant c.in_ok-push_value.ensures.ok c.in_ok-push.ensures.ok

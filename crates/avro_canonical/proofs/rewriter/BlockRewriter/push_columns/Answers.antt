@@ -7,7 +7,7 @@ use Rattle.avro_container.specs.Canonical.{canonical_block}
 use Rattle.avro_container.specs.File.{the_block}
 use Rattle.avro_write.specs.Rows.{rows}
 use Rattle.avro_canonical.specs.Canonical.{IsRewriting, Rewriting}
-use Rattle.avro_canonical.specs.Columns.{AreAccepted, encodings}
+use Rattle.avro_canonical.specs.Columns.{AreAccepted, HaveEncodings, encodings}
 use Rattle.avro_canonical.proofs.Rewriting.{all_accepted, all_counted, block_appended}
 use Rattle.avro_canonical.proofs.rewriter.BlockRewriter.push_columns.Goals as goal
 
@@ -35,6 +35,7 @@ returns-clause-ok c =
     (λ appended.
     block_appended c.args.self.now is r.possible c.args.number_of_rows c.args.bytes.now c.args.columns.now r.bytes r.columns r.types r.counted r.symbols
     c.args.out.now.items c.append_block.new.out.items (canonical_block c.self.inside.marker (the_block block.number_of_rows block.bytes)) block.bytes block.number_of_rows
-    (λ none. grind (arith, nat_tests, c.if-number_of_rows-eq0.false, none)) c.in_ok-fill_block.ensures.number (filled ∙ ap (λ k. rows k (encodings c.args.self.now.fields (map array_slots c.args.columns.now))) (sym c.in_ok-fill_block.ensures.number))
+    (λ none. grind (arith, nat_tests, c.if-number_of_rows-eq0.false, none))
+    (subst (λ (fs : List AvroField). HaveEncodings fs c.args.columns.now) fields c.in_ok-fill_block.ensures.encoded) c.in_ok-fill_block.ensures.number (filled ∙ ap (λ k. rows k (encodings c.args.self.now.fields (map array_slots c.args.columns.now))) (sym c.in_ok-fill_block.ensures.number))
     (ap (λ (w : Rewriting). canonical_block w.marker (the_block block.number_of_rows block.bytes)) c.self.view_is) appended)
     c.append_block.ensures.ok

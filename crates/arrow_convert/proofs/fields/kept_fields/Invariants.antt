@@ -1,7 +1,0 @@
--- The fields so far and those that are left are all that are kept.
-use Rattle.arrow_types.specs.declared.types.Field.{Field}
-use Rattle.arrow_convert.proofs.KeptLists.{KeptSoFar}
-use Rattle.arrow_convert.proofs.fields.kept_fields.Given as goal
-
-abbrev pub invariant-loop-i : goal.invariant-loop-i
-invariant-loop-i l = KeptSoFar (λ (f : Field). f) l.fields l.projection l.i l.kept.items

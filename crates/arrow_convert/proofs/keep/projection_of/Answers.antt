@@ -1,8 +1,0 @@
-use Rattle.std.proofs.Common.{rules, ◌≡◌, Option, List, replicate, true, ℕ, Bool}
-use Rattle.arrow_convert.proofs.Numbers.{all_kept}
-use Rattle.arrow_convert.proofs.keep.projection_of.Goals as goal
-
-pub returns-in_ok-vec-in-None-clause-ok : goal.returns-in_ok-vec-in-None-clause-ok
-returns-in_ok-vec-in-None-clause-ok c =
-    let filled : c.in_ok-vec-in-None.field-0.items ≡ replicate c.args.count true = search rules in
-    rw c.in-None.is (all_kept c.args.count c.in_ok-vec-in-None.field-0.items filled)

@@ -1,5 +1,0 @@
-use Rattle.arrow_convert.proofs.Numbers.{Flagged}
-use Rattle.arrow_convert.proofs.keep.projection_of_numbers.Given as goal
-
-abbrev pub invariant-loop-i : goal.invariant-loop-i
-invariant-loop-i l = Flagged l.count l.numbers l.i l.projection.items

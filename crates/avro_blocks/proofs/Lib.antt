@@ -1,0 +1,4 @@
+pub mod OneBlock
+pub mod Reading
+pub mod Results
+pub mod Steps

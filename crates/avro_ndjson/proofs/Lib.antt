@@ -1,0 +1,15 @@
+pub mod Chunks
+pub mod Complete
+pub mod Dates
+pub mod Decoders
+pub mod Encoders
+pub mod KeptLists
+pub mod Numbers
+pub mod Offsets
+pub mod OneBlock
+pub mod OneError
+pub mod OneMetadata
+pub mod Reasons
+pub mod Steps
+pub mod Tables
+pub mod Texts

@@ -1,0 +1,11 @@
+//! Avro files into JSON lines.
+#![tactic(auto)]
+
+mod fields;
+mod keep;
+mod laws;
+mod lines;
+mod ndjson;
+
+pub use laws::conversion_answers;
+pub use ndjson::avro_to_ndjson;

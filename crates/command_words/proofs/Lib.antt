@@ -1,0 +1,4 @@
+pub mod Numerals
+pub mod NumberWords
+pub mod OneMeaning
+pub mod WordsLemmas

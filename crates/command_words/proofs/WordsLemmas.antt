@@ -1,0 +1,193 @@
+-- Words of a block, one field after another.
+use Rattle.std.proofs.Common.{◌≡◌, ℕ, zero, suc, ◌+◌, ◌-◌, ◌<◌, ◌≤◌, List, [], ◌∷◌, ◌++◌, length, take, drop, codes, decimal, ◌⊎◌, inl, inr, sym, ap, ◌∙◌, arith, subst, Bool, false, true}
+use Rattle.std.proofs.lemmas.List.{take_more, take_all, length-drop}
+use Rattle.std.specs.Prelude.{slice_index_or}
+use Rattle.avro_schema.specs.declared.schema.AvroField.{AvroField}
+use Rattle.field_words.specs.Fields.{IsField}
+use Rattle.field_words.specs.Names.{IsName, IsRows}
+use Rattle.command_words.specs.Stands.{Stands, IsUsage}
+use Rattle.command_words.specs.Words.{AreFields, AreKeepWords, AreMakeWords, AreRewriteWords, IsMarker, IsRest, block_word, command_word, AreRest}
+use Rattle.command_words.specs.declared.command.BlockWords.{BlockWords}
+use Rattle.command_words.specs.declared.command.Command.{Command}
+use Rattle.command_words.specs.declared.command.Command.TheVariants.{Block, Ndjson, Make, Rewrite}
+use Rattle.command_words.specs.declared.command.RewriteWords.{RewriteWords}
+use Rattle.command_words.specs.declared.command.MakeWords.{MakeWords}
+
+abbrev pub words_head : List ℕ → List (List ℕ) → List ℕ
+words_head d [] = d
+words_head d (x ∷ xs) = x
+
+abbrev IsNil : List (List ℕ) → Type 0
+IsNil [] = Unit {0}
+IsNil (x ∷ xs) = ⊥
+
+nil_cons : {x : List ℕ} {xs : List (List ℕ)} → [] ≡ x ∷ xs → ⊥
+nil_cons e = subst IsNil e tt
+
+-- one word and one field more
+pub fields_more : (words : List (List ℕ)) (projection : List Bool) (fields : List AvroField) (word : List ℕ) (is_kept : Bool) (field : AvroField)
+    → AreFields words projection fields → IsField word is_kept field → AreFields (words ++ (word ∷ [])) (projection ++ (is_kept ∷ [])) (fields ++ (field ∷ []))
+fields_more [] [] [] word is_kept field h e = (e, tt)
+fields_more [] [] (f ∷ fs) word is_kept field h e = absurd h
+fields_more [] (k ∷ ks) fs word is_kept field h e = absurd h
+fields_more (w ∷ ws) [] fs word is_kept field h e = absurd h
+fields_more (w ∷ ws) (k ∷ ks) [] word is_kept field h e = absurd h
+fields_more (w ∷ ws) (k ∷ ks) (f ∷ fs) word is_kept field h e = (h.0, fields_more ws ks fs word is_kept field h.1 e)
+
+pub fields_next : (words : List (List ℕ)) (i : ℕ) (projection : List Bool) (fields : List AvroField) (word : List ℕ) (is_kept : Bool) (field : AvroField)
+    → i < length words → word ≡ slice_index_or words i word
+    → AreFields (take i words) projection fields → IsField word is_kept field → AreFields (take (i + 1) words) (projection ++ (is_kept ∷ [])) (fields ++ (field ∷ []))
+fields_next words i projection fields word is_kept field low at h e =
+    let longer : take (i + 1) words ≡ take i words ++ (word ∷ []) = take_more words i word low ∙ ap (λ z. take i words ++ (z ∷ [])) (sym at) in
+    subst (λ z. AreFields z (projection ++ (is_kept ∷ [])) (fields ++ (field ∷ []))) (sym longer) (fields_more (take i words) projection fields word is_kept field h e)
+
+-- each of the words names a field
+pub field_at : (words : List (List ℕ)) (projection : List Bool) (fields : List AvroField) (i : ℕ) (word : List ℕ) → AreFields words projection fields → i < length words → word ≡ slice_index_or words i word
+    → (is_kept : Bool) × (field : AvroField) × IsField word is_kept field
+field_at [] projection fields i word h low at = absurd (omega (arith, low))
+field_at (w ∷ ws) [] fs i word h low at = absurd h
+field_at (w ∷ ws) (k ∷ ks) [] i word h low at = absurd h
+field_at (w ∷ ws) (k ∷ ks) (f ∷ fs) zero word h low at = (k, f, subst (λ z. IsField z k f) (sym at) h.0)
+field_at (w ∷ ws) (k ∷ ks) (f ∷ fs) (suc i) word h low at = field_at ws ks fs i word h.1 (omega (arith, low)) at
+
+pub no_fields : (words : List (List ℕ)) (i : ℕ) (word : List ℕ) → i < length words → word ≡ slice_index_or words i word
+    → ((is_kept : Bool) (field : AvroField) → IsField word is_kept field → ⊥) → (projection : List Bool) (fields : List AvroField) → AreFields words projection fields → ⊥
+no_fields words i word low at none projection fields h = let one = field_at words projection fields i word h low at in none one.0 one.1 one.2
+
+pub no_rest : (words : List (List ℕ)) (word : List ℕ) (rest : List (List ℕ)) → words ≡ word ∷ rest
+    → ((rows : ℕ) → IsRows word rows → ⊥) ⊎ ((projection : List Bool) (fields : List AvroField) → AreFields rest projection fields → ⊥)
+    → (block : BlockWords) → IsRest words block → ⊥
+no_rest words word rest e (inl none) block (w, ws, is, n, are) = none block.rows (subst (λ z. IsRows z block.rows) (ap (words_head word) (sym is ∙ e)) n)
+no_rest words word rest e (inr none) block (w, ws, is, n, are) =
+    none block.projection block.avro_fields (subst (λ z. AreFields z block.projection block.avro_fields) (ap (drop 1) (sym is ∙ e)) are)
+
+pub empty_rest : (words : List (List ℕ)) → length words < 1 → (block : BlockWords) → IsRest words block → ⊥
+empty_rest [] low block (w, ws, is, n, are) = absurd (nil_cons is)
+empty_rest (w ∷ ws) low block h = absurd (omega (arith, low))
+
+-- words that are one at least are the first of them and the others
+pub begins : (words : List (List ℕ)) (word : List ℕ) → 1 ≤ length words → word ≡ slice_index_or words 0 word → words ≡ word ∷ take (length words - 1) (drop 1 words)
+begins [] word low at = absurd (omega (arith, low))
+begins (w ∷ ws) word low at =
+    let left : length (drop 1 (w ∷ ws)) ≡ length (w ∷ ws) - 1 = length-drop 1 (w ∷ ws) in
+    let whole : take (length (w ∷ ws) - 1) (drop 1 (w ∷ ws)) ≡ ws = take_all (length (w ∷ ws) - 1) (drop 1 (w ∷ ws)) (omega (arith, left)) in
+    (λ i. sym at i ∷ sym whole i)
+
+-- the first word and those after it stand for the block
+pub stands_for : (words : List (List ℕ)) (word : List ℕ) (rest : List (List ℕ)) (large : Bool) (block : BlockWords) → words ≡ word ∷ rest → word ≡ block_word large → block.large ≡ large → IsRest rest block → Stands words (Block block)
+stands_for words word rest large block is named same h = (rest, subst (λ z. words ≡ z ∷ rest) (named ∙ ap block_word (sym same)) is, h)
+
+-- the first word and those after it stand for the command
+pub stands : (words : List (List ℕ)) (word : List ℕ) (rest : List (List ℕ)) (command : Command) → words ≡ word ∷ rest → word ≡ command_word command → AreRest rest command → Stands words command
+stands words word rest command is named h = (rest, subst (λ z. words ≡ z ∷ rest) named is, h)
+
+-- ---- words that stand for no command
+
+-- where no command begins with the first word and goes on with the others
+unused : (words : List (List ℕ)) (word : List ℕ) (rest : List (List ℕ)) → words ≡ word ∷ rest → ((command : Command) → command_word command ≡ word → AreRest rest command → ⊥) → IsUsage words
+unused words word rest e none command (ws, at, h) =
+    none command (ap (words_head word) (sym at ∙ e)) (subst (λ z. AreRest z command) (ap (drop 1) (sym at ∙ e)) h)
+
+pub block_isnt_ndjson : (large : Bool) → block_word large ≡ codes "ndjson" → ⊥
+block_isnt_ndjson false e = cc
+block_isnt_ndjson true e = cc
+
+pub block_isnt_make : (large : Bool) → block_word large ≡ codes "make" → ⊥
+block_isnt_make false e = cc
+block_isnt_make true e = cc
+
+pub block_isnt_rewrite : (large : Bool) → block_word large ≡ codes "rewrite" → ⊥
+block_isnt_rewrite false e = cc
+block_isnt_rewrite true e = cc
+
+pub no_block : (words : List (List ℕ)) (word : List ℕ) (rest : List (List ℕ)) (large : Bool) → words ≡ word ∷ rest → word ≡ block_word large → ((block : BlockWords) → IsRest rest block → ⊥) → IsUsage words
+no_block words word rest large e is none = unused words word rest e from
+  where
+    from : (command : Command) → command_word command ≡ word → AreRest rest command → ⊥
+    from (Block block) same h = none block h
+    from (Ndjson numbers) same h = block_isnt_ndjson large (sym (same ∙ is))
+    from (Make make) same h = block_isnt_make large (sym (same ∙ is))
+    from (Rewrite rewrite) same h = block_isnt_rewrite large (sym (same ∙ is))
+
+pub no_ndjson : (words : List (List ℕ)) (word : List ℕ) (rest : List (List ℕ)) → words ≡ word ∷ rest → word ≡ codes "ndjson" → ((numbers : List ℕ) → AreKeepWords rest numbers → ⊥) → IsUsage words
+no_ndjson words word rest e is none = unused words word rest e from
+  where
+    from : (command : Command) → command_word command ≡ word → AreRest rest command → ⊥
+    from (Block block) same h = block_isnt_ndjson block.large (same ∙ is)
+    from (Ndjson numbers) same h = none numbers h
+    from (Make make) same h = let d : codes "make" ≡ codes "ndjson" = same ∙ is in cc
+    from (Rewrite rewrite) same h = let d : codes "rewrite" ≡ codes "ndjson" = same ∙ is in cc
+
+pub no_make : (words : List (List ℕ)) (word : List ℕ) (rest : List (List ℕ)) → words ≡ word ∷ rest → word ≡ codes "make" → ((make : MakeWords) → AreMakeWords rest make → ⊥) → IsUsage words
+no_make words word rest e is none = unused words word rest e from
+  where
+    from : (command : Command) → command_word command ≡ word → AreRest rest command → ⊥
+    from (Block block) same h = block_isnt_make block.large (same ∙ is)
+    from (Ndjson numbers) same h = let d : codes "ndjson" ≡ codes "make" = same ∙ is in cc
+    from (Make make) same h = none make h
+    from (Rewrite rewrite) same h = let d : codes "rewrite" ≡ codes "make" = same ∙ is in cc
+
+pub no_rewrite : (words : List (List ℕ)) (word : List ℕ) (rest : List (List ℕ)) → words ≡ word ∷ rest → word ≡ codes "rewrite" → ((rewrite : RewriteWords) → AreRewriteWords rest rewrite → ⊥) → IsUsage words
+no_rewrite words word rest e is none = unused words word rest e from
+  where
+    from : (command : Command) → command_word command ≡ word → AreRest rest command → ⊥
+    from (Block block) same h = block_isnt_rewrite block.large (same ∙ is)
+    from (Ndjson numbers) same h = let d : codes "ndjson" ≡ codes "rewrite" = same ∙ is in cc
+    from (Make make) same h = let d : codes "make" ≡ codes "rewrite" = same ∙ is in cc
+    from (Rewrite rewrite) same h = none rewrite h
+
+pub other_word : (words : List (List ℕ)) (word : List ℕ) (rest : List (List ℕ)) → words ≡ word ∷ rest → (word ≡ codes "block" → ⊥) → (word ≡ codes "block-large" → ⊥) → (word ≡ codes "ndjson" → ⊥) → (word ≡ codes "make" → ⊥) → (word ≡ codes "rewrite" → ⊥) → IsUsage words
+other_word words word rest e isnt_block isnt_large isnt_ndjson isnt_make isnt_rewrite = unused words word rest e from
+  where
+    from_block : (large : Bool) → word ≡ block_word large → ⊥
+    from_block false same = isnt_block same
+    from_block true same = isnt_large same
+
+    from : (command : Command) → command_word command ≡ word → AreRest rest command → ⊥
+    from (Block block) same h = from_block block.large (sym same)
+    from (Ndjson numbers) same h = isnt_ndjson (sym same)
+    from (Make make) same h = isnt_make (sym same)
+    from (Rewrite rewrite) same h = isnt_rewrite (sym same)
+
+pub no_words : (words : List (List ℕ)) → length words < 1 → IsUsage words
+no_words [] low command (ws, is, h) = absurd (nil_cons is)
+no_words (w ∷ ws) low command h = absurd (omega (arith, low))
+
+-- ---- the words of `make`
+
+-- they are two, each a decimal number
+pub no_make_words : (words : List (List ℕ)) (start rows : List ℕ) → words ≡ start ∷ rows ∷ []
+    → ((n : ℕ) → start ≡ decimal n → n ≤ 2147483647 → ⊥) ⊎ ((n : ℕ) → rows ≡ decimal n → n ≤ 1000000 → ⊥) → (make : MakeWords) → AreMakeWords words make → ⊥
+no_make_words words start rows e (inl none) make h = none make.start (ap (words_head start) (sym e ∙ h.are)) h.start
+no_make_words words start rows e (inr none) make h = none make.rows (ap (λ z. words_head rows (drop 1 z)) (sym e ∙ h.are)) h.rows
+
+pub no_two_words : (words : List (List ℕ)) → (length words ≡ 2 → ⊥) → (make : MakeWords) → AreMakeWords words make → ⊥
+no_two_words words other make h = other (ap length h.are)
+
+-- ---- the words of `rewrite`
+
+-- they are a name and a marker
+pub no_rewrite_words : (words : List (List ℕ)) (name digits : List ℕ) → words ≡ name ∷ digits ∷ [] → (IsName name → ⊥) ⊎ ((marker : List ℕ) → IsMarker digits marker → ⊥)
+    → (rewrite : RewriteWords) → AreRewriteWords words rewrite → ⊥
+no_rewrite_words words name digits e (inl none) rewrite h = none (subst IsName (ap (words_head name) (sym h.are ∙ e)) h.name)
+no_rewrite_words words name digits e (inr none) rewrite h = none rewrite.marker (subst (λ z. IsMarker z rewrite.marker) (ap (λ z. words_head digits (drop 1 z)) (sym h.are ∙ e)) h.marker)
+
+pub no_two_rewrite_words : (words : List (List ℕ)) → (length words ≡ 2 → ⊥) → (rewrite : RewriteWords) → AreRewriteWords words rewrite → ⊥
+no_two_rewrite_words words other rewrite h = other (ap length h.are)
+
+-- ---- words that are two
+
+pub two_words : (words : List (List ℕ)) (a b : List ℕ) → 2 ≤ length words → length words < 3 → a ≡ slice_index_or words 0 a → b ≡ slice_index_or words 1 b → words ≡ a ∷ b ∷ []
+two_words [] a b low high p q = absurd (omega (arith, low))
+two_words (x ∷ []) a b low high p q = absurd (omega (arith, low))
+two_words (x ∷ y ∷ []) a b low high p q = λ i. sym p i ∷ sym q i ∷ []
+two_words (x ∷ y ∷ z ∷ zs) a b low high p q = absurd (omega (arith, high))
+
+pub are_rewrite_words : (words : List (List ℕ)) (name digits marker : List ℕ) (rewrite : RewriteWords) → words ≡ name ∷ digits ∷ [] → IsName name → IsMarker digits marker → rewrite.name ≡ name → rewrite.marker ≡ marker
+    → AreRewriteWords words rewrite
+are_rewrite_words words name digits marker rewrite is named marked same bytes = record {
+  digits = digits;
+  are = is ∙ ap (λ z. z ∷ digits ∷ []) (sym same);
+  name = subst IsName (sym same) named;
+  marker = subst (IsMarker digits) (sym bytes) marked;
+}

@@ -1,0 +1,12 @@
+-- Which words stand for a command.
+use Rattle.std.specs.Prelude.{◌≡◌, ℕ, List, ◌∷◌}
+use Rattle.command_words.specs.declared.command.Command.{Command}
+use Rattle.command_words.specs.Words.{command_word, AreRest}
+
+-- the words stand for the command: its first word, and those after it
+abbrev pub Stands : List (List ℕ) → Command → Type 0
+Stands words command = (rest : List (List ℕ)) × (words ≡ command_word command ∷ rest) × AreRest rest command
+
+-- the words stand for none
+abbrev pub IsUsage : List (List ℕ) → Type 0
+IsUsage words = (command : Command) → Stands words command → ⊥

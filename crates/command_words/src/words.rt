@@ -1,0 +1,186 @@
+//! The words of a command line, and the command that they stand for.
+
+ghost use Rattle.std.specs.Prelude.{◌≡◌, ◌≤◌, ℕ, Bool, true, false, List, Err, None, IfErr, IfOk, IfSome, decimal};
+ghost use Rattle.avro_schema.specs.declared.schema.AvroField.{AvroField as TheField};
+ghost use Rattle.command_words.specs.declared.command.BlockWords.{BlockWords as TheBlock};
+ghost use Rattle.command_words.specs.declared.command.MakeWords.{MakeWords as TheMake};
+ghost use Rattle.command_words.specs.declared.command.RewriteWords.{RewriteWords as TheRewrite};
+ghost use Rattle.field_words.specs.declared.fault.WordsFault.TheVariants.{Memory, Usage};
+ghost use Rattle.command_words.specs.Words.{AreFields, AreKeepWords, AreMakeWords, AreRewriteWords, IsMarker, IsRest};
+ghost use Rattle.command_words.specs.Stands.{Stands, IsUsage};
+
+use crate::command::{BlockWords, Command, MakeWords, RewriteWords};
+use arrow_core::{Items, Text};
+use avro_schema::AvroField;
+use field_words::{WordsFault, is_name, read_field, read_rows};
+use itoa::Buffer;
+use std::alloc::Global;
+
+/// The greatest state of the generator of `make`.
+const GREATEST_START: usize = 2_147_483_647;
+
+/// How many digits a marker has.
+const MARKER_DIGITS: usize = 32;
+
+/// The most rows that `make` draws.
+const MOST_ROWS: usize = 1_000_000;
+
+/// The command that the words stand for. `Usage` exactly where they stand for none.
+#[tactic(auto, using(crate::proofs::WordsLemmas::other_word, crate::proofs::WordsLemmas::no_words))]
+pub fn read_words(alloc: Global, words: &[Text]) -> Result<Command, WordsFault>
+    ensures command { IfOk result (Stands words.now) }
+    ensures usage { result ≡ Err Usage → IsUsage words.now }
+{
+    let [command, rest @ ..] = words else {
+        return Err(WordsFault::Usage);
+    };
+    match command.as_str() {
+        "block" => Ok(Command::Block(read_block(alloc, rest, false)?)),
+        "block-large" => Ok(Command::Block(read_block(alloc, rest, true)?)),
+        "ndjson" => Ok(Command::Ndjson(read_numbers(alloc, rest)?)),
+        "make" => match read_make(rest) {
+            Some(make) => Ok(Command::Make(make)),
+            None => Err(WordsFault::Usage),
+        },
+        "rewrite" => Ok(Command::Rewrite(read_rewrite(alloc, rest)?)),
+        _ => Err(WordsFault::Usage),
+    }
+}
+
+/// The rows and fields of `block` or `block-large`, after that word.
+#[tactic(auto, using(crate::proofs::WordsLemmas::no_rest, crate::proofs::WordsLemmas::empty_rest))]
+fn read_block(alloc: Global, words: &[Text], large: bool) -> Result<BlockWords, WordsFault>
+    ensures block { IfOk result (IsRest words.now) }
+    ensures large { IfOk result (λ block. block.large ≡ large) }
+    ensures usage { result ≡ Err Usage → (block : TheBlock) → IsRest words.now block → ⊥ }
+{
+    let [rows, fields @ ..] = words else {
+        return Err(WordsFault::Usage);
+    };
+    let Some(rows) = read_rows(rows.as_str()) else {
+        return Err(WordsFault::Usage);
+    };
+    let (avro_fields, projection) = read_fields(alloc, fields)?;
+    Ok(BlockWords {
+        rows,
+        avro_fields: Items::from_vec(avro_fields),
+        projection: Items::from_vec(projection),
+        large,
+    })
+}
+
+/// The fields that the words name, and which of them are kept.
+fn read_fields(alloc: Global, words: &[Text]) -> Result<(Vec<AvroField>, Vec<bool>), WordsFault>
+    ensures fields { IfOk result (λ read. AreFields words.now read.1.items read.0.items) }
+    ensures usage { result ≡ Err Usage
+        → (projection : List Bool) (fields : List TheField) → AreFields words.now projection fields → ⊥ }
+{
+    let mut avro_fields = Vec::new(alloc);
+    let mut projection = Vec::new(alloc);
+    for word in words {
+        let field = read_field(alloc, word.as_str())?;
+        projection.push(field.is_kept)?;
+        avro_fields.push(field.avro_field)?;
+    }
+    Ok((avro_fields, projection))
+}
+
+/// The numbers of the fields to keep, after the word `ndjson`.
+fn read_numbers(alloc: Global, words: &[Text]) -> Result<Items<usize>, WordsFault>
+    ensures numbers { IfOk result (AreKeepWords words.now) }
+    ensures usage { result ≡ Err Usage → (numbers : List ℕ) → AreKeepWords words.now numbers → ⊥ }
+{
+    let mut numbers = Vec::new(alloc);
+    for word in words {
+        let Some(number) = read_rows(word.as_str()) else {
+            return Err(WordsFault::Usage);
+        };
+        numbers.push(number)?;
+    }
+    Ok(Items::from_vec(numbers))
+}
+
+/// The state and the rows of `make`, after that word.
+fn read_make(words: &[Text]) -> Option<MakeWords>
+    ensures make { IfSome result (AreMakeWords words.now) }
+    ensures none { result ≡ None → (make : TheMake) → AreMakeWords words.now make → ⊥ }
+{
+    let [start, rows] = words else {
+        return None;
+    };
+    let start = read_decimal(start.as_str(), GREATEST_START)?;
+    let rows = read_decimal(rows.as_str(), MOST_ROWS)?;
+    Some(MakeWords {
+        start: start as u32,
+        rows,
+    })
+}
+
+/// The number of a word of decimal digits without a leading zero, up to the greatest.
+fn read_decimal(word: &str, greatest: usize) -> Option<usize>
+    ensures number { IfSome result (λ number. (word.now ≡ decimal number) × (number ≤ greatest)) }
+    ensures none { result ≡ None → (number : ℕ) → word.now ≡ decimal number → number ≤ greatest → ⊥ }
+{
+    let number = read_rows(word)?;
+    if number > greatest {
+        return None;
+    }
+    if !is_decimal(word, number) {
+        return None;
+    }
+    Some(number)
+}
+
+/// Whether a word is the number in decimal digits, without a leading zero.
+fn is_decimal(word: &str, number: usize) -> bool
+    ensures yes { result ≡ true → word.now ≡ decimal number }
+    ensures no { result ≡ false → word.now ≡ decimal number → ⊥ }
+{
+    let mut buffer = Buffer::new();
+    buffer.format(number) == word
+}
+
+/// The name and the marker of `rewrite`, after that word.
+fn read_rewrite(alloc: Global, words: &[Text]) -> Result<RewriteWords, WordsFault>
+    ensures rewrite { IfOk result (AreRewriteWords words.now) }
+    ensures usage { result ≡ Err Usage
+        → (rewrite : TheRewrite) → AreRewriteWords words.now rewrite → ⊥ }
+{
+    let [name, digits] = words else {
+        return Err(WordsFault::Usage);
+    };
+    if !is_name(name.as_str()) {
+        return Err(WordsFault::Usage);
+    }
+    match read_marker(digits.as_str()) {
+        Some(marker) => rewrite_of(alloc, name.as_str(), marker),
+        None => Err(WordsFault::Usage),
+    }
+}
+
+/// The name and the marker. `Memory` alone.
+fn rewrite_of(alloc: Global, name: &str, marker: [u8; 16]) -> Result<RewriteWords, WordsFault>
+    ensures name { IfOk result (λ rewrite. rewrite.name ≡ name.now) }
+    ensures marker { IfOk result (λ rewrite. rewrite.marker ≡ marker) }
+    ensures memory { IfErr result (λ fault. fault ≡ Memory) }
+{
+    match Text::try_from_str(alloc, name) {
+        Ok(name) => Ok(RewriteWords { name, marker }),
+        Err(_) => Err(WordsFault::Memory),
+    }
+}
+
+/// The bytes of a marker's digits.
+fn read_marker(digits: &str) -> Option<[u8; 16]>
+    ensures marker { IfSome result (IsMarker digits.now) }
+    ensures none { result ≡ None → (marker : List ℕ) → IsMarker digits.now marker → ⊥ }
+{
+    // `from_str_radix` takes a plus sign before the digits.
+    if digits.len() != MARKER_DIGITS || digits.starts_with('+') {
+        return None;
+    }
+    match u128::from_str_radix(digits, 16) {
+        Ok(marker) => Some(marker.to_be_bytes()),
+        Err(_) => None,
+    }
+}

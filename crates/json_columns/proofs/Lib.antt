@@ -1,0 +1,13 @@
+pub mod Anywhere
+pub mod ByFields
+pub mod FieldColumns
+pub mod Gathering
+pub mod Layers
+pub mod ListColumns
+pub mod Lists
+pub mod FieldNames
+pub mod Nulls
+pub mod Refusing
+pub mod Rows
+pub mod TextLaws
+pub mod Together

@@ -1,0 +1,132 @@
+-- A column of lists or structs is made of the column of what stands beneath.
+use Rattle.std.proofs.Common.{ap, sym, ◌∙◌, false, true, rules}
+use Rattle.std.proofs.lemmas.Result.{err_from_is_err_and}
+use Rattle.arrow_array.specs.Arrays.{array_slots}
+use Rattle.arrow_types.proofs.types.DataType.TheLaws.{the_size}
+use Rattle.arrow_types.proofs.types.Field.TheLaws.{the_size as field_size}
+use Rattle.arrow_types.specs.declared.types.DataType.TheVariants as types
+use Rattle.arrow_types.specs.declared.types.DataType.TheViews.{the_lemmas}
+use Rattle.json_read.specs.Columns.{lent, means}
+use Rattle.json_columns.specs.Faults.{TooManyListed}
+use Rattle.json_columns.specs.Reading.{list_in, reading}
+use Rattle.json_columns.proofs.ByFields.{list_ok, list_err, large_list_ok, large_list_err, struct_ok, struct_err, list_item_readable, large_list_item_readable, struct_fields_readable}
+use Rattle.json_columns.proofs.FieldColumns.{one_column, struct_children, some_column, field_fault, members_fault}
+use Rattle.json_columns.proofs.ListColumns.{items_enough, lists_column, gathered_fault, count_fault, memory_fault}
+use Rattle.json_columns.proofs.Rows.{structs_column}
+use Rattle.json_columns.proofs.column.+columns.Goals as goal
+
+pub read_column-read_lists-requires : goal.read_column-read_lists-requires
+read_column-read_lists-requires t c =
+    let kind = c.in-List.is ∙ ap types.List (sym c.get.ensures) in
+    (let e = ap the_size c.in-List.is in let a = ap field_size c.get.ensures in let d = c.decreases in search (rules, the_lemmas), (kind, (list_item_readable c.args.data_type.now c.get.result.now kind c.requires.readable, c.requires.null)))
+
+pub read_column-returns-in-List-clause-slots : goal.read_column-returns-in-List-clause-slots
+read_column-returns-in-List-clause-slots t c =
+    list_ok c.args.data_type.now c.get.result.now (lent c.args.values.now) c.read_lists.result (c.in-List.is ∙ ap types.List (sym c.get.ensures)) c.read_lists.ensures.slots
+
+pub read_column-returns-in-List-clause-err : goal.read_column-returns-in-List-clause-err
+read_column-returns-in-List-clause-err t c =
+    list_err c.args.data_type.now c.get.result.now (lent c.args.values.now) c.read_lists.result (c.in-List.is ∙ ap types.List (sym c.get.ensures)) c.read_lists.ensures.err
+
+pub read_column-read_large_lists-requires : goal.read_column-read_large_lists-requires
+read_column-read_large_lists-requires t c =
+    let kind = c.in-LargeList.is ∙ ap types.LargeList (sym c.get-in-LargeList.ensures) in
+    (let e = ap the_size c.in-LargeList.is in let a = ap field_size c.get-in-LargeList.ensures in let d = c.decreases in search (rules, the_lemmas), (kind, (large_list_item_readable c.args.data_type.now c.get-in-LargeList.result.now kind c.requires.readable, c.requires.null)))
+
+pub read_column-returns-in-LargeList-clause-slots : goal.read_column-returns-in-LargeList-clause-slots
+read_column-returns-in-LargeList-clause-slots t c =
+    large_list_ok c.args.data_type.now c.get-in-LargeList.result.now (lent c.args.values.now) c.read_large_lists.result (c.in-LargeList.is ∙ ap types.LargeList (sym c.get-in-LargeList.ensures)) c.read_large_lists.ensures.slots
+
+pub read_column-returns-in-LargeList-clause-err : goal.read_column-returns-in-LargeList-clause-err
+read_column-returns-in-LargeList-clause-err t c =
+    large_list_err c.args.data_type.now c.get-in-LargeList.result.now (lent c.args.values.now) c.read_large_lists.result (c.in-LargeList.is ∙ ap types.LargeList (sym c.get-in-LargeList.ensures)) c.read_large_lists.ensures.err
+
+pub read_column-read_structs-requires : goal.read_column-read_structs-requires
+read_column-read_structs-requires t c =
+    let kind = c.in-Struct.is ∙ ap types.Struct (sym c.as_slice.ensures) in
+    (let e = ap the_size c.in-Struct.is in let a = c.as_slice.ensures in let d = c.decreases in search (rules, the_lemmas), (kind, (struct_fields_readable c.args.data_type.now c.as_slice.result.now kind c.requires.readable, c.requires.null)))
+
+pub read_column-returns-in-Struct-clause-slots : goal.read_column-returns-in-Struct-clause-slots
+read_column-returns-in-Struct-clause-slots t c =
+    struct_ok c.args.data_type.now c.as_slice.result.now (lent c.args.values.now) c.read_structs.result (c.in-Struct.is ∙ ap types.Struct (sym c.as_slice.ensures)) c.read_structs.ensures.slots
+
+pub read_column-returns-in-Struct-clause-err : goal.read_column-returns-in-Struct-clause-err
+read_column-returns-in-Struct-clause-err t c =
+    struct_err c.args.data_type.now c.as_slice.result.now (lent c.args.values.now) c.read_structs.result (c.in-Struct.is ∙ ap types.Struct (sym c.as_slice.ensures)) c.read_structs.ensures.err
+
+pub read_lists-returns-in_err-fill_lists-clause-err : goal.read_lists-returns-in_err-fill_lists-clause-err
+read_lists-returns-in_err-fill_lists-clause-err t c =
+    let p = err_from_is_err_and c.from_residual-in_err-fill_lists.result c.from_residual-in_err-fill_lists.ensures.1 in
+    rw (p.1, p.2) (count_fault false c.args.item.now (lent c.args.values.now) _ c.in_err-fill_lists.ensures.err)
+
+pub read_lists-returns-in_err-column-clause-err : goal.read_lists-returns-in_err-column-clause-err
+read_lists-returns-in_err-column-clause-err t c =
+    let p = err_from_is_err_and c.from_residual-in_err-column.result c.from_residual-in_err-column.ensures.1 in
+    rw (p.1, p.2) (gathered_fault false c.args.item.now (lent c.args.values.now) (lent c.as_slice.result.now) _ (ap lent c.as_slice.ensures.value ∙ c.in_ok-fill_lists.ensures.items) c.in_err-column.ensures.err)
+
+pub read_lists-list_array-requires-clause-kind : goal.read_lists-list_array-requires-clause-kind
+read_lists-list_array-requires-clause-kind t c =
+    (c.args.item.now, c.fill_lists.ensures.data_type ∙ c.in_ok-lists.ensures.data_type ∙ c.in_ok-try_clone.ensures.copy ∙ c.requires.kind, sym c.in_ok-column.ensures.data_type)
+
+pub read_lists-list_array-requires-clause-within : goal.read_lists-list_array-requires-clause-within
+read_lists-list_array-requires-clause-within t c =
+    items_enough (reading c.args.item.now.data_type) (lent c.args.values.now) (lent c.as_slice.result.now) _ (array_slots c.in_ok-column.column) c.in_ok-fill_lists.ensures.lens (ap lent c.as_slice.ensures.value ∙ c.in_ok-fill_lists.ensures.items) c.in_ok-column.ensures.slots
+
+pub read_lists-returns-clause-slots : goal.read_lists-returns-clause-slots
+read_lists-returns-clause-slots t c =
+    lists_column (reading c.args.item.now.data_type) (lent c.args.values.now) (lent c.as_slice.result.now) _ (array_slots c.in_ok-column.column) c.list_array.result c.in_ok-fill_lists.ensures.lens (ap lent c.as_slice.ensures.value ∙ c.in_ok-fill_lists.ensures.items) c.in_ok-column.ensures.slots c.list_array.ensures.slots
+
+pub read_lists-returns-clause-err : goal.read_lists-returns-clause-err
+read_lists-returns-clause-err t c =
+    memory_fault (list_in (means (reading c.args.item.now.data_type))) (TooManyListed false c.args.item.now (lent c.args.values.now)) (lent c.args.values.now) c.list_array.result c.list_array.ensures.memory
+
+pub read_large_lists-returns-in_err-fill_lists-clause-err : goal.read_large_lists-returns-in_err-fill_lists-clause-err
+read_large_lists-returns-in_err-fill_lists-clause-err t c =
+    let p = err_from_is_err_and c.from_residual-in_err-fill_lists.result c.from_residual-in_err-fill_lists.ensures.1 in
+    rw (p.1, p.2) (count_fault true c.args.item.now (lent c.args.values.now) _ c.in_err-fill_lists.ensures.err)
+
+pub read_large_lists-returns-in_err-column-clause-err : goal.read_large_lists-returns-in_err-column-clause-err
+read_large_lists-returns-in_err-column-clause-err t c =
+    let p = err_from_is_err_and c.from_residual-in_err-column.result c.from_residual-in_err-column.ensures.1 in
+    rw (p.1, p.2) (gathered_fault true c.args.item.now (lent c.args.values.now) (lent c.as_slice.result.now) _ (ap lent c.as_slice.ensures.value ∙ c.in_ok-fill_lists.ensures.items) c.in_err-column.ensures.err)
+
+pub read_large_lists-large_list_array-requires-clause-kind : goal.read_large_lists-large_list_array-requires-clause-kind
+read_large_lists-large_list_array-requires-clause-kind t c =
+    (c.args.item.now, c.fill_lists.ensures.data_type ∙ c.in_ok-lists.ensures.data_type ∙ c.in_ok-try_clone.ensures.copy ∙ c.requires.kind, sym c.in_ok-column.ensures.data_type)
+
+pub read_large_lists-large_list_array-requires-clause-within : goal.read_large_lists-large_list_array-requires-clause-within
+read_large_lists-large_list_array-requires-clause-within t c =
+    items_enough (reading c.args.item.now.data_type) (lent c.args.values.now) (lent c.as_slice.result.now) _ (array_slots c.in_ok-column.column) c.in_ok-fill_lists.ensures.lens (ap lent c.as_slice.ensures.value ∙ c.in_ok-fill_lists.ensures.items) c.in_ok-column.ensures.slots
+
+pub read_large_lists-returns-clause-slots : goal.read_large_lists-returns-clause-slots
+read_large_lists-returns-clause-slots t c =
+    lists_column (reading c.args.item.now.data_type) (lent c.args.values.now) (lent c.as_slice.result.now) _ (array_slots c.in_ok-column.column) c.large_list_array.result c.in_ok-fill_lists.ensures.lens (ap lent c.as_slice.ensures.value ∙ c.in_ok-fill_lists.ensures.items) c.in_ok-column.ensures.slots c.large_list_array.ensures.slots
+
+pub read_large_lists-returns-clause-err : goal.read_large_lists-returns-clause-err
+read_large_lists-returns-clause-err t c =
+    memory_fault (list_in (means (reading c.args.item.now.data_type))) (TooManyListed true c.args.item.now (lent c.args.values.now)) (lent c.args.values.now) c.large_list_array.result c.large_list_array.ensures.memory
+
+pub read_fields-returns-in_err-column-clause-err : goal.read_fields-returns-in_err-column-clause-err
+read_fields-returns-in_err-column-clause-err t c =
+    let p = err_from_is_err_and c.from_residual.result c.from_residual.ensures.1 in
+    rw (p.1, p.2) (field_fault c.args.fields.now (lent c.args.values.now) c.loop-field.field-index c.field-item.result _ c.loop-field-test.true c.field-item.is c.in_err-column.ensures.err)
+
+pub read_fields-loop-field-preserved : goal.read_fields-loop-field-preserved
+read_fields-loop-field-preserved t c =
+    one_column c.args.fields.now (lent c.args.values.now) c.loop-field.field-index c.field-item.result _ _ c.in_ok-column.column c.loop-field-test.true c.field-item.is c.loop-field.invariant c.in_ok-column.ensures.column c.in_ok-push.ensures.items
+
+pub read_structs-returns-in_err-columns-clause-err : goal.read_structs-returns-in_err-columns-clause-err
+read_structs-returns-in_err-columns-clause-err t c =
+    let p = err_from_is_err_and c.from_residual.result c.from_residual.ensures.1 in
+    rw (p.1, p.2) (members_fault c.args.fields.now (lent c.args.values.now) _ c.in_err-columns.ensures.err)
+
+pub read_structs-struct_array-requires-clause-filled : goal.read_structs-struct_array-requires-clause-filled
+read_structs-struct_array-requires-clause-filled t c = some_column c.args.fields.now (lent c.args.values.now) c.in_ok-columns.columns.items c.requires.readable c.in_ok-columns.ensures.columns
+
+pub read_structs-struct_array-requires-clause-kind : goal.read_structs-struct_array-requires-clause-kind
+read_structs-struct_array-requires-clause-kind t c =
+    (c.args.fields.now, c.in_ok-marks.ensures.data_type ∙ c.requires.kind, struct_children c.args.fields.now (lent c.args.values.now) _ c.in_ok-columns.columns.items c.in_ok-marks.ensures.booleans c.in_ok-columns.ensures.columns)
+
+pub read_structs-returns-clause-slots : goal.read_structs-returns-clause-slots
+read_structs-returns-clause-slots t c =
+    structs_column c.args.fields.now (lent c.args.values.now) c.in_ok-columns.columns.items _ c.struct_array.result c.in_ok-columns.ensures.columns c.in_ok-marks.ensures.booleans c.struct_array.ensures.slots

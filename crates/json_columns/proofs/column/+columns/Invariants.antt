@@ -1,0 +1,8 @@
+-- The columns so far are those of the fields so far.
+use Rattle.std.proofs.Common.{take}
+use Rattle.json_read.specs.Columns.{lent}
+use Rattle.json_columns.specs.Faults.{AreMemberColumns}
+use Rattle.json_columns.proofs.column.+columns.Given as goal
+
+abbrev pub invariant-read_fields-loop-field : goal.invariant-read_fields-loop-field
+invariant-read_fields-loop-field l = AreMemberColumns (take l.field-index l.fields) (lent l.values) l.columns.items

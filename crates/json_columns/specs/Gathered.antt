@@ -1,0 +1,68 @@
+-- The values beneath several values, in order.
+use Rattle.std.specs.Prelude.{ℕ, Bool, true, false, ◌&&◌, not, ◌==◌, Option, Some, None, List, [], ◌∷◌, ◌++◌, length, map}
+use Rattle.std.specs.List.{list_all}
+use Rattle.arrow_types.specs.declared.types.DataType.{DataType, List', LargeList', Struct'}
+use Rattle.arrow_types.specs.declared.types.Field.{Field}
+use Rattle.json_tree.specs.Keys.{value_of}
+use Rattle.json_tree.specs.Tree.{Json, null}
+use Rattle.json_tree.specs.declared.value.Value.{out-Value}
+use Rattle.json_tree.specs.declared.value.Value.TheOpen as layer
+use Rattle.json_read.specs.Meaning.{Meaning, Layer}
+use Rattle.json_read.specs.Columns.{means}
+use Rattle.json_columns.specs.Reading.{has_reading, or_null, reading}
+
+-- the items of an array, and none of another value
+abbrev pub items_in : Layer → List Json
+items_in (layer.Array items) = items
+items_in _ = []
+
+-- the items of each array, one array after another
+abbrev pub all_items : List Json → List Json
+all_items [] = []
+all_items (value ∷ values) = items_in (out-Value value) ++ all_items values
+
+-- the member of this name; null where there is none
+abbrev pub member_in : List ℕ → Layer → Json
+member_in name (layer.Object object) = or_null (value_of name object.members)
+member_in name _ = null
+
+-- the member of this name in each value
+abbrev pub members_named : List ℕ → List Json → List Json
+members_named name values = map (λ value. member_in name (out-Value value)) values
+
+-- ---- Contracts of private functions alone cite what follows.
+
+-- how many items an array has; None for another value
+abbrev pub len_in : Layer → Option ℕ
+len_in (layer.Array items) = Some (length items)
+len_in _ = None
+
+abbrev pub list_lens : List Json → List (Option ℕ)
+list_lens values = map (λ value. len_in (out-Value value)) values
+
+-- whether a value is an object
+abbrev pub is_object : Layer → Bool
+is_object (layer.Object object) = true
+is_object _ = false
+
+abbrev pub are_objects : List Json → List Bool
+are_objects values = map (λ value. is_object (out-Value value)) values
+
+-- a type with no types in it
+abbrev pub HasNoFields : DataType → Type 0
+HasNoFields (List' shape item) = ⊥
+HasNoFields (LargeList' shape item) = ⊥
+HasNoFields (Struct' shape fields) = ⊥
+HasNoFields _ = Unit {0}
+
+-- the members of an object by the names of fields
+abbrev pub field_meanings : List Field → List (List ℕ × Json) → List Meaning
+field_meanings fields members = map (λ (f : Field). means (reading f.data_type) (or_null (value_of f.name members))) fields
+
+-- values are read under the type of each field
+abbrev pub all_have_reading : List Field → Bool
+all_have_reading = list_all (λ (f : Field). has_reading f.data_type)
+
+-- and there is one
+abbrev pub struct_has_reading : List Field → Bool
+struct_has_reading fields = not (length fields == 0) && all_have_reading fields

@@ -1,0 +1,6 @@
+pub mod Reading
+pub mod Gathered
+pub mod Faults
+pub mod Names
+pub mod Refusals
+pub mod Texts

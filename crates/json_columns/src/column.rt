@@ -1,0 +1,158 @@
+//! Columns of any type, a column at a time.
+ghost use Rattle.std.specs.Prelude.{◌≡◌, false, true, IfOk, IfErr};
+ghost use Rattle.arrow_array.specs.Arrays.{array_slots, array_type};
+ghost use Rattle.arrow_types.specs.declared.types.DataType.TheVariants.{LargeList as LargeListType, List as ListType, Struct as StructType};
+ghost use Rattle.json_tree.specs.Tree.{null as null_value};
+ghost use Rattle.json_read.specs.Columns.{AreSlotsOf, lent, means};
+ghost use Rattle.json_columns.specs.Faults.{AreMemberColumns, IsFault, IsFieldsFault, IsListFault, IsMemberColumn, IsMemberFault, IsStructFault};
+ghost use Rattle.json_columns.specs.Gathered.{all_have_reading, field_meanings, struct_has_reading};
+ghost use Rattle.json_columns.specs.Reading.{has_reading, list_in, reading, struct_in};
+
+use crate::flat::read_flat;
+use crate::gather::{fill_lists, members_named, object_marks};
+use crate::parts::{large_list_array, list_array, struct_array};
+use arrow_array::Array;
+use arrow_core::Result;
+use arrow_flat::MutableLists;
+use arrow_types::{DataType, Field};
+use json_tree::Value;
+use std::alloc::Global;
+
+/// The column of values under a type, one slot a value. `null` stands for members that are missing.
+///
+/// `NotYetImplemented(TextTimestamp)` where a text under a timestamp comes, and `Overflow` where
+/// another value without a slot comes or the column can't count what it has, whichever is first.
+/// `OutOfMemory` may come in place of any answer.
+#[cycle(columns)]
+pub(crate) fn read_column<'a>(
+    alloc: Global,
+    data_type: &DataType,
+    values: &[&'a Value],
+    null: &'a Value,
+) -> Result<Array>
+    requires readable { has_reading data_type.now ≡ true }
+    requires null { null.now ≡ null_value }
+    ensures data_type { IfOk result (λ a. array_type a ≡ data_type.now) }
+    ensures slots { IfOk result
+        (λ a. AreSlotsOf (reading data_type.now) (lent values.now) (array_slots a)) }
+    ensures err { IfErr result (IsFault data_type.now (lent values.now)) }
+{
+    match data_type {
+        DataType::List(item) => read_lists(alloc, item.get(), data_type, values, null),
+        DataType::LargeList(item) => read_large_lists(alloc, item.get(), data_type, values, null),
+        DataType::Struct(fields) => {
+            read_structs(alloc, fields.as_slice(), data_type, values, null)
+        }
+        _ => read_flat(alloc, data_type, values),
+    }
+}
+
+/// The column of lists of this field.
+#[cycle(columns)]
+fn read_lists<'a>(
+    alloc: Global,
+    item: &Field,
+    data_type: &DataType,
+    values: &[&'a Value],
+    null: &'a Value,
+) -> Result<Array>
+    requires kind { data_type.now ≡ ListType item.now }
+    requires readable { has_reading item.now.data_type ≡ true }
+    requires null { null.now ≡ null_value }
+    ensures data_type { IfOk result (λ a. array_type a ≡ data_type.now) }
+    ensures slots { IfOk result (λ a. AreSlotsOf (list_in (means (reading item.now.data_type)))
+        (lent values.now) (array_slots a)) }
+    ensures err { IfErr result (IsListFault false item.now (lent values.now)) }
+{
+    let mut lists = MutableLists::<i32>::new(alloc, data_type.try_clone(alloc)?, values.len())?;
+    let mut items = Vec::new(alloc);
+    fill_lists(&mut lists, &mut items, values)?;
+    let column = read_column(alloc, &item.data_type, items.as_slice(), null)?;
+    list_array(alloc, &mut lists, column)
+}
+
+/// The same with offsets of 64 bits.
+#[cycle(columns)]
+fn read_large_lists<'a>(
+    alloc: Global,
+    item: &Field,
+    data_type: &DataType,
+    values: &[&'a Value],
+    null: &'a Value,
+) -> Result<Array>
+    requires kind { data_type.now ≡ LargeListType item.now }
+    requires readable { has_reading item.now.data_type ≡ true }
+    requires null { null.now ≡ null_value }
+    ensures data_type { IfOk result (λ a. array_type a ≡ data_type.now) }
+    ensures slots { IfOk result (λ a. AreSlotsOf (list_in (means (reading item.now.data_type)))
+        (lent values.now) (array_slots a)) }
+    ensures err { IfErr result (IsListFault true item.now (lent values.now)) }
+{
+    let mut lists = MutableLists::<i64>::new(alloc, data_type.try_clone(alloc)?, values.len())?;
+    let mut items = Vec::new(alloc);
+    fill_lists(&mut lists, &mut items, values)?;
+    let column = read_column(alloc, &item.data_type, items.as_slice(), null)?;
+    large_list_array(alloc, &mut lists, column)
+}
+
+/// The column of structs of these fields.
+#[cycle(columns)]
+fn read_structs<'a>(
+    alloc: Global,
+    fields: &[Field],
+    data_type: &DataType,
+    values: &[&'a Value],
+    null: &'a Value,
+) -> Result<Array>
+    requires kind { data_type.now ≡ StructType fields.now }
+    requires readable { struct_has_reading fields.now ≡ true }
+    requires null { null.now ≡ null_value }
+    ensures data_type { IfOk result (λ a. array_type a ≡ data_type.now) }
+    ensures slots { IfOk result (λ a. AreSlotsOf (struct_in (field_meanings fields.now))
+        (lent values.now) (array_slots a)) }
+    ensures err { IfErr result (IsStructFault fields.now (lent values.now)) }
+{
+    let columns = read_fields(alloc, fields, values, null)?;
+    let mut marks = object_marks(alloc, data_type, values)?;
+    struct_array(alloc, &mut marks, columns)
+}
+
+/// A column for each field, of the members of its name.
+#[cycle(columns)]
+fn read_fields<'a>(
+    alloc: Global,
+    fields: &[Field],
+    values: &[&'a Value],
+    null: &'a Value,
+) -> Result<Vec<Array>>
+    requires readable { all_have_reading fields.now ≡ true }
+    requires null { null.now ≡ null_value }
+    ensures columns { IfOk result
+        (λ columns. AreMemberColumns fields.now (lent values.now) columns.items) }
+    ensures err { IfErr result (IsFieldsFault fields.now (lent values.now)) }
+{
+    let mut columns = Vec::new(alloc);
+    for field in fields {
+        let column = read_members(alloc, field, values, null)?;
+        columns.push(column)?;
+    }
+    Ok(columns)
+}
+
+/// The column of the members of a field's name.
+#[cycle(columns)]
+fn read_members<'a>(
+    alloc: Global,
+    field: &Field,
+    values: &[&'a Value],
+    null: &'a Value,
+) -> Result<Array>
+    requires readable { has_reading field.now.data_type ≡ true }
+    requires null { null.now ≡ null_value }
+    ensures column { IfOk result
+        (λ a. IsMemberColumn field.now (lent values.now) (array_type a) (array_slots a)) }
+    ensures err { IfErr result (IsMemberFault field.now (lent values.now)) }
+{
+    let members = members_named(alloc, field.name.as_str(), values, null)?;
+    read_column(alloc, &field.data_type, members.as_slice(), null)
+}

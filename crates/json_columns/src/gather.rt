@@ -1,0 +1,140 @@
+//! Gathers the values beneath several values, and what they say of the slots above.
+ghost use Rattle.std.specs.Prelude.{◌≡◌, ◌++◌, ◌∷◌, [], ◌+◌, length, IfOk, IfErr, OnOk};
+ghost use Rattle.arrow_core.specs.Errors.{OnlyOutOfMemory};
+ghost use Rattle.arrow_flat.specs.Nested.{items_of};
+ghost use Rattle.arrow_types.specs.Numbers.{greatest_offset};
+ghost use Rattle.json_tree.specs.Tree.{null as null_value};
+ghost use Rattle.json_tree.specs.declared.value.Value.{out-Value};
+ghost use Rattle.json_read.specs.Columns.{lent};
+ghost use Rattle.json_columns.specs.Faults.{IsCountFault};
+ghost use Rattle.json_columns.specs.Gathered.{all_items, are_objects, is_object as is_object_of, items_in, len_in, list_lens, member_in, members_named as members_named_of};
+
+use arrow_core::Result;
+use arrow_flat::{MutableLists, MutableMarks};
+use arrow_types::{DataType, Offset};
+use json_tree::Value;
+use std::alloc::Global;
+
+/// Appends references to more values.
+pub(crate) fn lend_all<'a>(lent_values: &mut Vec<&'a Value>, more: &'a [Value]) -> Result<()>
+    ensures ok { OnOk result
+        (lent lent_values.new.items ≡ lent lent_values.old.items ++ more.now) }
+    ensures memory { OnlyOutOfMemory result }
+{
+    for value in more {
+        lent_values.push(value)?;
+    }
+    Ok(())
+}
+
+/// Appends the items of an array, as one more list; any other value is a null.
+fn push_list<'a, O: Offset>(
+    lists: &mut MutableLists<O>,
+    items: &mut Vec<&'a Value>,
+    value: &'a Value,
+) -> Result<()>
+    requires ends { items_of lists.old.lens ≡ length items.old.items }
+    ensures data_type { lists.new.data_type ≡ lists.old.data_type }
+    ensures lens { OnOk result
+        (lists.new.lens ≡ lists.old.lens ++ len_in (out-Value value.now) ∷ []) }
+    ensures items { OnOk result
+        (lent items.new.items ≡ lent items.old.items ++ items_in (out-Value value.now)) }
+    ensures err { IfErr result (IsCountFault (greatest_offset O.IS_LARGE)
+        (length items.old.items + length (items_in (out-Value value.now)))) }
+{
+    match value {
+        Value::Array(array) => {
+            lend_all(items, array.as_slice())?;
+            lists.push_list(items.len())
+        }
+        _ => lists.push_null(),
+    }
+}
+
+/// Appends the items of each array, and each value as a list: the items of an array, and any other
+/// value as a null. `Overflow` where there are more items than the greatest offset.
+pub(crate) fn fill_lists<'a, O: Offset>(
+    lists: &mut MutableLists<O>,
+    items: &mut Vec<&'a Value>,
+    values: &[&'a Value],
+) -> Result<()>
+    requires no_list { lists.old.lens ≡ [] }
+    requires no_item { items.old.items ≡ [] }
+    ensures data_type { lists.new.data_type ≡ lists.old.data_type }
+    ensures lens { OnOk result (lists.new.lens ≡ list_lens (lent values.now)) }
+    ensures items { OnOk result (lent items.new.items ≡ all_items (lent values.now)) }
+    ensures err { IfErr result (IsCountFault (greatest_offset O.IS_LARGE)
+        (length (all_items (lent values.now)))) }
+{
+    for value in values {
+        push_list(lists, items, value)?;
+    }
+    Ok(())
+}
+
+/// The member of this name, or `null` where there is none.
+fn member_of<'a>(value: &'a Value, name: &str, null: &'a Value) -> &'a Value
+    requires { null.now ≡ null_value }
+    ensures { result.now ≡ member_in name.now (out-Value value.now) }
+{
+    match value {
+        Value::Object(object) => match object.get(name) {
+            Some(member) => member,
+            None => null,
+        },
+        _ => null,
+    }
+}
+
+/// The member of this name of each value, or `null` where there is none.
+pub(crate) fn members_named<'a>(
+    alloc: Global,
+    name: &str,
+    values: &[&'a Value],
+    null: &'a Value,
+) -> Result<Vec<&'a Value>>
+    requires { null.now ≡ null_value }
+    ensures members { IfOk result
+        (λ v. lent v.items ≡ members_named_of name.now (lent values.now)) }
+    ensures memory { OnlyOutOfMemory result }
+{
+    let mut members = Vec::new(alloc);
+    for value in values {
+        members.push(member_of(value, name, null))?;
+    }
+    Ok(members)
+}
+
+fn is_object(value: &Value) -> bool
+    ensures { result ≡ is_object_of (out-Value value.now) }
+{
+    matches!(value, Value::Object(_))
+}
+
+/// Appends a slot for each value, which is valid where the value is an object.
+fn fill_marks(marks: &mut MutableMarks, values: &[&Value]) -> Result<()>
+    requires no_slot { marks.old.booleans ≡ [] }
+    ensures data_type { marks.new.data_type ≡ marks.old.data_type }
+    ensures booleans { OnOk result (marks.new.booleans ≡ are_objects (lent values.now)) }
+    ensures memory { OnlyOutOfMemory result }
+{
+    for value in values {
+        marks.push(is_object(value))?;
+    }
+    Ok(())
+}
+
+/// A slot for each value, which is valid where the value is an object.
+pub(crate) fn object_marks(
+    alloc: Global,
+    data_type: &DataType,
+    values: &[&Value],
+) -> Result<MutableMarks>
+    ensures data_type { IfOk result (λ m. m.data_type ≡ data_type.now) }
+    ensures booleans { IfOk result (λ m. m.booleans ≡ are_objects (lent values.now)) }
+    ensures memory { OnlyOutOfMemory result }
+{
+    let mut marks = MutableMarks::new(alloc, data_type.try_clone(alloc)?);
+    fill_marks(&mut marks, values)?;
+    Ok(marks)
+}

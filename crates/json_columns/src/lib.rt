@@ -1,0 +1,15 @@
+//! JSON values (RFC 8259) into columns of any type that has a JSON reading.
+#![tactic(auto)]
+
+mod column;
+mod flat;
+mod gather;
+mod names;
+mod parts;
+mod texts;
+mod types;
+mod values;
+
+pub use names::names_twice;
+pub use types::has_json_reading;
+pub use values::{deserialize, read_values};

@@ -1,0 +1,7 @@
+use Rattle.json_tree.proofs.CharTurns.{plain-string}
+use Rattle.json_lend.proofs.names.key_index.Goals as goal
+
+pub returns-in-Some-clause-reads : goal.returns-in-Some-clause-reads
+returns-in-Some-clause-reads c =
+    let f = c.in-Some.ensures.found in
+    (c.in-Some.key.now, plain-string c.args.reader.now c.in-Some.key.now c.plain_string.new.self f.0 f.1, c.find.ensures)

@@ -1,0 +1,26 @@
+//! JSON texts read without a tree: values are lent from the text, and nothing of them is built.
+//!
+//! A reader of columns needs most values only once, to push them. `lend_row` checks a line as
+//! `json_tree::parse` does, and lends the value of each of the names. A string without escapes and a
+//! number are slices of the line; a string with escapes, an array and an object are read again when
+//! they are asked for. Only `EscapedString::to_text` takes memory.
+#![tactic(auto)]
+
+mod array;
+mod lent;
+mod members;
+mod names;
+mod numbers;
+mod rows;
+mod skip;
+mod strings;
+mod texts;
+mod values;
+
+pub use lent::{EscapedString, Lent, LentArray, LentObject};
+pub use members::lend_members;
+pub use names::are_distinct;
+pub use rows::lend_row;
+pub use skip::skip_value;
+pub use texts::check;
+pub use values::lend;

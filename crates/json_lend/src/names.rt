@@ -1,0 +1,127 @@
+//! Names of fields, among which keys are looked up.
+ghost use Rattle.std.specs.Prelude.{◌≡◌, ◌≢◌, ◌≤◌, length, true, IfErr};
+ghost use Rattle.std.specs.Str.{bytes_eq};
+ghost use Rattle.json_tree.specs.Layout.{meets, distinct};
+ghost use Rattle.json_tree.specs.Reading.{string_at};
+ghost use Rattle.json_lend.specs.Fields.{IsIndex, ReadsIndex};
+
+use crate::lent::EscapedString;
+use crate::strings::skip_escaped;
+use arrow_core::Text;
+use json_tree::JsonFault;
+use json_tree::reader::Reader;
+
+#[inline(always)]
+fn are_same(one: &str, other: &str) -> bool
+    ensures { result ≡ bytes_eq one.now other.now }
+{
+    one == other
+}
+
+// The index of a key among the names.
+#[inline(never)]
+fn scan(names: &[Text], key: &str) -> Option<usize>
+    ensures { IsIndex names.now key.now result }
+{
+    let mut i = 0;
+    while i < names.len() {
+        if are_same(names[i].as_str(), key) {
+            return Some(i);
+        }
+        i += 1;
+    }
+    None
+}
+
+// The index of a key among the names, which is first looked for at `guess`.
+#[inline(always)]
+fn find(names: &[Text], guess: usize, key: &str) -> Option<usize>
+    requires { distinct names.now ≡ true }
+    ensures { IsIndex names.now key.now result }
+{
+    if guess < names.len() && are_same(names[guess].as_str(), key) {
+        return Some(guess);
+    }
+    scan(names, key)
+}
+
+// Whether a key that has escapes is the name.
+fn is_name<'a>(key: &EscapedString<'a>, name: &str) -> bool
+    ensures { result ≡ bytes_eq name.now key.now }
+{
+    key.is(name)
+}
+
+// The index among the names of a key that has escapes.
+fn scan_escaped<'a>(names: &[Text], key: &EscapedString<'a>) -> Option<usize>
+    ensures { IsIndex names.now key.now result }
+{
+    let mut i = 0;
+    while i < names.len() {
+        if is_name(key, names[i].as_str()) {
+            return Some(i);
+        }
+        i += 1;
+    }
+    None
+}
+
+// Reads a key that has escapes, or that is no string, and tells its index among the names.
+#[cold]
+#[inline(never)]
+fn escaped_index<'a>(reader: &mut Reader<'a>, names: &[Text]) -> Result<Option<usize>, JsonFault>
+    ensures reads { ReadsIndex names.now result reader.new (string_at reader.old) }
+    ensures forward { length reader.new ≤ length reader.old }
+    ensures no_memory { IfErr result (λ e. e ≢ JsonFault.Memory) }
+{
+    let start = reader.again();
+    skip_escaped(reader)?;
+    let key = EscapedString { reader: start };
+    Ok(scan_escaped(names, &key))
+}
+
+/// Reads a key, and tells its index among the names. It is first looked for at `guess`.
+#[inline(always)]
+pub(crate) fn key_index<'a>(
+    reader: &mut Reader<'a>,
+    names: &[Text],
+    guess: usize,
+) -> Result<Option<usize>, JsonFault>
+    requires { distinct names.now ≡ true }
+    ensures reads { ReadsIndex names.now result reader.new (string_at reader.old) }
+    ensures forward { length reader.new ≤ length reader.old }
+    ensures no_memory { IfErr result (λ e. e ≢ JsonFault.Memory) }
+{
+    if let Some(key) = reader.plain_string() {
+        return Ok(find(names, guess, key));
+    }
+    escaped_index(reader, names)
+}
+
+// Whether the key is one of the names.
+fn has(names: &[Text], key: &str) -> bool
+    ensures { result ≡ meets key.now names.now }
+{
+    let mut rest = names;
+    while let Some((first, others)) = rest.split_first() {
+        if are_same(key, first.as_str()) {
+            return true;
+        }
+        rest = others;
+    }
+    false
+}
+
+/// Whether no name stands twice.
+pub fn are_distinct(names: &[Text]) -> bool
+    ensures { result ≡ distinct names.now }
+{
+    let mut rest = names;
+    while let Some((first, others)) = rest.split_first() {
+        if has(others, first.as_str()) {
+            return false;
+        }
+        rest = others;
+    }
+    true
+}

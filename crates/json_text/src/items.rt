@@ -1,0 +1,56 @@
+//! The texts of runs of items of one kind.
+ghost use Rattle.std.specs.Prelude.{◌≡◌, ◌-◌, ◌≤◌, ◌++◌, length, map, take, drop, OnOk};
+ghost use Rattle.arrow_array.specs.Parts.{IsPlain};
+ghost use Rattle.json_text.specs.Columns.{IsForm};
+ghost use Rattle.json_text.specs.JsonText.{text, joined};
+
+use crate::bytes::{Appended, push_comma, push_string_if};
+use crate::integers::{IntegerForm, push_integer_if};
+use arrow_array::{PrimitiveArray, Utf8Array};
+
+/// Appends the texts of the integers from `start` to `end`, of this form, with commas between them.
+pub(crate) fn push_integers(
+    out: &mut Vec<u8>,
+    array: &PrimitiveArray<i64>,
+    start: usize,
+    end: usize,
+    form: &IntegerForm,
+) -> Appended
+    requires order { start ≤ end }
+    requires within { end ≤ length array.now.slots }
+    requires form { IsForm form.now array.now.data_type }
+    ensures ok { OnOk result
+        (out.new.items
+        ≡ out.old.items
+        ++ joined (map (text array.now.data_type) (take (end - start) (drop start array.now.slots)))) }
+{
+    let _ = array.data_type();
+    for k in 0..end - start {
+        push_comma(out, k)?;
+        let i = start + k;
+        push_integer_if(out, form, array.is_valid(i), array.value(i))?;
+    }
+    Ok(())
+}
+
+/// The same of strings.
+pub(crate) fn push_strings(
+    out: &mut Vec<u8>,
+    array: &Utf8Array<i32>,
+    start: usize,
+    end: usize,
+) -> Appended
+    requires order { start ≤ end }
+    requires within { end ≤ length array.now.slots }
+    ensures ok { OnOk result
+        (out.new.items
+        ≡ out.old.items
+        ++ joined (map (text array.now.data_type) (take (end - start) (drop start array.now.slots)))) }
+{
+    for k in 0..end - start {
+        push_comma(out, k)?;
+        let i = start + k;
+        push_string_if(out, array.is_valid(i), array.value(i))?;
+    }
+    Ok(())
+}

@@ -1,0 +1,9 @@
+pub mod Adding
+pub mod Complete
+pub mod Continuing
+pub mod GivenLemmas
+pub mod LineLists
+pub mod Parsing
+pub mod RowLemmas
+pub mod Steps
+pub mod Values

@@ -1,0 +1,5 @@
+pub mod GivenRows
+pub mod Inference
+pub mod Laws
+pub mod Needed
+pub mod SoFar

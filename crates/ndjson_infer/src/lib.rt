@@ -1,0 +1,10 @@
+//! The type of JSON lines.
+#![tactic(auto)]
+
+mod laws;
+mod lines;
+mod rows;
+
+pub use laws::lines_in_any_order;
+pub use lines::infer;
+pub use rows::infer_iter;

@@ -1,0 +1,10 @@
+-- What was appended and what is left are the whole.
+use Rattle.std.proofs.Common.{◌≡◌, ◌++◌, drop, map}
+use Rattle.type_text.specs.Texts.{joined, member_text, type_text}
+use Rattle.type_text.proofs.Joins.{led}
+use Rattle.type_text.proofs.text.+texts.Given as goal
+
+abbrev pub invariant-push_members-loop-field : goal.invariant-push_members-loop-field
+invariant-push_members-loop-field l =
+    l.out.items ++ led l.before (map (λ f. member_text f.name (type_text f.data_type)) (drop l.field-index l.fields))
+    ≡ l.initial.out.items ++ joined (map (λ f. member_text f.name (type_text f.data_type)) l.fields)
