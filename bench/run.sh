@@ -1,5 +1,6 @@
 #!/bin/sh
-# Measures one of the folders beside this script: arrays, avro_write, block, builders, container, dates, json_tree, json_write or ndjson.
+# Measures one of the folders beside this script: arrays, avro_write, block, builders, container, dates, infer, json_tree,
+# json_write or ndjson.
 #     bench/run.sh NAME
 # `main.rattle` of the folder is a Rattle program over the crates that `crates` names (without it, avrocat itself is measured),
 # `plain.rs`, where there is one, the same in plain Rust, and `measure.py` runs both on the same input and prints what it found.
@@ -24,7 +25,13 @@ if test -e "$bench/$name/main.rattle"; then
 fi
 # The program does nothing on no words; what counts here is that it is built.
 (cd "$work/crates/$program" && rt run < /dev/null > /dev/null) || test -x "$work/crates/$program/out/$program"
-if test -e "$bench/$name/plain.rs"; then
+if test -e "$bench/$name/Cargo.toml"; then
+    # Crates of Debian's packages, without a network.
+    mkdir "$work/cargo"
+    cp "$bench/$name/Cargo.toml" "$bench/$name/plain.rs" "$work/cargo"
+    (cd "$work/cargo" && cargo build --quiet --release --offline --config 'source.crates-io.replace-with="debian"' --config 'source.debian.directory="/usr/share/cargo/registry"')
+    cp "$work/cargo/target/release/plain" "$work/plain"
+elif test -e "$bench/$name/plain.rs"; then
     rustc --edition 2021 -O -o "$work/plain" "$bench/$name/plain.rs"
 fi
 PYTHONPATH=$bench python3 -B "$bench/$name/measure.py" "$work"

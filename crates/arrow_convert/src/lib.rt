@@ -1,4 +1,4 @@
-//! Conversions of Avro files: into JSON lines, and into their canonical form.
+//! Conversions of Avro files: into JSON lines and back, and into their canonical form.
 #![tactic(auto)]
 
 mod laws;
@@ -6,3 +6,4 @@ mod laws;
 pub use avro_canonical::{avro_rewrite, rewriting_answers};
 pub use avro_ndjson::{avro_to_ndjson, conversion_answers};
 pub use laws::canonical_forms;
+pub use ndjson_avro::ndjson_to_avro;

@@ -15,7 +15,8 @@ use Rattle.avro_schema.specs.declared.schema.Record.{Record as TheRecord, out-Re
 use Rattle.avro_schema.specs.declared.schema.Schema.{Schema, Null, Boolean, Int, Long, Float, Double, Bytes, String, Enum, Fixed, Array, Array', Map', Union, Union', Record}
 use Rattle.avro_encode.specs.Plain.{parts_of, one_block, plain}
 use Rattle.avro_encode.specs.Pairs.{IsCounted, Pairs}
-use Rattle.avro_encode.specs.Listed.{IsBesideNull, index_of, plain_union_of, plain_fields_of, PairsUnionOf, PairsFieldsOf, slots_across}
+use Rattle.avro_encode.proofs.Groups.{index_is}
+use Rattle.avro_encode.specs.Listed.{IsBesideNull, index_byte, index_of, plain_union_of, plain_fields_of, PairsUnionOf, PairsFieldsOf, slots_across}
 use Rattle.avro_encode.proofs.PlainLaw.{parts_list, parts_struct}
 use Rattle.avro_encode.proofs.ByLists.{plain_array, plain_union_is, plain_record_is, pairs_array, pairs_union, pairs_record}
 use Rattle.std.specs.Prelude.{Bool, true, false, cond, if◌then◌else◌, IsTrue, map, min, ◌-◌, ◌⊎◌, pos}
@@ -138,15 +139,18 @@ beside_value_plain (s ∷ []) b m x h held = absurd h
 beside_value_plain (s ∷ u ∷ []) b m x h held = plain_value s u m b h x held
 beside_value_plain (s ∷ u ∷ v ∷ more) b m x h held = absurd h
 
--- the index of a null, and of a value, and what is appended after it
-pub null_appended : (members : List Schema) (b held : Bool) (m : Schema) (x : Slot) (old now : List ℕ) → IsBesideNull members b m → held ≡ is_held x → held ≡ false → now ≡ old ++ index_of b held → now ≡ old ++ plain_union_of members x
-null_appended members b held m x old now h same e f =
-    f ∙ ap (λ z. old ++ index_of b z) e ∙ ap (λ (z : List ℕ). old ++ z) (sym (beside_null_plain members b m x h (sym same ∙ e)))
+-- the index of a null, and of a value with what is appended after it
+pub null_appended : (members : List Schema) (b held : Bool) (m : Schema) (x : Slot) (old now : List ℕ) (byte : ℕ) → IsBesideNull members b m → held ≡ is_held x → held ≡ false → byte ≡ index_byte b held → now ≡ old ++ byte ∷ []
+    → now ≡ old ++ plain_union_of members x
+null_appended members b held m x old now byte h same e is f =
+    let index : byte ∷ [] ≡ index_of b false = ap (λ (n : ℕ). n ∷ []) is ∙ index_is b held ∙ ap (index_of b) e in
+    f ∙ ap (λ (z : List ℕ). old ++ z) (index ∙ sym (beside_null_plain members b m x h (sym same ∙ e)))
 
-pub value_appended : (members : List Schema) (b held : Bool) (m : Schema) (x : Slot) (old now next : List ℕ) → IsBesideNull members b m → held ≡ is_held x → held ≡ true → now ≡ old ++ index_of b held → next ≡ now ++ plain m x → next ≡ old ++ plain_union_of members x
-value_appended members b held m x old now next h same e f g =
-    g ∙ ap (λ (z : List ℕ). z ++ plain m x) (f ∙ ap (λ z. old ++ index_of b z) e) ∙ append_assoc old (index_of b true) (plain m x)
-    ∙ ap (λ (z : List ℕ). old ++ z) (sym (beside_value_plain members b m x h (sym same ∙ e)))
+pub value_appended : (members : List Schema) (b held : Bool) (m : Schema) (x : Slot) (old now : List ℕ) (byte : ℕ) → IsBesideNull members b m → held ≡ is_held x → held ≡ true → byte ≡ index_byte b held → now ≡ old ++ byte ∷ plain m x
+    → now ≡ old ++ plain_union_of members x
+value_appended members b held m x old now byte h same e is f =
+    let index : byte ∷ [] ≡ index_of b true = ap (λ (n : ℕ). n ∷ []) is ∙ index_is b held ∙ ap (index_of b) e in
+    f ∙ ap (λ (z : List ℕ). old ++ z) (ap (λ (z : List ℕ). z ++ plain m x) index ∙ sym (beside_value_plain members b m x h (sym same ∙ e)))
 
 -- ---- a list
 

@@ -1,10 +1,11 @@
 -- A number group by group.
-use Rattle.std.proofs.Common.{◌≡◌, ◌∙◌, ℕ, suc, ◌+◌, ◌/◌, ◌%◌, ◌^◌, ◌<◌, ◌≤◌, inl, inr, List, [], ◌∷◌, ◌++◌, Bool, true, false, sym, ap, append_assoc, arith}
+use Rattle.std.proofs.Common.{◌≡◌, ◌∙◌, ℕ, suc, ◌+◌, ◌/◌, ◌%◌, ◌^◌, ◌<◌, ◌≤◌, inl, inr, ◌*◌, List, [], ◌∷◌, ◌++◌, length, Bool, true, false, sym, ap, append_assoc, arith}
 use Rattle.std.proofs.lemmas.Bool.{cases_lt}
 use Rattle.std.specs.Prelude.{Result, Ok, Err, OnOk, is_ok, if◌then◌else◌}
 use Rattle.avro_container.specs.Shortest.{groups}
 use Rattle.avro_container.proofs.ShortestLemmas.{leads_on, ends}
 use Rattle.avro_encode.specs.Listed.{index_byte, index_of}
+use Rattle.avro_encode.specs.Plain.{counted}
 
 low : (u : ℕ) → u < 128 → u % 128 ≡ u
 low u h = grind (arith, h)
@@ -42,6 +43,11 @@ four_appended old now left u a b c d h ea eb ec ed e =
     ap (λ (z : List ℕ). z ++ groups left (u / 2 ^ 28)) e ∙ append_assoc old (a ∷ b ∷ c ∷ d ∷ []) (groups left (u / 2 ^ 28))
     ∙ ap (λ (z : List ℕ). old ++ z) (four_before left u a b c d h ea eb ec ed)
 
+pub five_groups : (u a b c d : ℕ) → 2 ^ 28 ≤ u → u < 2 ^ 35 → a ≡ 128 + u % 128 → b ≡ 128 + u / 128 % 128 → c ≡ 128 + u / 128 / 128 % 128 → d ≡ 128 + u / 128 / 128 / 128 % 128
+    → a ∷ b ∷ c ∷ d ∷ u / 2 ^ 28 ∷ [] ≡ groups 9 u
+five_groups u a b c d h l ea eb ec ed =
+    ap (λ (z : List ℕ). a ∷ b ∷ c ∷ d ∷ z) (one_group 5 (u / 2 ^ 28) (omega (arith, l))) ∙ four_before 5 u a b c d h ea eb ec ed
+
 -- ---- of a number of few groups it doesn't matter how many more there might be
 
 same_one : (j k u : ℕ) → u < 128 → groups j u ≡ groups k u
@@ -69,3 +75,15 @@ index_is true true = sym (ends 9 2 (omega arith))
 index_is true false = sym (ends 9 0 (omega arith))
 index_is false true = sym (ends 9 0 (omega arith))
 index_is false false = sym (ends 9 2 (omega arith))
+
+-- ---- what comes after a byte
+
+pub after_byte : (old first now more : List ℕ) (byte : ℕ) → first ≡ old ++ byte ∷ [] → now ≡ first ++ more → now ≡ old ++ byte ∷ more
+after_byte old first now more byte e f = f ∙ ap (λ (z : List ℕ). z ++ more) e ∙ append_assoc old (byte ∷ []) more
+
+-- the length of few bytes takes one byte
+pub few_after : (old first now bytes : List ℕ) (byte len : ℕ) → length bytes < 64 → len ≡ length bytes * 2 → first ≡ old ++ byte ∷ len ∷ [] → now ≡ first ++ bytes → now ≡ old ++ byte ∷ counted bytes
+few_after old first now bytes byte len h same e f =
+    let twice : len ≡ 2 * length bytes = omega (arith, same) in
+    let one : len ∷ [] ≡ groups 9 (2 * length bytes) = ap (λ (n : ℕ). n ∷ []) twice ∙ one_group 9 (2 * length bytes) (omega (arith, h)) in
+    f ∙ ap (λ (z : List ℕ). z ++ bytes) e ∙ append_assoc old (byte ∷ len ∷ []) bytes ∙ ap (λ (z : List ℕ). old ++ byte ∷ (z ++ bytes)) one

@@ -1,5 +1,5 @@
 //! Slots of any array.
-ghost use Rattle.std.specs.Prelude.{◌≡◌, ◌+◌, ◌<◌, ◌++◌, length, map, OnOk};
+ghost use Rattle.std.specs.Prelude.{◌≡◌, ◌+◌, ◌<◌, ◌++◌, ◌∷◌, length, map, OnOk};
 ghost use Rattle.std.specs.List.{AllByRecursion};
 ghost use Rattle.arrow_types.specs.declared.slot.Slot.TheVariants as slot;
 ghost use Rattle.arrow_array.specs.Arrays.{array_slots, array_type};
@@ -11,13 +11,13 @@ ghost use Rattle.arrow_array.specs.Structs.{HaveSlots};
 ghost use Rattle.avro_grammar.specs.Carried.{IsNoUnion};
 ghost use Rattle.avro_grammar.specs.Encodes.{is_null as is_null_schema};
 ghost use Rattle.avro_encode.specs.Flat.{HasNoParts, IsListKind, IsStructKind};
-ghost use Rattle.avro_encode.specs.Listed.{PairsFieldsOf, PairsMemberTypeOf, PairsTypesOf, PairsUnionOf, IsBesideNull, index_byte, index_of, plain_fields_of, plain_union_of, slots_across};
+ghost use Rattle.avro_encode.specs.Listed.{PairsFieldsOf, PairsMemberTypeOf, PairsTypesOf, PairsUnionOf, IsBesideNull, index_byte, plain_fields_of, plain_union_of, slots_across};
 ghost use Rattle.avro_encode.specs.Pairs.{IsCounted, Pairs};
 ghost use Rattle.avro_encode.specs.PairTypes.{PairsType};
 ghost use Rattle.avro_encode.specs.Plain.{one_block, parts_of, plain};
 ghost use Rattle.avro_encode.specs.Steps.{PairsList, PairsStruct};
 
-use crate::flat::append_flat;
+use crate::flat::{append_flat, append_flat_after};
 use crate::numbers::append_number;
 use arrow_array::{Array, Part};
 use avro_schema::{AvroField, AvroSchema};
@@ -59,16 +59,6 @@ fn index_byte(null_first: bool, held: bool) -> u8
     } else {
         2
     }
-}
-
-/// Appends the index at which null stands, or that of a value's member beside it. Each takes one
-/// byte. `AllocError` alone.
-#[inline(always)]
-fn append_index(null_first: bool, held: bool, out: &mut Vec<u8>) -> Result<(), AllocError>
-    ensures ok { OnOk result (out.new.items ≡ out.old.items ++ index_of null_first held) }
-{
-    out.push(index_byte(null_first, held))?;
-    Ok(())
 }
 
 /// Appends the canonical encoding of slot `i` of an array whose type pairs with the schema, where
@@ -114,11 +104,40 @@ fn append_member(
 {
     let (null_first, member) = beside_null(members);
     let held = array.is_valid(i);
-    append_index(null_first, held, out)?;
+    let index = index_byte(null_first, held);
     if !held {
+        out.push(index)?;
         return Ok(());
     }
-    append_value(array, i, member, out)
+    append_value_after(index, array, i, member, out)
+}
+
+/// Appends a byte, and then a slot that isn't null, under a schema that is no union.
+#[cycle(append)]
+#[inline(always)]
+fn append_value_after(
+    byte: u8,
+    array: &Array,
+    i: usize,
+    schema: &AvroSchema,
+    out: &mut Vec<u8>,
+) -> Result<(), AllocError>
+    requires within { i < length (array_slots array.now) }
+    requires no_union { IsNoUnion schema.now }
+    requires types { PairsType schema.now (array_type array.now) }
+    requires slots { Pairs schema.now (slot_at (array_slots array.now) i) }
+    ensures ok { OnOk result (out.new.items
+        ≡ out.old.items ++ byte ∷ plain schema.now (slot_at (array_slots array.now) i)) }
+{
+    // It tells how slots of the type lie in memory.
+    let _ = array.data_type();
+    match schema {
+        AvroSchema::Array(_) | AvroSchema::Record(_) => {
+            out.push(byte)?;
+            append_value(array, i, schema, out)
+        }
+        _ => append_plain_after(byte, array, i, schema, out),
+    }
 }
 
 /// Appends a slot that isn't null, under a schema that is no union.
@@ -163,6 +182,26 @@ fn append_plain(
         ≡ out.old.items ++ plain schema.now (slot_at (array_slots array.now) i)) }
 {
     append_flat(array, i, out)
+}
+
+/// Appends a byte, and then a slot that isn't null, under a schema without others in it.
+#[inline(always)]
+fn append_plain_after(
+    byte: u8,
+    array: &Array,
+    i: usize,
+    schema: &AvroSchema,
+    out: &mut Vec<u8>,
+) -> Result<(), AllocError>
+    requires within { i < length (array_slots array.now) }
+    requires flat { HasNoParts schema.now }
+    requires kind { IsOfKind (array_kind array.now) (array_type array.now) }
+    requires types { PairsType schema.now (array_type array.now) }
+    requires slots { Pairs schema.now (slot_at (array_slots array.now) i) }
+    ensures ok { OnOk result (out.new.items
+        ≡ out.old.items ++ byte ∷ plain schema.now (slot_at (array_slots array.now) i)) }
+{
+    append_flat_after(byte, array, i, out)
 }
 
 /// Appends a list.

@@ -9,7 +9,7 @@ ghost use Rattle.avro_encode.specs.Plain.{parts_of, plain_duration};
 
 use crate::decimal::append_decimal;
 use crate::duration::append_duration;
-use crate::numbers::{append_bytes, append_counted, append_number};
+use crate::numbers::{append_bytes, append_counted, append_counted_after, append_number};
 use arrow_array::{Array, PrimitiveArray};
 use arrow_types::MonthsDaysNs;
 use std::alloc::AllocError;
@@ -60,5 +60,33 @@ pub(crate) fn append_flat(array: &Array, i: usize, out: &mut Vec<u8>) -> Result<
         Array::LargeBinary(array) => append_counted(array.value(i), out),
         Array::FixedSizeBinary(array) => append_bytes(array.value(i), out),
         _ => unreachable!(),
+    }
+}
+
+/// Appends a byte, and then slot `i` of the array, which isn't null, by the array's kind alone.
+/// `AllocError` alone.
+#[inline(always)]
+pub(crate) fn append_flat_after(
+    byte: u8,
+    array: &Array,
+    i: usize,
+    out: &mut Vec<u8>,
+) -> Result<(), AllocError>
+    requires within { i < length (array_slots array.now) }
+    requires held { IsTrue (is_held (slot_at (array_slots array.now) i)) }
+    requires kind { IsFlatKind (array_kind array.now) }
+    requires fits { FitsFlat (array_kind array.now) (slot_at (array_slots array.now) i) }
+    ensures ok { OnOk result (out.new.items
+        ≡ out.old.items ++ byte ∷ flat_plain (array_kind array.now) (slot_at (array_slots array.now) i)) }
+{
+    match array {
+        Array::Utf8(array) => append_counted_after(byte, array.value(i).as_bytes(), out),
+        Array::LargeUtf8(array) => append_counted_after(byte, array.value(i).as_bytes(), out),
+        Array::Binary(array) => append_counted_after(byte, array.value(i), out),
+        Array::LargeBinary(array) => append_counted_after(byte, array.value(i), out),
+        _ => {
+            out.push(byte)?;
+            append_flat(array, i, out)
+        }
     }
 }

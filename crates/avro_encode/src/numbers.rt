@@ -1,5 +1,5 @@
 //! Numbers, and bytes after their length (Avro 1.11, "Primitive Types").
-ghost use Rattle.std.specs.Prelude.{◌≡◌, ℕ, ◌+◌, ◌/◌, ◌%◌, ◌<◌, ◌≤◌, ◌++◌, ◌^◌, length, OnOk};
+ghost use Rattle.std.specs.Prelude.{◌≡◌, ℕ, ◌+◌, ◌/◌, ◌%◌, ◌<◌, ◌≤◌, ◌++◌, ◌∷◌, ◌^◌, length, OnOk};
 ghost use Rattle.avro_container.specs.Shortest.{groups, shortest, zigzagged as zigzagged_of};
 ghost use Rattle.avro_encode.specs.Plain.{counted};
 
@@ -75,6 +75,26 @@ fn append_low_groups(number: u64, out: &mut Vec<u8>) -> Result<(), AllocError>
     out.extend_from_slice(&groups)
 }
 
+/// Appends the groups of a number that has five. `AllocError` alone.
+#[inline(always)]
+fn append_five_groups(number: u64, out: &mut Vec<u8>) -> Result<(), AllocError>
+    requires more { 2 ^ 28 ≤ number }
+    requires few { number < 2 ^ 35 }
+    ensures ok { OnOk result (out.new.items ≡ out.old.items ++ groups 9 number) }
+{
+    let second = number / 128;
+    let third = second / 128;
+    let fourth = third / 128;
+    let groups = [
+        low_group(number),
+        low_group(second),
+        low_group(third),
+        low_group(fourth),
+        (number / (1 << 28)) as u8,
+    ];
+    out.extend_from_slice(&groups)
+}
+
 /// Appends the groups of seven bits of a number, the low ones first. `AllocError` alone.
 #[inline(always)]
 fn append_groups(number: u64, out: &mut Vec<u8>) -> Result<(), AllocError>
@@ -82,6 +102,9 @@ fn append_groups(number: u64, out: &mut Vec<u8>) -> Result<(), AllocError>
 {
     if number < 1 << 28 {
         return append_few_groups(number, out);
+    }
+    if number < 1 << 35 {
+        return append_five_groups(number, out);
     }
     append_low_groups(number, out)?;
     let rest = number / (1 << 28);
@@ -109,4 +132,23 @@ pub(crate) fn append_counted(bytes: &[u8], out: &mut Vec<u8>) -> Result<(), Allo
 {
     append_number(bytes.len() as i64, out)?;
     append_bytes(bytes, out)
+}
+
+/// Appends a byte, and then bytes after their length. `AllocError` alone.
+// The byte and the length of few bytes are appended at once.
+#[inline(always)]
+pub(crate) fn append_counted_after(
+    byte: u8,
+    bytes: &[u8],
+    out: &mut Vec<u8>,
+) -> Result<(), AllocError>
+    requires { length bytes.now < 2 ^ 63 }
+    ensures ok { OnOk result (out.new.items ≡ out.old.items ++ byte ∷ counted bytes.now) }
+{
+    if bytes.len() < 64 {
+        out.extend_from_slice(&[byte, (bytes.len() * 2) as u8])?;
+        return append_bytes(bytes, out);
+    }
+    out.push(byte)?;
+    append_counted(bytes, out)
 }

@@ -9,7 +9,7 @@ use Rattle.arrow_core.specs.Errors.{status_of}
 use Rattle.avro_grammar.proofs.RowLaws.{rows_have, rows_exclude}
 use Rattle.command_words.specs.declared.command.BlockWords.{BlockWords}
 use Rattle.command_words.specs.declared.command.Command.{Command}
-use Rattle.command_words.specs.declared.command.Command.TheVariants.{Block, Ndjson, Make, Rewrite}
+use Rattle.command_words.specs.declared.command.Command.TheVariants.{Block, Ndjson, Make, Infer, Avro, Rewrite}
 use Rattle.avrocat.specs.Blocks.{IsValid}
 use Rattle.avro_blocks.specs.Changes.{Change, Failed}
 use Rattle.avrocat.specs.Commands.{Done, Fails, CanBeDone, Due, Refused}
@@ -20,7 +20,9 @@ use Rattle.avrocat.specs.Input.{byte_limit, TakesAll, PassesLimit, Tells, TellsT
 use Rattle.avrocat.specs.Note.{error_note, Notes}
 use Rattle.avrocat.specs.Refusals.{IsWrong, BlockCannotBeShown, BlockCommandFails, BlockCanBeShown, BlockDue}
 use Rattle.avrocat.proofs.NdjsonEndings.{tells_one, ndjson_due_once, ndjson_never_due, ndjson_fails_in_memory, ndjson_fails_as_due, ndjson_done_not_due}
+use Rattle.avrocat.proofs.InferEndings.{infer_due_once, infer_never_due, infer_fails_in_memory, infer_fails_as_due, infer_done_not_due}
 use Rattle.command_words.proofs.OneMeaning.{one_command}
+use Rattle.avrocat.proofs.AvroEndings.{avro_due_once, avro_never_due, avro_fails_in_memory, avro_fails_as_due, avro_done_not_due}
 use Rattle.avrocat.proofs.RewriteEndings.{rewrite_due_once, rewrite_never_due, rewrite_fails_in_memory, rewrite_fails_as_due, rewrite_done_not_due}
 
 pub keeps_same : (told : Option (List ℕ)) → Keeps told told
@@ -154,6 +156,8 @@ pub one_due : (command : Command) (source : Change) (one other : Error) → Due 
 one_due (Block block) source one other h d = one_because block source one other (because block source one h) (because block source other d)
 one_due (Ndjson numbers) source one other h d = ndjson_due_once numbers source one other h d
 one_due (Make make) source one other h d = absurd h
+one_due Infer source one other h d = infer_due_once source one other h d
+one_due (Avro avro) source one other h d = avro_due_once avro one other h d
 one_due (Rewrite rewrite) source one other h d = rewrite_due_once source one other h d
 
 right_because : (block : BlockWords) (source : Change) (e : Error) → BlockCanBeShown block source → Because block source e → ⊥
@@ -165,6 +169,8 @@ pub none_due : (command : Command) (source : Change) (e : Error) → CanBeDone c
 none_due (Block block) source e can h = right_because block source e can (because block source e h)
 none_due (Ndjson numbers) source e can h = ndjson_never_due numbers source e can h
 none_due (Make make) source e can h = h
+none_due Infer source e can h = infer_never_due source e can h
+none_due (Avro avro) source e can h = avro_never_due avro source e can h
 none_due (Rewrite rewrite) source e can h = rewrite_never_due source e can h
 
 -- ---- how a block ends, against what is due
@@ -246,6 +252,8 @@ fails_in_memory (Block block) source sink e can open_ended h = from (ending bloc
     from (inr broken) = absurd (open_ended broken.0)
 fails_in_memory (Ndjson numbers) source sink e can open_ended h = ndjson_fails_in_memory numbers source sink e can open_ended h
 fails_in_memory (Make make) source sink e can open_ended h = make_fails_in_memory make sink e open_ended h.1
+fails_in_memory Infer source sink e can open_ended h = infer_fails_in_memory source sink e can open_ended h
+fails_in_memory (Avro avro) source sink e can open_ended h = avro_fails_in_memory avro source sink e can open_ended h
 fails_in_memory (Rewrite rewrite) source sink e can open_ended h = rewrite_fails_in_memory rewrite source sink e can open_ended h
 
 fails_as_due : (command : Command) (source sink : Change) (e due : Error) → Due command source due → Fails command source sink e → (e ≡ OutOfMemory) ⊎ (e ≡ due)
@@ -257,6 +265,8 @@ fails_as_due (Block block) source sink e due h fails = from (ending block source
     from (inr broken) = absurd (none_due (Block block) source due broken.1 h)
 fails_as_due (Ndjson numbers) source sink e due h fails = ndjson_fails_as_due numbers source sink e due h fails
 fails_as_due (Make make) source sink e due h fails = absurd h
+fails_as_due Infer source sink e due h fails = infer_fails_as_due source sink e due h fails
+fails_as_due (Avro avro) source sink e due h fails = avro_fails_as_due avro source sink e due h fails
 fails_as_due (Rewrite rewrite) source sink e due h fails = rewrite_fails_as_due rewrite source sink e due h fails
 
 done_not_due : (command : Command) (source sink : Change) (due : Error) → Due command source due → Done command source sink → ⊥
@@ -264,6 +274,8 @@ done_not_due (Block block) source sink due h done =
     none_due (Block block) source due (told_right block source done.bytes (steady_because block source due (because block source due h)) done.read done.shows.valid) h
 done_not_due (Ndjson numbers) source sink due h done = ndjson_done_not_due numbers source sink due h done
 done_not_due (Make make) source sink due h done = h
+done_not_due Infer source sink due h done = infer_done_not_due source sink due h done
+done_not_due (Avro avro) source sink due h done = avro_done_not_due avro source sink due h done
 done_not_due (Rewrite rewrite) source sink due h done = rewrite_done_not_due rewrite source sink due h done
 
 status_above : (e : Error) → 1 < status_of e

@@ -1,6 +1,9 @@
+pub mod AvroEndings
 pub mod BlockLemmas
 pub mod ColumnLemmas
 pub mod Endings
+pub mod InferAnswers
+pub mod InferEndings
 pub mod Joined
 pub mod KeepWords
 pub mod MakeEndings

@@ -5,9 +5,11 @@ use Rattle.arrow_core.specs.declared.error.Error.{Error}
 use Rattle.arrow_core.specs.declared.error.Error.TheVariants.{OutOfMemory}
 use Rattle.arrow_core.specs.Errors.{status_of}
 use Rattle.command_words.specs.declared.command.Command.{Command}
-use Rattle.command_words.specs.declared.command.Command.TheVariants.{Block, Ndjson, Make, Rewrite}
+use Rattle.command_words.specs.declared.command.Command.TheVariants.{Block, Ndjson, Make, Infer, Avro, Rewrite}
+use Rattle.avrocat.specs.Avro.{AvroDone, AvroFails, HasRows, AvroDue}
 use Rattle.avrocat.specs.Blocks.{BlockDone}
 use Rattle.avro_blocks.specs.Changes.{Change}
+use Rattle.avrocat.specs.Infer.{InferDone, InferFails, HasType, InferDue}
 use Rattle.avrocat.specs.Make.{MakeDone, MakeFails}
 use Rattle.avrocat.specs.Ndjson.{NdjsonDone, NdjsonFails, HasLines, NdjsonDue}
 use Rattle.avrocat.specs.Note.{error_note, Notes}
@@ -20,6 +22,8 @@ abbrev pub Done : Command → Change → Change → Type 0
 Done (Block block) source sink = BlockDone block source sink
 Done (Ndjson numbers) source sink = NdjsonDone numbers source sink
 Done (Make make) source sink = Keeps source.bytes source.bytes_after × MakeDone make sink
+Done Infer source sink = InferDone source sink
+Done (Avro avro) source sink = AvroDone avro source sink
 Done (Rewrite rewrite) source sink = RewriteDone rewrite source sink
 
 -- why the command fails by this error
@@ -27,6 +31,8 @@ abbrev pub Fails : Command → Change → Change → Error → Type 0
 Fails (Block block) source sink e = BlockCommandFails block source sink e
 Fails (Ndjson numbers) source sink e = NdjsonFails numbers source sink e
 Fails (Make make) source sink e = Keeps source.bytes source.bytes_after × MakeFails make sink e
+Fails Infer source sink e = InferFails source sink e
+Fails (Avro avro) source sink e = AvroFails avro source sink e
 Fails (Rewrite rewrite) source sink e = RewriteFails rewrite source sink e
 
 -- The command is done wherever there is memory and the sink doesn't fail: the source doesn't fail, and
@@ -35,14 +41,18 @@ abbrev pub CanBeDone : Command → Change → Type 0
 CanBeDone (Block block) source = BlockCanBeShown block source
 CanBeDone (Ndjson numbers) source = HasLines numbers source
 CanBeDone (Make make) source = ⊤
+CanBeDone Infer source = HasType source
+CanBeDone (Avro avro) source = HasRows avro source
 CanBeDone (Rewrite rewrite) source = CanBeRewritten source
 
 -- The command fails by this error wherever there is memory: the source doesn't fail, and tells what
--- the error is due to.
+-- the error is due to (of `avro` the fields alone tell it).
 abbrev pub Due : Command → Change → Error → Type 0
 Due (Block block) source e = BlockDue block source e
 Due (Ndjson numbers) source e = NdjsonDue numbers source e
 Due (Make make) source e = ⊥
+Due Infer source e = InferDue source e
+Due (Avro avro) source e = AvroDue avro e
 Due (Rewrite rewrite) source e = RewriteDue source e
 
 -- the words stand for a command that fails by this error, or there is no memory for what they say

@@ -1,5 +1,7 @@
+pub mod Avro
 pub mod Blocks
 pub mod Commands
+pub mod Infer
 pub mod Input
 pub mod Make
 pub mod Ndjson

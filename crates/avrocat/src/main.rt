@@ -1,5 +1,5 @@
-//! `avrocat`: Avro from standard input, as lines on standard output: the columns of one block, or the
-//! rows of a file as JSON.
+//! `avrocat`: Avro blocks and files as lines, files in their canonical form, JSON lines as Avro
+//! files, and the type of JSON lines.
 #![tactic(auto)]
 
 ghost use Rattle.std.specs.Prelude.{◌≡◌, [], length, map, drop, string_bytes, IfOk, IfErr, IsErr};
@@ -7,8 +7,14 @@ ghost use Rattle.std.specs.IoError.{error_kind};
 ghost use Rattle.std.specs.Vec.Iter.{into_iter_items, into_iter_len};
 ghost use Rattle.std.specs.declared.io.ErrorKind.TheVariants.{OutOfMemory};
 
+mod avro;
+#[cfg(test)]
+mod avro_tests;
 mod block;
 mod columns;
+mod infer;
+#[cfg(test)]
+mod infer_tests;
 mod input;
 mod laws;
 mod lines;

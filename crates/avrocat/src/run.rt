@@ -9,7 +9,9 @@ ghost use Rattle.avrocat.specs.Commands.{Done, Fails, CanBeDone, Due, Refused};
 ghost use Rattle.command_words.specs.Stands.{Stands, IsUsage};
 ghost use Rattle.avrocat.specs.Note.{usage_note, error_note, Notes};
 
+use crate::avro::run_avro;
 use crate::block::run_block;
+use crate::infer::run_infer;
 use crate::make::run_make;
 use crate::ndjson::run_ndjson;
 use crate::note::{note_error, note_usage};
@@ -26,9 +28,10 @@ const USAGE: u8 = 1;
 ///
 /// The status is 0 where the command was done, 1 where the words stand for no command, and else
 /// that of the error by which it failed. Of a source that tells its bytes and doesn't fail: where
-/// the command can be done on these bytes the status is 0, unless the sink fails; a wrong block, and
-/// a file whose record's fields can't be shown, has the status of its error. `ndjson` writes block
-/// by block, so 9, of a failed write, may come before a later wrong block. 10, out of memory, may
+/// the command can be done on these bytes the status is 0, unless the sink fails; a wrong block, a
+/// file whose record's fields can't be shown or rewritten, fields whose rows can't be written, and
+/// no bytes to infer a type of, have the status of their error. `ndjson`, `rewrite` and `avro` write
+/// block by block, so 9, of a failed write, may come before a later fault. 10, out of memory, may
 /// come at any time instead. With status 1 nothing is read or written. With any status
 /// but 0 the note gets one line that names the fault; a note that fails holds a prefix of it and
 /// changes no status.
@@ -96,6 +99,8 @@ fn run_command<S: Source, K: Sink>(
         Command::Block(block) => run_block(alloc, block, source, sink),
         Command::Ndjson(numbers) => run_ndjson(alloc, numbers, source, sink),
         Command::Make(make) => run_make(alloc, make, sink),
+        Command::Infer => run_infer(alloc, source, sink),
+        Command::Avro(avro) => run_avro(alloc, avro, source, sink),
         Command::Rewrite(rewrite) => run_rewrite(alloc, rewrite, source, sink),
     }
 }

@@ -65,8 +65,13 @@ pub(crate) fn answer_of(
 }
 
 pub(crate) fn is_answer(answer: Answer, status: u8, output: &str, note: &str) -> bool {
+    has_ended(answer, status, output.as_bytes(), note)
+}
+
+/// Whether a command ended with this status, these bytes and this note.
+pub(crate) fn has_ended(answer: Answer, status: u8, output: &[u8], note: &str) -> bool {
     answer.status == status
-        && answer.output.held() == output.as_bytes()
+        && answer.output.held() == output
         && answer.note.held() == note.as_bytes()
 }
 

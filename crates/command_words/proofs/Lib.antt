@@ -1,4 +1,4 @@
+pub mod EachWord
 pub mod Numerals
-pub mod NumberWords
 pub mod OneMeaning
 pub mod WordsLemmas

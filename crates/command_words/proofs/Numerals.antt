@@ -1,23 +1,11 @@
--- Words that are numbers in decimal, and markers in hexadecimal digits.
-use Rattle.std.proofs.Common.{◌≡◌, ◌∙◌, ℕ, ◌<◌, ◌≤◌, ◌^◌, Bool, true, false, List, [], ◌∷◌, length, drop, cond, decimal, refl, sym, ap, subst, arith}
+-- Markers in hexadecimal digits.
+use Rattle.std.proofs.Common.{◌≡◌, ℕ, ◌<◌, ◌^◌, Bool, true, false, List, [], ◌∷◌, drop, cond, refl, sym, ap, subst, arith}
 use Rattle.std.specs.Bool.{◌==◌}
 use Rattle.std.specs.Char.{digit_value}
 use Rattle.std.specs.Str.Parse.{IsNumeral, digits_value, without_leading_plus}
 use Rattle.std.proofs.lemmas.Bool.Decides.{nat_tests}
-use Rattle.std.proofs.lemmas.Fmt.{decimal_is_IsNumeral, length-decimal-le}
 use Rattle.std.proofs.lemmas.Int.Digits.{digits_value-lt}
-use Rattle.field_words.specs.Names.{IsRows}
 use Rattle.command_words.specs.Words.{IsMarker}
-
--- a number's decimal text is a word of rows
-pub decimal_is_rows : (word : List ℕ) (n : ℕ) → n < 2 ^ 64 → word ≡ decimal n → IsRows word n
-decimal_is_rows word n small is =
-    subst (λ z. IsRows z n) (sym is)
-    ((decimal_is_IsNumeral n small).0, length-decimal-le 20 n (omega arith) (omega (arith, small)) small, omega (arith, small), sym (decimal_is_IsNumeral n small).1)
-
--- and of that number alone
-pub same_number : (word : List ℕ) (n number : ℕ) → n < 2 ^ 64 → word ≡ decimal n → IsRows word number → number ≡ n
-same_number word n number small is rows = rows.3 ∙ ap (digits_value 10) is ∙ (decimal_is_IsNumeral n small).1
 
 -- a plus sign is no digit
 no_plus : (digits : List ℕ) → IsNumeral 16 digits → without_leading_plus digits ≡ digits

@@ -1,20 +1,21 @@
 -- Words stand for one command at most.
-use Rattle.std.proofs.Common.{◌≡◌, ℕ, suc, ◌<◌, ◌^◌, Bool, false, true, List, [], ◌∷◌, length, drop, decimal, refl, sym, ap, subst, ◌∙◌, arith}
+use Rattle.std.proofs.Common.{◌≡◌, ℕ, suc, ◌<◌, Bool, false, true, List, [], ◌∷◌, length, drop, refl, sym, ap, subst, ◌∙◌}
 use Rattle.std.specs.Int.{w128, to_be_bytes}
 use Rattle.std.specs.Str.Parse.{digits_value}
-use Rattle.std.proofs.lemmas.Fmt.{decimal_is_IsNumeral}
 use Rattle.avro_schema.specs.declared.schema.AvroField.{AvroField}
-use Rattle.field_words.specs.Names.{IsRows}
+use Rattle.field_words.specs.Fields.{IsField}
+use Rattle.field_words.specs.Names.{IsNumber, IsRows}
 use Rattle.field_words.proofs.OneMeaning.{one_field}
+use Rattle.command_words.specs.declared.command.AvroWords.{AvroWords}
 use Rattle.command_words.specs.declared.command.BlockWords.{BlockWords}
 use Rattle.command_words.specs.declared.command.Command.{Command}
-use Rattle.command_words.specs.declared.command.Command.TheVariants.{Block, Ndjson, Make, Rewrite}
+use Rattle.command_words.specs.declared.command.Command.TheVariants.{Block, Ndjson, Make, Infer, Avro, Rewrite}
 use Rattle.command_words.specs.declared.command.RewriteWords.{RewriteWords}
 use Rattle.command_words.specs.declared.command.MakeWords.{MakeWords}
 use Rattle.command_words.specs.Stands.{Stands}
-use Rattle.command_words.specs.Words.{AreFields, AreMakeWords, AreRewriteWords, IsRest, block_word, command_word, AreRest}
-use Rattle.command_words.proofs.NumberWords.{one_numbers}
-use Rattle.command_words.proofs.WordsLemmas.{words_head, block_isnt_ndjson, block_isnt_make, block_isnt_rewrite}
+use Rattle.command_words.specs.Words.{AreAvroWords, AreFields, AreKeptFields, AreMakeWords, AreRewriteWords, IsMarker, IsRest, block_word, command_word, AreRest}
+use Rattle.command_words.proofs.EachWord.{one_list}
+use Rattle.command_words.proofs.WordsLemmas.{words_head, block_isnt_ndjson, block_isnt_make, block_isnt_infer, block_isnt_avro, block_isnt_rewrite}
 
 one_fields : (words : List (List ℕ)) (ks ls : List Bool) (fs gs : List AvroField) → AreFields words ks fs → AreFields words ls gs → (ks ≡ ls) × (fs ≡ gs)
 one_fields [] [] [] [] [] h d = (refl, refl)
@@ -51,39 +52,76 @@ one_block rest block other words h d =
     let large = same_word block.large other.large words in
     λ i. record { rows = rows i; avro_fields = same.1 i; projection = same.0 i; large = large i }
 
--- a number below 2^64 is that of its decimal digits
-same_decimal : (a b : ℕ) → a < 2 ^ 64 → b < 2 ^ 64 → decimal a ≡ decimal b → a ≡ b
-same_decimal a b small low e = sym (decimal_is_IsNumeral a small).1 ∙ ap (digits_value 10) e ∙ (decimal_is_IsNumeral b low).1
+-- a word is one number at most
+one_number : (most greatest : ℕ) (word other : List ℕ) (a b : ℕ) → word ≡ other → IsNumber most greatest word a → IsNumber most greatest other b → a ≡ b
+one_number most greatest word other a b same h d = h.3 ∙ ap (digits_value 10) same ∙ sym d.3
 
 one_make : (rest : List (List ℕ)) (make other : MakeWords) → AreMakeWords rest make → AreMakeWords rest other → make ≡ other
 one_make rest make other h d =
-    let start = same_decimal make.start other.start (omega (arith, h.start)) (omega (arith, d.start)) (ap (words_head []) (sym h.are ∙ d.are)) in
-    let rows = same_decimal make.rows other.rows (omega (arith, h.rows)) (omega (arith, d.rows)) (ap (λ z. words_head [] (drop 1 z)) (sym h.are ∙ d.are)) in
+    let start = one_number 20 2147483647 h.start_word d.start_word make.start other.start (ap (words_head []) (sym h.are ∙ d.are)) h.start d.start in
+    let rows = one_number 20 1000000 h.rows_word d.rows_word make.rows other.rows (ap (λ z. words_head [] (drop 1 z)) (sym h.are ∙ d.are)) h.rows d.rows in
     λ i. record { start = start i; rows = rows i }
+
+-- digits are those of one marker
+one_marker : (digits other marker another : List ℕ) → digits ≡ other → IsMarker digits marker → IsMarker other another → marker ≡ another
+one_marker digits other marker another same h d = h.bytes ∙ ap (λ z. to_be_bytes w128 (digits_value 16 z)) same ∙ sym d.bytes
+
+-- words name one list of kept fields at most
+one_kept : (words others : List (List ℕ)) (fs gs : List AvroField) → words ≡ others → AreKeptFields words fs → AreKeptFields others gs → fs ≡ gs
+one_kept words others fs gs same h d =
+    one_list (λ word field. IsField word true field) (λ word f g x y. (one_field word true true f g x y).1) others fs gs (subst (λ z. AreKeptFields z fs) same h) d
+
+one_avro : (rest : List (List ℕ)) (avro other : AvroWords) → AreAvroWords rest avro → AreAvroWords rest other → avro ≡ other
+one_avro rest avro other h d =
+    let same = sym h.are ∙ d.are in
+    let name : avro.name ≡ other.name = ap (words_head []) same in
+    let rows_per_block = one_number 20 18446744073709551615 h.rows_word d.rows_word avro.rows_per_block other.rows_per_block (ap (λ z. words_head [] (drop 1 z)) same) h.rows d.rows in
+    let marker = one_marker h.digits d.digits avro.marker other.marker (ap (λ z. words_head [] (drop 2 z)) same) h.marker d.marker in
+    let avro_fields = one_kept h.field_words d.field_words avro.avro_fields other.avro_fields (ap (drop 3) same) h.fields d.fields in
+    λ i. record { name = name i; rows_per_block = rows_per_block i; marker = marker i; avro_fields = avro_fields i }
 
 one_rewrite : (rest : List (List ℕ)) (rewrite other : RewriteWords) → AreRewriteWords rest rewrite → AreRewriteWords rest other → rewrite ≡ other
 one_rewrite rest rewrite other h d =
     let name : rewrite.name ≡ other.name = ap (words_head []) (sym h.are ∙ d.are) in
-    let digits : h.digits ≡ d.digits = ap (λ z. words_head [] (drop 1 z)) (sym h.are ∙ d.are) in
-    let marker : rewrite.marker ≡ other.marker = h.marker.bytes ∙ ap (λ z. to_be_bytes w128 (digits_value 16 z)) digits ∙ sym d.marker.bytes in
+    let marker = one_marker h.digits d.digits rewrite.marker other.marker (ap (λ z. words_head [] (drop 1 z)) (sym h.are ∙ d.are)) h.marker d.marker in
     λ i. record { name = name i; marker = marker i }
 
 one_rest : (rest : List (List ℕ)) (one other : Command) → command_word one ≡ command_word other → AreRest rest one → AreRest rest other → one ≡ other
 one_rest rest (Block block) (Block other) words h d = ap Block (one_block rest block other words h d)
 one_rest rest (Block block) (Ndjson numbers) words h d = absurd (block_isnt_ndjson block.large words)
 one_rest rest (Block block) (Make make) words h d = absurd (block_isnt_make block.large words)
+one_rest rest (Block block) Infer words h d = absurd (block_isnt_infer block.large words)
+one_rest rest (Block block) (Avro avro) words h d = absurd (block_isnt_avro block.large words)
 one_rest rest (Block block) (Rewrite rewrite) words h d = absurd (block_isnt_rewrite block.large words)
 one_rest rest (Ndjson numbers) (Block block) words h d = absurd (block_isnt_ndjson block.large (sym words))
-one_rest rest (Ndjson numbers) (Ndjson others) words h d = ap Ndjson (one_numbers rest numbers others h d)
+one_rest rest (Ndjson numbers) (Ndjson others) words h d = ap Ndjson (one_list IsRows (λ word n m x y. one_number 20 18446744073709551615 word word n m refl x y) rest numbers others h d)
 one_rest rest (Ndjson numbers) (Make make) words h d = absurd cc
+one_rest rest (Ndjson numbers) Infer words h d = absurd cc
+one_rest rest (Ndjson numbers) (Avro avro) words h d = absurd cc
 one_rest rest (Ndjson numbers) (Rewrite rewrite) words h d = absurd cc
 one_rest rest (Make make) (Block block) words h d = absurd (block_isnt_make block.large (sym words))
 one_rest rest (Make make) (Ndjson numbers) words h d = absurd cc
 one_rest rest (Make make) (Make other) words h d = ap Make (one_make rest make other h d)
+one_rest rest (Make make) Infer words h d = absurd cc
+one_rest rest (Make make) (Avro avro) words h d = absurd cc
 one_rest rest (Make make) (Rewrite rewrite) words h d = absurd cc
+one_rest rest Infer (Block block) words h d = absurd (block_isnt_infer block.large (sym words))
+one_rest rest Infer (Ndjson numbers) words h d = absurd cc
+one_rest rest Infer (Make make) words h d = absurd cc
+one_rest rest Infer Infer words h d = refl
+one_rest rest Infer (Avro avro) words h d = absurd cc
+one_rest rest Infer (Rewrite rewrite) words h d = absurd cc
+one_rest rest (Avro avro) (Block block) words h d = absurd (block_isnt_avro block.large (sym words))
+one_rest rest (Avro avro) (Ndjson numbers) words h d = absurd cc
+one_rest rest (Avro avro) (Make make) words h d = absurd cc
+one_rest rest (Avro avro) Infer words h d = absurd cc
+one_rest rest (Avro avro) (Avro other) words h d = ap Avro (one_avro rest avro other h d)
+one_rest rest (Avro avro) (Rewrite rewrite) words h d = absurd cc
 one_rest rest (Rewrite rewrite) (Block block) words h d = absurd (block_isnt_rewrite block.large (sym words))
 one_rest rest (Rewrite rewrite) (Ndjson numbers) words h d = absurd cc
 one_rest rest (Rewrite rewrite) (Make make) words h d = absurd cc
+one_rest rest (Rewrite rewrite) Infer words h d = absurd cc
+one_rest rest (Rewrite rewrite) (Avro avro) words h d = absurd cc
 one_rest rest (Rewrite rewrite) (Rewrite other) words h d = ap Rewrite (one_rewrite rest rewrite other h d)
 
 pub one_command : (words : List (List ℕ)) (one other : Command) → Stands words one → Stands words other → one ≡ other
@@ -103,3 +141,7 @@ fields_each (w ∷ ws) (b ∷ bs) (f ∷ fs) h = ap suc (fields_each ws bs fs h.
 
 pub block_each : (words : List (List ℕ)) (block : BlockWords) → Stands words (Block block) → length block.avro_fields ≡ length block.projection
 block_each words block (rest, is, (w, ws, so, n, are)) = fields_each ws block.projection block.avro_fields are
+
+-- and each block of `avro` has a row
+pub blocks_have_rows : (words : List (List ℕ)) (avro : AvroWords) → Stands words (Avro avro) → 0 < avro.rows_per_block
+blocks_have_rows words avro (rest, is, h) = h.some

@@ -1,15 +1,17 @@
 -- Words of a block, one field after another.
-use Rattle.std.proofs.Common.{◌≡◌, ℕ, zero, suc, ◌+◌, ◌-◌, ◌<◌, ◌≤◌, List, [], ◌∷◌, ◌++◌, length, take, drop, codes, decimal, ◌⊎◌, inl, inr, sym, ap, ◌∙◌, arith, subst, Bool, false, true}
+use Rattle.std.proofs.Common.{◌≡◌, ℕ, zero, suc, ◌+◌, ◌-◌, ◌<◌, ◌≤◌, List, [], ◌∷◌, ◌++◌, length, take, drop, codes, ◌⊎◌, inl, inr, sym, ap, ◌∙◌, arith, subst, Bool, false, true}
 use Rattle.std.proofs.lemmas.List.{take_more, take_all, length-drop}
 use Rattle.std.specs.Prelude.{slice_index_or}
 use Rattle.avro_schema.specs.declared.schema.AvroField.{AvroField}
 use Rattle.field_words.specs.Fields.{IsField}
-use Rattle.field_words.specs.Names.{IsName, IsRows}
+use Rattle.field_words.specs.Names.{IsName, IsNumber, IsRows}
+use Rattle.field_words.proofs.OneMeaning.{one_field}
 use Rattle.command_words.specs.Stands.{Stands, IsUsage}
-use Rattle.command_words.specs.Words.{AreFields, AreKeepWords, AreMakeWords, AreRewriteWords, IsMarker, IsRest, block_word, command_word, AreRest}
+use Rattle.command_words.specs.Words.{AreAvroWords, AreFields, AreKeepWords, AreKeptFields, AreMakeWords, AreRewriteWords, IsMarker, IsRest, block_word, command_word, AreRest}
+use Rattle.command_words.specs.declared.command.AvroWords.{AvroWords}
 use Rattle.command_words.specs.declared.command.BlockWords.{BlockWords}
 use Rattle.command_words.specs.declared.command.Command.{Command}
-use Rattle.command_words.specs.declared.command.Command.TheVariants.{Block, Ndjson, Make, Rewrite}
+use Rattle.command_words.specs.declared.command.Command.TheVariants.{Block, Ndjson, Make, Infer, Avro, Rewrite}
 use Rattle.command_words.specs.declared.command.RewriteWords.{RewriteWords}
 use Rattle.command_words.specs.declared.command.MakeWords.{MakeWords}
 
@@ -96,6 +98,18 @@ pub block_isnt_make : (large : Bool) → block_word large ≡ codes "make" → �
 block_isnt_make false e = cc
 block_isnt_make true e = cc
 
+abbrev first_byte : List ℕ → ℕ
+first_byte [] = 0
+first_byte (x ∷ xs) = x
+
+pub block_isnt_infer : (large : Bool) → block_word large ≡ codes "infer" → ⊥
+block_isnt_infer false e = let h : 98 ≡ 105 = ap first_byte e in omega (arith, h)
+block_isnt_infer true e = cc
+
+pub block_isnt_avro : (large : Bool) → block_word large ≡ codes "avro" → ⊥
+block_isnt_avro false e = cc
+block_isnt_avro true e = cc
+
 pub block_isnt_rewrite : (large : Bool) → block_word large ≡ codes "rewrite" → ⊥
 block_isnt_rewrite false e = cc
 block_isnt_rewrite true e = cc
@@ -107,6 +121,8 @@ no_block words word rest large e is none = unused words word rest e from
     from (Block block) same h = none block h
     from (Ndjson numbers) same h = block_isnt_ndjson large (sym (same ∙ is))
     from (Make make) same h = block_isnt_make large (sym (same ∙ is))
+    from Infer same h = block_isnt_infer large (sym (same ∙ is))
+    from (Avro avro) same h = block_isnt_avro large (sym (same ∙ is))
     from (Rewrite rewrite) same h = block_isnt_rewrite large (sym (same ∙ is))
 
 pub no_ndjson : (words : List (List ℕ)) (word : List ℕ) (rest : List (List ℕ)) → words ≡ word ∷ rest → word ≡ codes "ndjson" → ((numbers : List ℕ) → AreKeepWords rest numbers → ⊥) → IsUsage words
@@ -116,6 +132,8 @@ no_ndjson words word rest e is none = unused words word rest e from
     from (Block block) same h = block_isnt_ndjson block.large (same ∙ is)
     from (Ndjson numbers) same h = none numbers h
     from (Make make) same h = let d : codes "make" ≡ codes "ndjson" = same ∙ is in cc
+    from Infer same h = let d : codes "infer" ≡ codes "ndjson" = same ∙ is in cc
+    from (Avro avro) same h = let d : codes "avro" ≡ codes "ndjson" = same ∙ is in cc
     from (Rewrite rewrite) same h = let d : codes "rewrite" ≡ codes "ndjson" = same ∙ is in cc
 
 pub no_make : (words : List (List ℕ)) (word : List ℕ) (rest : List (List ℕ)) → words ≡ word ∷ rest → word ≡ codes "make" → ((make : MakeWords) → AreMakeWords rest make → ⊥) → IsUsage words
@@ -125,7 +143,31 @@ no_make words word rest e is none = unused words word rest e from
     from (Block block) same h = block_isnt_make block.large (same ∙ is)
     from (Ndjson numbers) same h = let d : codes "ndjson" ≡ codes "make" = same ∙ is in cc
     from (Make make) same h = none make h
+    from Infer same h = let d : codes "infer" ≡ codes "make" = same ∙ is in cc
+    from (Avro avro) same h = let d : 97 ≡ 109 = ap first_byte (same ∙ is) in omega (arith, d)
     from (Rewrite rewrite) same h = let d : codes "rewrite" ≡ codes "make" = same ∙ is in cc
+
+pub no_infer : (words : List (List ℕ)) (word : List ℕ) (rest : List (List ℕ)) → words ≡ word ∷ rest → word ≡ codes "infer" → (rest ≡ [] → ⊥) → IsUsage words
+no_infer words word rest e is none = unused words word rest e from
+  where
+    from : (command : Command) → command_word command ≡ word → AreRest rest command → ⊥
+    from (Block block) same h = block_isnt_infer block.large (same ∙ is)
+    from (Ndjson numbers) same h = let d : codes "ndjson" ≡ codes "infer" = same ∙ is in cc
+    from (Make make) same h = let d : codes "make" ≡ codes "infer" = same ∙ is in cc
+    from Infer same h = none h
+    from (Avro avro) same h = let d : codes "avro" ≡ codes "infer" = same ∙ is in cc
+    from (Rewrite rewrite) same h = let d : codes "rewrite" ≡ codes "infer" = same ∙ is in cc
+
+pub no_avro : (words : List (List ℕ)) (word : List ℕ) (rest : List (List ℕ)) → words ≡ word ∷ rest → word ≡ codes "avro" → ((avro : AvroWords) → AreAvroWords rest avro → ⊥) → IsUsage words
+no_avro words word rest e is none = unused words word rest e from
+  where
+    from : (command : Command) → command_word command ≡ word → AreRest rest command → ⊥
+    from (Block block) same h = block_isnt_avro block.large (same ∙ is)
+    from (Ndjson numbers) same h = let d : codes "ndjson" ≡ codes "avro" = same ∙ is in cc
+    from (Make make) same h = let d : 109 ≡ 97 = ap first_byte (same ∙ is) in omega (arith, d)
+    from Infer same h = let d : codes "infer" ≡ codes "avro" = same ∙ is in cc
+    from (Avro avro) same h = none avro h
+    from (Rewrite rewrite) same h = let d : codes "rewrite" ≡ codes "avro" = same ∙ is in cc
 
 pub no_rewrite : (words : List (List ℕ)) (word : List ℕ) (rest : List (List ℕ)) → words ≡ word ∷ rest → word ≡ codes "rewrite" → ((rewrite : RewriteWords) → AreRewriteWords rest rewrite → ⊥) → IsUsage words
 no_rewrite words word rest e is none = unused words word rest e from
@@ -134,10 +176,12 @@ no_rewrite words word rest e is none = unused words word rest e from
     from (Block block) same h = block_isnt_rewrite block.large (same ∙ is)
     from (Ndjson numbers) same h = let d : codes "ndjson" ≡ codes "rewrite" = same ∙ is in cc
     from (Make make) same h = let d : codes "make" ≡ codes "rewrite" = same ∙ is in cc
+    from Infer same h = let d : codes "infer" ≡ codes "rewrite" = same ∙ is in cc
+    from (Avro avro) same h = let d : codes "avro" ≡ codes "rewrite" = same ∙ is in cc
     from (Rewrite rewrite) same h = none rewrite h
 
-pub other_word : (words : List (List ℕ)) (word : List ℕ) (rest : List (List ℕ)) → words ≡ word ∷ rest → (word ≡ codes "block" → ⊥) → (word ≡ codes "block-large" → ⊥) → (word ≡ codes "ndjson" → ⊥) → (word ≡ codes "make" → ⊥) → (word ≡ codes "rewrite" → ⊥) → IsUsage words
-other_word words word rest e isnt_block isnt_large isnt_ndjson isnt_make isnt_rewrite = unused words word rest e from
+pub other_word : (words : List (List ℕ)) (word : List ℕ) (rest : List (List ℕ)) → words ≡ word ∷ rest → (word ≡ codes "block" → ⊥) → (word ≡ codes "block-large" → ⊥) → (word ≡ codes "ndjson" → ⊥) → (word ≡ codes "make" → ⊥) → (word ≡ codes "infer" → ⊥) → (word ≡ codes "avro" → ⊥) → (word ≡ codes "rewrite" → ⊥) → IsUsage words
+other_word words word rest e isnt_block isnt_large isnt_ndjson isnt_make isnt_infer isnt_avro isnt_rewrite = unused words word rest e from
   where
     from_block : (large : Bool) → word ≡ block_word large → ⊥
     from_block false same = isnt_block same
@@ -147,6 +191,8 @@ other_word words word rest e isnt_block isnt_large isnt_ndjson isnt_make isnt_re
     from (Block block) same h = from_block block.large (sym same)
     from (Ndjson numbers) same h = isnt_ndjson (sym same)
     from (Make make) same h = isnt_make (sym same)
+    from Infer same h = isnt_infer (sym same)
+    from (Avro avro) same h = isnt_avro (sym same)
     from (Rewrite rewrite) same h = isnt_rewrite (sym same)
 
 pub no_words : (words : List (List ℕ)) → length words < 1 → IsUsage words
@@ -155,11 +201,11 @@ no_words (w ∷ ws) low command h = absurd (omega (arith, low))
 
 -- ---- the words of `make`
 
--- they are two, each a decimal number
+-- they are two, each a number
 pub no_make_words : (words : List (List ℕ)) (start rows : List ℕ) → words ≡ start ∷ rows ∷ []
-    → ((n : ℕ) → start ≡ decimal n → n ≤ 2147483647 → ⊥) ⊎ ((n : ℕ) → rows ≡ decimal n → n ≤ 1000000 → ⊥) → (make : MakeWords) → AreMakeWords words make → ⊥
-no_make_words words start rows e (inl none) make h = none make.start (ap (words_head start) (sym e ∙ h.are)) h.start
-no_make_words words start rows e (inr none) make h = none make.rows (ap (λ z. words_head rows (drop 1 z)) (sym e ∙ h.are)) h.rows
+    → ((n : ℕ) → IsNumber 20 2147483647 start n → ⊥) ⊎ ((n : ℕ) → IsNumber 20 1000000 rows n → ⊥) → (make : MakeWords) → AreMakeWords words make → ⊥
+no_make_words words start rows e (inl none) make h = none make.start (subst (λ z. IsNumber 20 2147483647 z make.start) (ap (words_head start) (sym h.are ∙ e)) h.start)
+no_make_words words start rows e (inr none) make h = none make.rows (subst (λ z. IsNumber 20 1000000 z make.rows) (ap (λ z. words_head rows (drop 1 z)) (sym h.are ∙ e)) h.rows)
 
 pub no_two_words : (words : List (List ℕ)) → (length words ≡ 2 → ⊥) → (make : MakeWords) → AreMakeWords words make → ⊥
 no_two_words words other make h = other (ap length h.are)
@@ -191,3 +237,34 @@ are_rewrite_words words name digits marker rewrite is named marked same bytes = 
   name = subst IsName (sym same) named;
   marker = subst (IsMarker digits) (sym bytes) marked;
 }
+
+-- ---- the words of `avro`
+
+-- a field that isn't kept is none that is
+pub kept_is_kept : (word : List ℕ) (field : AvroField) → IsField word false field → (other : AvroField) → IsField word true other → ⊥
+kept_is_kept word field h other d = let e : false ≡ true = (one_field word false true field other h d).0 in cc
+
+-- they are a name, a number of rows, a marker, and fields
+pub no_avro_words : (words : List (List ℕ)) (name rows digits : List ℕ) (fields : List (List ℕ)) → words ≡ name ∷ rows ∷ digits ∷ fields
+    → (IsName name → ⊥) ⊎ (((n : ℕ) → IsRows rows n → 0 < n → ⊥) ⊎ (((marker : List ℕ) → IsMarker digits marker → ⊥) ⊎ ((fs : List AvroField) → AreKeptFields fields fs → ⊥)))
+    → (avro : AvroWords) → AreAvroWords words avro → ⊥
+no_avro_words words name rows digits fields e (inl none) avro h = none (subst IsName (ap (words_head name) (sym h.are ∙ e)) h.name)
+no_avro_words words name rows digits fields e (inr (inl none)) avro h =
+    none avro.rows_per_block (subst (λ z. IsRows z avro.rows_per_block) (ap (λ z. words_head rows (drop 1 z)) (sym h.are ∙ e)) h.rows) h.some
+no_avro_words words name rows digits fields e (inr (inr (inl none))) avro h =
+    none avro.marker (subst (λ z. IsMarker z avro.marker) (ap (λ z. words_head digits (drop 2 z)) (sym h.are ∙ e)) h.marker)
+no_avro_words words name rows digits fields e (inr (inr (inr none))) avro h =
+    none avro.avro_fields (subst (λ z. AreKeptFields z avro.avro_fields) (ap (drop 3) (sym h.are ∙ e)) h.fields)
+
+pub few_avro_words : (words : List (List ℕ)) → length words < 3 → (avro : AvroWords) → AreAvroWords words avro → ⊥
+few_avro_words words few avro h = let long = ap length h.are in omega (arith, few, long)
+
+pub three_words : (words : List (List ℕ)) (a b d : List ℕ) → 3 ≤ length words → a ≡ slice_index_or words 0 a → b ≡ slice_index_or words 1 b → d ≡ slice_index_or words 2 d
+    → words ≡ a ∷ b ∷ d ∷ take (length words - 3) (drop 3 words)
+three_words [] a b d low p q r = absurd (omega (arith, low))
+three_words (x ∷ []) a b d low p q r = absurd (omega (arith, low))
+three_words (x ∷ y ∷ []) a b d low p q r = absurd (omega (arith, low))
+three_words (x ∷ y ∷ z ∷ zs) a b d low p q r =
+    let left : length (drop 3 (x ∷ y ∷ z ∷ zs)) ≡ length (x ∷ y ∷ z ∷ zs) - 3 = length-drop 3 (x ∷ y ∷ z ∷ zs) in
+    let whole : take (length (x ∷ y ∷ z ∷ zs) - 3) (drop 3 (x ∷ y ∷ z ∷ zs)) ≡ zs = take_all (length (x ∷ y ∷ z ∷ zs) - 3) (drop 3 (x ∷ y ∷ z ∷ zs)) (omega (arith, left)) in
+    λ i. sym p i ∷ sym q i ∷ sym r i ∷ sym whole i

@@ -25,6 +25,19 @@ pub struct MakeWords {
     pub rows: usize,
 }
 
+/// The file to make of JSON lines, as `avro NAME PER_BLOCK MARKER FIELD..` describes it.
+#[derive(Drop)]
+pub struct AvroWords {
+    /// The name of the record.
+    pub name: Text,
+    /// How many rows a block has, at least 1.
+    pub rows_per_block: usize,
+    /// The sync marker.
+    pub marker: [u8; 16],
+    /// The fields of a row, in order.
+    pub avro_fields: Items<AvroField>,
+}
+
 /// The name and the sync marker of a file's canonical form, as `rewrite NAME MARKER` gives them.
 #[derive(Drop)]
 pub struct RewriteWords {
@@ -44,6 +57,10 @@ pub enum Command {
     Ndjson(Items<usize>),
     /// Draw rows, encode them, read them back, and tell what they add up to.
     Make(MakeWords),
+    /// Read JSON lines, and tell the type of their rows.
+    Infer,
+    /// Read JSON lines, and write them as an Avro file.
+    Avro(AvroWords),
     /// Read an Avro file, and write its canonical form.
     Rewrite(RewriteWords),
 }

@@ -5,6 +5,6 @@ mod command;
 mod laws;
 mod words;
 
-pub use command::{BlockWords, Command, MakeWords, RewriteWords};
+pub use command::{AvroWords, BlockWords, Command, MakeWords, RewriteWords};
 pub use laws::{block_has_flags, one_command};
 pub use words::read_words;

@@ -1,19 +1,20 @@
 //! The words of a command line, and the command that they stand for.
 
-ghost use Rattle.std.specs.Prelude.{◌≡◌, ◌≤◌, ℕ, Bool, true, false, List, Err, None, IfErr, IfOk, IfSome, decimal};
+ghost use Rattle.std.specs.Prelude.{◌≡◌, ◌<◌, ℕ, Bool, List, Err, None, IfErr, IfOk, IfSome};
 ghost use Rattle.avro_schema.specs.declared.schema.AvroField.{AvroField as TheField};
+ghost use Rattle.field_words.specs.Names.{IsNumber, IsRows};
+ghost use Rattle.command_words.specs.declared.command.AvroWords.{AvroWords as TheAvro};
 ghost use Rattle.command_words.specs.declared.command.BlockWords.{BlockWords as TheBlock};
 ghost use Rattle.command_words.specs.declared.command.MakeWords.{MakeWords as TheMake};
 ghost use Rattle.command_words.specs.declared.command.RewriteWords.{RewriteWords as TheRewrite};
 ghost use Rattle.field_words.specs.declared.fault.WordsFault.TheVariants.{Memory, Usage};
-ghost use Rattle.command_words.specs.Words.{AreFields, AreKeepWords, AreMakeWords, AreRewriteWords, IsMarker, IsRest};
+ghost use Rattle.command_words.specs.Words.{AreAvroWords, AreFields, AreKeepWords, AreKeptFields, AreMakeWords, AreRewriteWords, IsMarker, IsRest};
 ghost use Rattle.command_words.specs.Stands.{Stands, IsUsage};
 
-use crate::command::{BlockWords, Command, MakeWords, RewriteWords};
+use crate::command::{AvroWords, BlockWords, Command, MakeWords, RewriteWords};
 use arrow_core::{Items, Text};
 use avro_schema::AvroField;
 use field_words::{WordsFault, is_name, read_field, read_rows};
-use itoa::Buffer;
 use std::alloc::Global;
 
 /// The greatest state of the generator of `make`.
@@ -42,6 +43,11 @@ pub fn read_words(alloc: Global, words: &[Text]) -> Result<Command, WordsFault>
             Some(make) => Ok(Command::Make(make)),
             None => Err(WordsFault::Usage),
         },
+        "infer" => match rest {
+            [] => Ok(Command::Infer),
+            _ => Err(WordsFault::Usage),
+        },
+        "avro" => Ok(Command::Avro(read_avro(alloc, rest)?)),
         "rewrite" => Ok(Command::Rewrite(read_rewrite(alloc, rest)?)),
         _ => Err(WordsFault::Usage),
     }
@@ -108,36 +114,78 @@ fn read_make(words: &[Text]) -> Option<MakeWords>
     let [start, rows] = words else {
         return None;
     };
-    let start = read_decimal(start.as_str(), GREATEST_START)?;
-    let rows = read_decimal(rows.as_str(), MOST_ROWS)?;
+    let start = read_number(start.as_str(), GREATEST_START)?;
+    let rows = read_number(rows.as_str(), MOST_ROWS)?;
     Some(MakeWords {
         start: start as u32,
         rows,
     })
 }
 
-/// The number of a word of decimal digits without a leading zero, up to the greatest.
-fn read_decimal(word: &str, greatest: usize) -> Option<usize>
-    ensures number { IfSome result (λ number. (word.now ≡ decimal number) × (number ≤ greatest)) }
-    ensures none { result ≡ None → (number : ℕ) → word.now ≡ decimal number → number ≤ greatest → ⊥ }
+/// The number of a word of 1 to 20 decimal digits, up to the greatest.
+fn read_number(word: &str, greatest: usize) -> Option<usize>
+    ensures number { IfSome result (IsNumber 20 greatest word.now) }
+    ensures none { result ≡ None → (number : ℕ) → IsNumber 20 greatest word.now number → ⊥ }
 {
     let number = read_rows(word)?;
     if number > greatest {
         return None;
     }
-    if !is_decimal(word, number) {
-        return None;
-    }
     Some(number)
 }
 
-/// Whether a word is the number in decimal digits, without a leading zero.
-fn is_decimal(word: &str, number: usize) -> bool
-    ensures yes { result ≡ true → word.now ≡ decimal number }
-    ensures no { result ≡ false → word.now ≡ decimal number → ⊥ }
+/// The name, the rows of a block, the marker and the fields of `avro`, after that word.
+fn read_avro(alloc: Global, words: &[Text]) -> Result<AvroWords, WordsFault>
+    ensures avro { IfOk result (AreAvroWords words.now) }
+    ensures usage { result ≡ Err Usage → (avro : TheAvro) → AreAvroWords words.now avro → ⊥ }
 {
-    let mut buffer = Buffer::new();
-    buffer.format(number) == word
+    let [name, rows, digits, fields @ ..] = words else {
+        return Err(WordsFault::Usage);
+    };
+    if !is_name(name.as_str()) {
+        return Err(WordsFault::Usage);
+    }
+    let Some(rows_per_block) = read_some_rows(rows.as_str()) else {
+        return Err(WordsFault::Usage);
+    };
+    let Some(marker) = read_marker(digits.as_str()) else {
+        return Err(WordsFault::Usage);
+    };
+    let avro_fields = read_kept_fields(alloc, fields)?;
+    Ok(AvroWords {
+        name: name_of(alloc, name.as_str())?,
+        rows_per_block,
+        marker,
+        avro_fields: Items::from_vec(avro_fields),
+    })
+}
+
+/// The number of a word of 1 to 20 decimal digits, from 1 to below 2 to the power of 64.
+fn read_some_rows(word: &str) -> Option<usize>
+    ensures rows { IfSome result (λ rows. IsRows word.now rows × (0 < rows)) }
+    ensures none { result ≡ None → (rows : ℕ) → IsRows word.now rows → 0 < rows → ⊥ }
+{
+    let rows = read_rows(word)?;
+    if rows == 0 {
+        return None;
+    }
+    Some(rows)
+}
+
+/// The fields that the words name, each of which is kept.
+fn read_kept_fields(alloc: Global, words: &[Text]) -> Result<Vec<AvroField>, WordsFault>
+    ensures fields { IfOk result (λ read. AreKeptFields words.now read.items) }
+    ensures usage { result ≡ Err Usage → (fields : List TheField) → AreKeptFields words.now fields → ⊥ }
+{
+    let mut avro_fields = Vec::new(alloc);
+    for word in words {
+        let field = read_field(alloc, word.as_str())?;
+        if !field.is_kept {
+            return Err(WordsFault::Usage);
+        }
+        avro_fields.push(field.avro_field)?;
+    }
+    Ok(avro_fields)
 }
 
 /// The name and the marker of `rewrite`, after that word.
@@ -152,20 +200,20 @@ fn read_rewrite(alloc: Global, words: &[Text]) -> Result<RewriteWords, WordsFaul
     if !is_name(name.as_str()) {
         return Err(WordsFault::Usage);
     }
-    match read_marker(digits.as_str()) {
-        Some(marker) => rewrite_of(alloc, name.as_str(), marker),
-        None => Err(WordsFault::Usage),
-    }
+    let Some(marker) = read_marker(digits.as_str()) else {
+        return Err(WordsFault::Usage);
+    };
+    let name = name_of(alloc, name.as_str())?;
+    Ok(RewriteWords { name, marker })
 }
 
-/// The name and the marker. `Memory` alone.
-fn rewrite_of(alloc: Global, name: &str, marker: [u8; 16]) -> Result<RewriteWords, WordsFault>
-    ensures name { IfOk result (λ rewrite. rewrite.name ≡ name.now) }
-    ensures marker { IfOk result (λ rewrite. rewrite.marker ≡ marker) }
+/// A name's own text. `Memory` alone.
+fn name_of(alloc: Global, name: &str) -> Result<Text, WordsFault>
+    ensures name { IfOk result (λ text. text ≡ name.now) }
     ensures memory { IfErr result (λ fault. fault ≡ Memory) }
 {
     match Text::try_from_str(alloc, name) {
-        Ok(name) => Ok(RewriteWords { name, marker }),
+        Ok(text) => Ok(text),
         Err(_) => Err(WordsFault::Memory),
     }
 }

@@ -11,8 +11,8 @@ use Rattle.arrow_types.specs.declared.types.DataType.TheVariants as types
 use Rattle.arrow_types.specs.declared.types.DataType.TheBlock.{shape-the_row-Field-0, hidden-the_row-Field-0, shape-the_row-Field-1, hidden-the_row-Field-1}
 use Rattle.json_tree.specs.Tree.{Json}
 use Rattle.json_tree.specs.Keys.{value_of}
-use Rattle.json_read.specs.Meaning.{Meaning, Layer}
-use Rattle.json_read.specs.Columns.{AreSlotsOf, IsColumnFault, means}
+use Rattle.json_flat.specs.Meaning.{Meaning, Layer}
+use Rattle.json_flat.specs.Columns.{AreSlotsOf, IsColumnFault, means}
 use Rattle.json_columns.specs.Faults.{IsFault, IsListFault, IsStructFault, TooMany, TooManyFields, TooManyListed, TooManyMembers}
 use Rattle.json_columns.specs.Gathered.{all_have_reading, field_meanings, members_named, struct_has_reading}
 use Rattle.json_columns.specs.Reading.{has_field, has_reading, have_reading, list_in, member_meanings, or_null, reading, struct_in}

@@ -11,8 +11,8 @@ use Rattle.arrow_core.specs.declared.error.Reason.TheVariants.{TextTimestamp}
 use Rattle.arrow_types.specs.declared.types.Field.{Field}
 use Rattle.json_tree.specs.Tree.{Json}
 use Rattle.json_tree.specs.declared.value.Value.{out-Value}
-use Rattle.json_read.specs.Meaning.{slot_of, text_timestamp}
-use Rattle.json_read.specs.Columns.{IsNoSlot, means}
+use Rattle.json_flat.specs.Meaning.{slot_of, text_timestamp}
+use Rattle.json_flat.specs.Columns.{IsNoSlot, means}
 use Rattle.json_columns.specs.Faults.{AreMemberColumns, IsFieldsFault, IsMemberColumn, IsMemberFault, IsStructFault, TooManyFields}
 use Rattle.json_columns.specs.Gathered.{all_have_reading, are_objects, field_meanings, is_object, member_in, members_named, struct_has_reading}
 use Rattle.json_columns.specs.Reading.{has_reading, reading, struct_in}

@@ -10,8 +10,8 @@ use Rattle.json_tree.specs.Tree.{Json}
 use Rattle.json_tree.specs.declared.value.Value.{out-Value}
 use Rattle.json_tree.specs.declared.value.Value.TheOpen as layer
 use Rattle.json_tree.specs.declared.value.Value.TheVariants as variant
-use Rattle.json_read.specs.Meaning.{Layer}
-use Rattle.json_read.specs.Columns.{lent}
+use Rattle.json_flat.specs.Meaning.{Layer}
+use Rattle.json_flat.specs.Columns.{lent}
 use Rattle.json_columns.specs.Faults.{IsCountFault}
 use Rattle.json_columns.specs.Gathered.{all_items, items_in, len_in, list_lens}
 use Rattle.json_columns.proofs.Layers.{array_items, array_len}

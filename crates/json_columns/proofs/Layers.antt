@@ -6,7 +6,7 @@ use Rattle.json_tree.specs.declared.value.Value.{out-Value, roll-Value, roll-out
 use Rattle.json_tree.specs.declared.value.Value.TheOpen as layer
 use Rattle.json_tree.specs.declared.value.Value.TheVariants as variant
 use Rattle.json_tree.specs.declared.value.Object.{Object}
-use Rattle.json_read.specs.Meaning.{Layer}
+use Rattle.json_flat.specs.Meaning.{Layer}
 use Rattle.json_columns.specs.Gathered.{is_object, items_in, len_in, member_in}
 use Rattle.json_columns.specs.Reading.{or_null}
 

@@ -7,6 +7,7 @@ pub mod ListColumns
 pub mod Lists
 pub mod FieldNames
 pub mod Nulls
+pub mod RecordLaws
 pub mod Refusing
 pub mod Rows
 pub mod TextLaws

@@ -14,8 +14,8 @@ use Rattle.arrow_types.specs.declared.types.Field.{Field}
 use Rattle.json_tree.specs.Tree.{Json}
 use Rattle.json_tree.specs.declared.value.Value.{out-Value}
 use Rattle.json_tree.specs.declared.value.Value.TheOpen as layer
-use Rattle.json_read.specs.Meaning.{Meaning, Layer, slot_of, text_timestamp}
-use Rattle.json_read.specs.Columns.{AreSlotsOf, IsColumnFault, IsNoSlot, means}
+use Rattle.json_flat.specs.Meaning.{Meaning, Layer, slot_of, text_timestamp}
+use Rattle.json_flat.specs.Columns.{AreSlotsOf, IsColumnFault, IsNoSlot, means}
 use Rattle.json_columns.specs.Faults.{IsCountFault, IsFault, IsListFault}
 use Rattle.json_columns.specs.Gathered.{all_items, items_in, len_in, list_lens}
 use Rattle.json_columns.specs.Reading.{list_in, reading}

@@ -5,8 +5,8 @@ use Rattle.arrow_types.specs.declared.types.DataType.{DataType, Null, Boolean, I
 use Rattle.json_tree.specs.Tree.{null}
 use Rattle.json_tree.specs.declared.value.Value.TheOpen as layer
 use Rattle.json_tree.specs.declared.value.Value.TheVariants as variant
-use Rattle.json_read.specs.Meaning.{slot_of}
-use Rattle.json_read.specs.Columns.{means}
+use Rattle.json_flat.specs.Meaning.{slot_of}
+use Rattle.json_flat.specs.Columns.{means}
 use Rattle.json_columns.specs.Reading.{reading}
 
 null_layer : (t : DataType) → reading t layer.Null ≡ slot_of slot.Null

@@ -11,8 +11,8 @@ use Rattle.arrow_types.specs.declared.types.DataType.TheVariants as types
 use Rattle.arrow_types.specs.declared.types.Field.{Field}
 use Rattle.json_tree.specs.Tree.{Json, array}
 use Rattle.json_tree.specs.declared.value.Value.TheVariants as variant
-use Rattle.json_read.specs.Meaning.{Meaning, Layer, slot_of, text_timestamp, unfit}
-use Rattle.json_read.specs.Columns.{AreSlotsOf, Has, HasNoSlot, IsNoSlot, means}
+use Rattle.json_flat.specs.Meaning.{Meaning, Layer, slot_of, text_timestamp, unfit}
+use Rattle.json_flat.specs.Columns.{AreSlotsOf, Has, HasNoSlot, IsNoSlot, means}
 use Rattle.json_columns.specs.Faults.{IsFault}
 use Rattle.json_columns.specs.Names.{names_twice}
 use Rattle.json_columns.specs.Reading.{has_reading, reading}
@@ -24,7 +24,7 @@ no_slot text_timestamp h n = absurd (n refl)
 no_slot unfit h n = refl
 
 -- a value that means no slot, where there is no text under a timestamp, doesn't fit
-some_unfit : (r : Layer → Meaning) (vs : List Json) → (Has text_timestamp r vs → ⊥) → HasNoSlot r vs → Has unfit r vs
+pub some_unfit : (r : Layer → Meaning) (vs : List Json) → (Has text_timestamp r vs → ⊥) → HasNoSlot r vs → Has unfit r vs
 some_unfit r vs n h = (h.0, h.1, h.2, h.3, no_slot (means r h.1) h.4 (λ e. n (h.0, h.1, h.2, h.3, e)))
 
 pub overflows : (t : DataType) (vs : List Json) → names_twice t ≡ false → has_reading t ≡ true → IsFault t vs Overflow → (Has text_timestamp (reading t) vs → ⊥) → IsRefusal t vs Overflow

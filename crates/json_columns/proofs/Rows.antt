@@ -15,8 +15,8 @@ use Rattle.json_tree.specs.Tree.{Json, null}
 use Rattle.json_tree.specs.declared.value.Value.{out-Value}
 use Rattle.json_tree.specs.declared.value.Value.TheOpen as layer
 use Rattle.json_tree.specs.declared.value.Object.{Object}
-use Rattle.json_read.specs.Meaning.{Meaning, Layer, slot_of, text_timestamp}
-use Rattle.json_read.specs.Columns.{AreSlotsOf, IsNoSlot, means}
+use Rattle.json_flat.specs.Meaning.{Meaning, Layer, slot_of, text_timestamp}
+use Rattle.json_flat.specs.Columns.{AreSlotsOf, IsNoSlot, means}
 use Rattle.json_columns.specs.Faults.{AreMemberColumns}
 use Rattle.json_columns.specs.Gathered.{are_objects, field_meanings, is_object, member_in, members_named}
 use Rattle.json_columns.specs.Reading.{reading, struct_in}

@@ -10,9 +10,9 @@ use Rattle.json_tree.specs.declared.value.Value.{out-Value, roll-Value, roll-out
 use Rattle.json_tree.specs.declared.value.Value.TheOpen as layer
 use Rattle.json_tree.specs.declared.value.Value.TheVariants as variant
 use Rattle.json_tree.specs.declared.value.Object.{Object}
-use Rattle.json_number.specs.Whole.{number_value, within}
-use Rattle.json_read.specs.Meaning.{Layer, Meaning, slot_of, text_timestamp, unfit, fitted, whole_in, moment_in, text_in, bytes_in, truth_in}
-use Rattle.json_read.specs.Columns.{means}
+use Rattle.json_flat.specs.Whole.{number_value, within}
+use Rattle.json_flat.specs.Meaning.{Layer, Meaning, slot_of, text_timestamp, unfit, fitted, whole_in, moment_in, text_in, bytes_in, truth_in}
+use Rattle.json_flat.specs.Columns.{means}
 use Rattle.json_columns.specs.Gathered.{HasNoFields, field_meanings}
 use Rattle.json_columns.specs.Reading.{Together, all_slots, some_text, some_unfit, beside, together, made_of, list_in, struct_in, reading, or_null}
 use Rattle.json_columns.specs.Texts.{IsNoTimestamp, is_text, item_is_text, member_is_text}

@@ -11,8 +11,8 @@ use Rattle.arrow_types.specs.declared.types.DataType as types
 use Rattle.arrow_types.specs.declared.types.Field.{Field}
 use Rattle.arrow_types.specs.declared.slot.Slot.{Slot}
 use Rattle.json_tree.specs.Tree.{Json}
-use Rattle.json_read.specs.Meaning.{text_in, bytes_in}
-use Rattle.json_read.specs.Columns.{AreSlotsOf, IsColumnFault, IsTooLong, means}
+use Rattle.json_flat.specs.Meaning.{text_in, bytes_in}
+use Rattle.json_flat.specs.Columns.{AreSlotsOf, IsColumnFault, IsTooLong, means}
 use Rattle.json_columns.specs.Gathered.{all_items, field_meanings, members_named}
 use Rattle.json_columns.specs.Reading.{list_in, reading, struct_in}
 
@@ -39,6 +39,19 @@ abbrev mutual
   TooManyMembers end_of-Field values = ⊥
   TooManyMembers (more_of-Field name t is_nullable metadata rest) values = TooMany t (members_named name values) ⊎ TooManyMembers rest values
 
+-- in the members of some of these fields
+abbrev pub TooManyFields : List Field → List Json → Type 0
+TooManyFields [] values = ⊥
+TooManyFields (f ∷ fields) values = TooMany f.data_type (members_named f.name values) ⊎ TooManyFields fields values
+
+-- a column of a field's members
+abbrev pub IsMemberColumn : Field → List Json → DataType → List Slot → Type 0
+IsMemberColumn f values t slots = (f.data_type ≡ t) × AreSlotsOf (reading f.data_type) (members_named f.name values) slots
+
+-- one for each field
+abbrev pub AreMemberColumns : List Field → List Json → List Array → Type 0
+AreMemberColumns fields values = AllZip (λ f a. IsMemberColumn f values (array_type a) (array_slots a)) fields
+
 -- ---- Contracts of private functions alone cite what follows.
 
 -- why there is no column of this type
@@ -48,11 +61,6 @@ IsFault t values = IsColumnFault (reading t) (TooMany t values) values
 -- the items of lists of this field are more than can be counted
 abbrev pub TooManyListed : Bool → Field → List Json → Type 0
 TooManyListed is_large item values = (greatest_offset is_large < length (all_items values)) ⊎ TooMany item.data_type (all_items values)
-
--- the members of some field are
-abbrev pub TooManyFields : List Field → List Json → Type 0
-TooManyFields [] values = ⊥
-TooManyFields (f ∷ fields) values = TooMany f.data_type (members_named f.name values) ⊎ TooManyFields fields values
 
 -- there are more items than can be counted, or no memory
 abbrev pub IsCountFault : ℕ → ℕ → Error → Type 0
@@ -73,11 +81,3 @@ IsMemberFault field values = IsFault field.data_type (members_named field.name v
 -- why there are no columns of the members of fields
 abbrev pub IsFieldsFault : List Field → List Json → Error → Type 0
 IsFieldsFault fields values e = (e ≡ OutOfMemory) ⊎ Any (λ f. IsMemberFault f values e) fields
-
--- a column of a field's members
-abbrev pub IsMemberColumn : Field → List Json → DataType → List Slot → Type 0
-IsMemberColumn f values t slots = (f.data_type ≡ t) × AreSlotsOf (reading f.data_type) (members_named f.name values) slots
-
--- one for each field
-abbrev pub AreMemberColumns : List Field → List Json → List Array → Type 0
-AreMemberColumns fields values = AllZip (λ f a. IsMemberColumn f values (array_type a) (array_slots a)) fields

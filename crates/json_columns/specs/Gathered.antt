@@ -7,8 +7,8 @@ use Rattle.json_tree.specs.Keys.{value_of}
 use Rattle.json_tree.specs.Tree.{Json, null}
 use Rattle.json_tree.specs.declared.value.Value.{out-Value}
 use Rattle.json_tree.specs.declared.value.Value.TheOpen as layer
-use Rattle.json_read.specs.Meaning.{Meaning, Layer}
-use Rattle.json_read.specs.Columns.{means}
+use Rattle.json_flat.specs.Meaning.{Meaning, Layer}
+use Rattle.json_flat.specs.Columns.{means}
 use Rattle.json_columns.specs.Reading.{has_reading, or_null, reading}
 
 -- the items of an array, and none of another value
@@ -29,6 +29,10 @@ member_in name _ = null
 -- the member of this name in each value
 abbrev pub members_named : List ℕ → List Json → List Json
 members_named name values = map (λ value. member_in name (out-Value value)) values
+
+-- the members of an object by the names of fields
+abbrev pub field_meanings : List Field → List (List ℕ × Json) → List Meaning
+field_meanings fields members = map (λ (f : Field). means (reading f.data_type) (or_null (value_of f.name members))) fields
 
 -- ---- Contracts of private functions alone cite what follows.
 
@@ -54,10 +58,6 @@ HasNoFields (List' shape item) = ⊥
 HasNoFields (LargeList' shape item) = ⊥
 HasNoFields (Struct' shape fields) = ⊥
 HasNoFields _ = Unit {0}
-
--- the members of an object by the names of fields
-abbrev pub field_meanings : List Field → List (List ℕ × Json) → List Meaning
-field_meanings fields members = map (λ (f : Field). means (reading f.data_type) (or_null (value_of f.name members))) fields
 
 -- values are read under the type of each field
 abbrev pub all_have_reading : List Field → Bool

@@ -2,5 +2,6 @@ pub mod Reading
 pub mod Gathered
 pub mod Faults
 pub mod Names
+pub mod Records
 pub mod Refusals
 pub mod Texts

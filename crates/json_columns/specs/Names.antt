@@ -43,17 +43,21 @@ abbrev mutual
   inner_names_twice end_of-DataType = false
   inner_names_twice (more_of-DataType t rest) = names_twice t
 
--- ---- Contracts of private functions alone cite what follows.
+-- ---- by lists of fields
 
+-- one of the fields has this name
 abbrev pub is_named : List ℕ → List Field → Bool
 is_named name = list_any (λ (f : Field). bytes_eq f.name name)
 
+-- two of the fields have the same name
 abbrev pub repeats : List Field → Bool
 repeats [] = false
 repeats (f ∷ fields) = is_named f.name fields || repeats fields
 
+-- the type of one of the fields names a field twice
 abbrev pub any_names_twice : List Field → Bool
 any_names_twice = list_any (λ (f : Field). names_twice f.data_type)
 
+-- the fields, or the type of one of them, do
 abbrev pub struct_names_twice : List Field → Bool
 struct_names_twice fields = repeats fields || any_names_twice fields

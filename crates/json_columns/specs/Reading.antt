@@ -9,7 +9,7 @@ use Rattle.json_tree.specs.Keys.{value_of}
 use Rattle.json_tree.specs.Tree.{Json, null}
 use Rattle.json_tree.specs.declared.value.Value.{out-Value}
 use Rattle.json_tree.specs.declared.value.Value.TheOpen as layer
-use Rattle.json_read.specs.Meaning.{Meaning, Layer, slot_of, text_timestamp, unfit, null_in, truth_in, whole_in, int64_in, moment_in, text_in, bytes_in}
+use Rattle.json_flat.specs.Meaning.{Meaning, Layer, slot_of, text_timestamp, unfit, null_in, truth_in, whole_in, int64_in, moment_in, text_in, bytes_in}
 
 -- ---- several values
 

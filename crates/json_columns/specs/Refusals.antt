@@ -8,8 +8,8 @@ use Rattle.arrow_types.specs.declared.types.DataType.{DataType}
 use Rattle.arrow_types.specs.declared.types.DataType as types
 use Rattle.arrow_types.specs.declared.types.Field.{Field}
 use Rattle.json_tree.specs.Tree.{Json, array}
-use Rattle.json_read.specs.Meaning.{text_timestamp, unfit}
-use Rattle.json_read.specs.Columns.{AreSlotsOf, Has}
+use Rattle.json_flat.specs.Meaning.{text_timestamp, unfit}
+use Rattle.json_flat.specs.Columns.{AreSlotsOf, Has}
 use Rattle.json_columns.specs.Faults.{TooMany}
 use Rattle.json_columns.specs.Names.{names_twice}
 use Rattle.json_columns.specs.Reading.{has_reading, reading}

@@ -5,8 +5,8 @@ use Rattle.arrow_types.specs.declared.types.DataType.{DataType, Timestamp}
 use Rattle.arrow_types.specs.declared.types.Field.{Field}
 use Rattle.json_tree.specs.Keys.{value_of}
 use Rattle.json_tree.specs.Tree.{Json}
-use Rattle.json_read.specs.Meaning.{Layer, Meaning, slot_of, text_timestamp, unfit}
-use Rattle.json_read.specs.Columns.{means}
+use Rattle.json_flat.specs.Meaning.{Layer, Meaning, slot_of, text_timestamp, unfit}
+use Rattle.json_flat.specs.Columns.{means}
 use Rattle.json_columns.specs.Reading.{or_null, reading}
 
 abbrev pub is_text : Meaning → Bool

@@ -3,7 +3,7 @@ ghost use Rattle.std.specs.Prelude.{◌≡◌, false, true, IfOk, IfErr};
 ghost use Rattle.arrow_array.specs.Arrays.{array_slots, array_type};
 ghost use Rattle.arrow_types.specs.declared.types.DataType.TheVariants.{LargeList as LargeListType, List as ListType, Struct as StructType};
 ghost use Rattle.json_tree.specs.Tree.{null as null_value};
-ghost use Rattle.json_read.specs.Columns.{AreSlotsOf, lent, means};
+ghost use Rattle.json_flat.specs.Columns.{AreSlotsOf, lent, means};
 ghost use Rattle.json_columns.specs.Faults.{AreMemberColumns, IsFault, IsFieldsFault, IsListFault, IsMemberColumn, IsMemberFault, IsStructFault};
 ghost use Rattle.json_columns.specs.Gathered.{all_have_reading, field_meanings, struct_has_reading};
 ghost use Rattle.json_columns.specs.Reading.{has_reading, list_in, reading, struct_in};
@@ -119,7 +119,7 @@ fn read_structs<'a>(
 
 /// A column for each field, of the members of its name.
 #[cycle(columns)]
-fn read_fields<'a>(
+pub(crate) fn read_fields<'a>(
     alloc: Global,
     fields: &[Field],
     values: &[&'a Value],

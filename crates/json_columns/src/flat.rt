@@ -3,8 +3,8 @@ ghost use Rattle.std.specs.Prelude.{◌≡◌, true, IfOk, IfErr};
 ghost use Rattle.arrow_array.specs.Arrays.{array_slots, array_type};
 ghost use Rattle.arrow_array.specs.Parts.{IsPlain};
 ghost use Rattle.arrow_types.specs.declared.physical.PrimitiveType.TheVariants.{Int32 as Int32Layout, Int64 as Int64Layout};
-ghost use Rattle.json_read.specs.Columns.{AreSlotsOf, IsColumnFault, lent};
-ghost use Rattle.json_read.specs.Meaning.{int64_in};
+ghost use Rattle.json_flat.specs.Columns.{AreSlotsOf, IsColumnFault, lent};
+ghost use Rattle.json_flat.specs.Meaning.{int64_in};
 ghost use Rattle.json_columns.specs.Faults.{IsFault};
 ghost use Rattle.json_columns.specs.Gathered.{HasNoFields};
 ghost use Rattle.json_columns.specs.Reading.{has_reading, int32_in, reading};
@@ -12,7 +12,7 @@ ghost use Rattle.json_columns.specs.Reading.{has_reading, int32_in, reading};
 use arrow_array::Array;
 use arrow_core::Result;
 use arrow_types::{DataType, IntervalUnit};
-use json_read::{
+use json_flat::{
     read_binaries, read_booleans, read_integers, read_moments, read_nulls, read_texts,
 };
 use json_tree::Value;

@@ -5,7 +5,7 @@ ghost use Rattle.arrow_flat.specs.Nested.{items_of};
 ghost use Rattle.arrow_types.specs.Numbers.{greatest_offset};
 ghost use Rattle.json_tree.specs.Tree.{null as null_value};
 ghost use Rattle.json_tree.specs.declared.value.Value.{out-Value};
-ghost use Rattle.json_read.specs.Columns.{lent};
+ghost use Rattle.json_flat.specs.Columns.{lent};
 ghost use Rattle.json_columns.specs.Faults.{IsCountFault};
 ghost use Rattle.json_columns.specs.Gathered.{all_items, are_objects, is_object as is_object_of, items_in, len_in, list_lens, member_in, members_named as members_named_of};
 

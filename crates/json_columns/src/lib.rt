@@ -6,10 +6,12 @@ mod flat;
 mod gather;
 mod names;
 mod parts;
+mod records;
 mod texts;
 mod types;
 mod values;
 
 pub use names::names_twice;
+pub use records::deserialize_records;
 pub use types::has_json_reading;
 pub use values::{deserialize, read_values};

@@ -6,7 +6,7 @@ use arrow_core::Text;
 use arrow_types::{DataType, Field};
 
 /// Whether one of the fields has this name.
-fn is_named(fields: &[Field], name: &Text) -> bool
+pub(crate) fn is_named(fields: &[Field], name: &Text) -> bool
     ensures { result ≡ is_named_of name.now fields.now }
 {
     for field in fields {
@@ -51,7 +51,7 @@ pub fn names_twice(data_type: &DataType) -> bool
 
 /// Whether a Struct of these fields does.
 #[cycle(names)]
-fn struct_names_twice(fields: &[Field]) -> bool
+pub(crate) fn struct_names_twice(fields: &[Field]) -> bool
     ensures { result ≡ struct_names_twice_of fields.now }
 {
     repeats(fields) || any_names_twice(fields)

@@ -1,7 +1,7 @@
 //! Texts under timestamps, which are looked for once a column was refused.
 ghost use Rattle.std.specs.Prelude.{◌≡◌, MatchBool};
-ghost use Rattle.json_read.specs.Columns.{Has, means};
-ghost use Rattle.json_read.specs.Meaning.{moment_in, text_timestamp};
+ghost use Rattle.json_flat.specs.Columns.{Has, means};
+ghost use Rattle.json_flat.specs.Meaning.{moment_in, text_timestamp};
 ghost use Rattle.json_columns.specs.Gathered.{HasNoFields, field_meanings};
 ghost use Rattle.json_columns.specs.Reading.{list_in, or_null, reading, struct_in};
 ghost use Rattle.json_columns.specs.Texts.{IsNoTimestamp, is_text, item_is_text, member_is_text};
@@ -106,6 +106,20 @@ pub(crate) fn any_has_text(data_type: &DataType, values: &[Value]) -> bool
 {
     for value in values {
         if has_text(data_type, value) {
+            return true;
+        }
+    }
+    false
+}
+
+/// Whether one of the rows, read as a struct of these fields, means a text under a timestamp.
+pub(crate) fn any_row_has_text(fields: &[Field], rows: &[Value]) -> bool
+    ensures { MatchBool result
+        (Has text_timestamp (struct_in (field_meanings fields.now)) rows.now)
+        (Has text_timestamp (struct_in (field_meanings fields.now)) rows.now → ⊥) }
+{
+    for row in rows {
+        if struct_has_text(fields, row) {
             return true;
         }
     }

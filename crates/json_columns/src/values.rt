@@ -1,7 +1,7 @@
 //! Arrays of JSON values as columns.
 ghost use Rattle.std.specs.Prelude.{◌≡◌, true, false, IfOk, IfErr, OnOk};
 ghost use Rattle.arrow_array.specs.Arrays.{array_slots, array_type};
-ghost use Rattle.json_read.specs.Columns.{AreSlotsOf};
+ghost use Rattle.json_flat.specs.Columns.{AreSlotsOf};
 ghost use Rattle.json_columns.specs.Names.{names_twice as names_twice_of};
 ghost use Rattle.json_columns.specs.Reading.{has_reading, reading};
 ghost use Rattle.json_columns.specs.Refusals.{IsColumnOf, IsListRefusal, IsRefusal, IsTypeRefusal};

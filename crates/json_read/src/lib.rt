@@ -1,12 +1,6 @@
-//! JSON values (RFC 8259) into columns of a type that has no type beneath it.
+//! JSON values (RFC 8259) and columns: the types of values, the whole values of numbers, and values into columns and chunks.
 #![tactic(auto)]
 
-mod content;
-mod moment;
-mod native;
-mod plain;
-
-pub use content::{read_binaries, read_texts};
-pub use moment::read_moments;
-pub use native::WholeNumber;
-pub use plain::{read_booleans, read_integers, read_nulls};
+pub use json_columns::{deserialize, deserialize_records};
+pub use json_flat::{read_whole, read_whole_text};
+pub use json_infer::{coerce_data_type, infer, infer_records_schema};

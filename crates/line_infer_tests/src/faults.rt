@@ -2,7 +2,7 @@
 
 use crate::samples::{is_refused, source};
 use arrow_base::{Error, Reason};
-use ndjson::infer;
+use ndjson_infer::infer;
 
 #[test]
 fn no_bytes_are_refused(rt: HostRuntime) {

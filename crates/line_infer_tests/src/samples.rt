@@ -1,7 +1,7 @@
 //! What the tests read, and whether its type is the one that is wanted.
 
 use arrow_base::{Bytes, DataType, Error, Items, MemorySource, Source};
-use ndjson::infer;
+use ndjson_infer::infer;
 use std::alloc::Global;
 use std::process::Abort;
 

@@ -2,7 +2,7 @@
 
 use crate::samples::{is_inferred, next_byte, source};
 use arrow_base::{Box, DataType, Field, Items, Result, Text};
-use ndjson::{infer, infer_iter};
+use ndjson_infer::{infer, infer_iter};
 use std::alloc::Global;
 use std::test::Fail;
 

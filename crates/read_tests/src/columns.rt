@@ -26,7 +26,16 @@ fn is_read(
     item: Result<DataType>,
     wanted: &[u8],
 ) -> bool {
-    let read = column(alloc, text, item.expect(rt, "memory"));
+    has_text(
+        rt,
+        alloc,
+        column(alloc, text, item.expect(rt, "memory")),
+        wanted,
+    )
+}
+
+/// Whether a column was read, and has this text, without brackets.
+pub(crate) fn has_text(rt: &impl Abort, alloc: Global, read: Result<Array>, wanted: &[u8]) -> bool {
     let columns = Vec::from_array(alloc, [read]).expect(rt, "memory");
     let mut texts = Serializer::new(columns.into_iter(), Vec::new(alloc));
     texts.next() == Ok(Some(wanted))

@@ -7,6 +7,10 @@ mod columns;
 #[cfg(test)]
 mod numbers;
 #[cfg(test)]
+mod records;
+#[cfg(test)]
 mod refusals;
+#[cfg(test)]
+mod rows;
 #[cfg(test)]
 mod types;

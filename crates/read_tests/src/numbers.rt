@@ -1,5 +1,5 @@
 //! Whole values of numbers. The expected values are computed by hand from RFC 8259, section 6.
-use json_number::read_whole_text;
+use json_flat::read_whole_text;
 
 fn whole(mantissa: &str, exponent: &str) -> Option<i128> {
     read_whole_text(mantissa, exponent, i64::MIN as i128, i64::MAX as i128)

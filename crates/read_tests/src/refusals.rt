@@ -8,7 +8,7 @@ use json_columns::deserialize;
 use json_tree::Value;
 use std::test::Fail;
 
-fn is_refused(answer: Result<Array>, wanted: Error) -> bool {
+pub(crate) fn is_refused(answer: Result<Array>, wanted: Error) -> bool {
     match answer {
         Ok(_) => false,
         Err(error) => error == wanted,

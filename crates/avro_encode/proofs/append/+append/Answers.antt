@@ -9,6 +9,7 @@ use Rattle.arrow_array.proofs.Records.{capacity}
 use Rattle.avro_encode.specs.Listed.{plain_fields_of}
 use Rattle.avro_encode.specs.Plain.{one_block, plain}
 use Rattle.avro_encode.proofs.Appending.{two_members, beside_types, beside_pairs, null_appended, value_appended, member_pairs, member_plain, member_types, list_pairs, struct_pairs, array_plain, fields_plain, part_pairs, children_pair, list_kind_of, struct_kind_of, items_step, part_length, child_there, child_pairs, child_type, child_falls, fields_step, fields_end}
+use Rattle.avro_encode.proofs.Groups.{after_byte}
 use Rattle.avro_encode.proofs.append.+append.Goals as goal
 
 pub append_slot-append_member-requires : goal.append_slot-append_member-requires
@@ -133,20 +134,25 @@ append_fields-returns t c = record {
 pub append_member-beside_null-null_first-requires : goal.append_member-beside_null-null_first-requires
 append_member-beside_null-null_first-requires t c = two_members c.args.members.now _ c.requires.types
 
-pub append_member-append_value-requires : goal.append_member-append_value-requires
-append_member-append_value-requires t c =
+pub append_member-append_value_after-requires : goal.append_member-append_value_after-requires
+append_member-append_value_after-requires t c =
     let beside = c.beside_null-null_first in
     let p = beside_types c.args.members.now beside.result.0 beside.result.1.now _ beside.ensures c.requires.types in
     (search rules, (c.requires.within, (p.0, (p.1, beside_pairs c.args.members.now beside.result.0 beside.result.1.now _ beside.ensures (sym c.is_valid-held.ensures ∙ c.if-not-held.false) c.requires.slots))))
 
 pub append_member-returns-then-not-held : goal.append_member-returns-then-not-held
 append_member-returns-then-not-held t c = record {
-  ok = null_appended c.args.members.now _ _ c.beside_null-null_first.result.1.now _ _ _ c.beside_null-null_first.ensures c.is_valid-held.ensures c.if-not-held.true c.in_ok-append_index.ensures.ok;
+  ok = null_appended c.args.members.now _ _ c.beside_null-null_first.result.1.now _ _ _ _ c.beside_null-null_first.ensures c.is_valid-held.ensures c.if-not-held.true c.index_byte-index.ensures c.in_ok-push.ensures.items;
 }
 
 pub append_member-returns : goal.append_member-returns
 append_member-returns t c = record {
   ok =
-      on_ok_weaker c.append_value.result
-      (λ e. value_appended c.args.members.now _ _ c.beside_null-null_first.result.1.now _ _ _ _ c.beside_null-null_first.ensures c.is_valid-held.ensures c.if-not-held.false c.in_ok-append_index.ensures.ok e) c.append_value.ensures.ok;
+      on_ok_weaker c.append_value_after.result
+      (λ e. value_appended c.args.members.now _ _ c.beside_null-null_first.result.1.now _ _ _ _ c.beside_null-null_first.ensures c.is_valid-held.ensures c.if-not-held.false c.index_byte-index.ensures e) c.append_value_after.ensures.ok;
+}
+
+pub append_value_after-returns-in_ok-push-in-Array : goal.append_value_after-returns-in_ok-push-in-Array
+append_value_after-returns-in_ok-push-in-Array t c = record {
+  ok = on_ok_weaker c.append_value.result (λ e. after_byte _ _ _ _ _ c.in_ok-push-in-Array.ensures.items e) c.append_value.ensures.ok;
 }

@@ -10,25 +10,28 @@ use Rattle.avro_encode.specs.Plain.{plain}
 use Rattle.avro_encode.proofs.append.+append.Given as goal
 
 abbrev pub decreases-append_slot : goal.decreases-append_slot
-decreases-append_slot l = 5 * size-DataType (array_type l.array.now) + 4
+decreases-append_slot l = 6 * size-DataType (array_type l.array.now) + 5
 
 abbrev pub decreases-append_member : goal.decreases-append_member
-decreases-append_member l = 5 * size-DataType (array_type l.array.now) + 3
+decreases-append_member l = 6 * size-DataType (array_type l.array.now) + 4
+
+abbrev pub decreases-append_value_after : goal.decreases-append_value_after
+decreases-append_value_after l = 6 * size-DataType (array_type l.array.now) + 3
 
 abbrev pub decreases-append_value : goal.decreases-append_value
-decreases-append_value l = 5 * size-DataType (array_type l.array.now) + 2
+decreases-append_value l = 6 * size-DataType (array_type l.array.now) + 2
 
 abbrev pub decreases-append_list : goal.decreases-append_list
-decreases-append_list l = 5 * size-DataType (array_type l.array.now) + 1
+decreases-append_list l = 6 * size-DataType (array_type l.array.now) + 1
 
 abbrev pub decreases-append_struct : goal.decreases-append_struct
-decreases-append_struct l = 5 * size-DataType (array_type l.array.now) + 1
+decreases-append_struct l = 6 * size-DataType (array_type l.array.now) + 1
 
 abbrev pub decreases-append_items : goal.decreases-append_items
-decreases-append_items l = 5 * size-DataType (array_type l.part.now.array.now) + 5
+decreases-append_items l = 6 * size-DataType (array_type l.part.now.array.now) + 6
 
 abbrev pub decreases-append_fields : goal.decreases-append_fields
-decreases-append_fields l = 5 * children_depth l.children.now
+decreases-append_fields l = 6 * children_depth l.children.now
 
 abbrev pub invariant-append_items-loop-k : goal.invariant-append_items-loop-k
 invariant-append_items-loop-k l =

@@ -6,7 +6,7 @@ use Rattle.arrow_types.proofs.types.DataType.TheLaws.{the_size}
 use Rattle.arrow_types.proofs.types.Field.TheLaws.{the_size as field_size}
 use Rattle.arrow_types.specs.declared.types.DataType.TheVariants as types
 use Rattle.arrow_types.specs.declared.types.DataType.TheViews.{the_lemmas}
-use Rattle.json_read.specs.Columns.{lent, means}
+use Rattle.json_flat.specs.Columns.{lent, means}
 use Rattle.json_columns.specs.Faults.{TooManyListed}
 use Rattle.json_columns.specs.Reading.{list_in, reading}
 use Rattle.json_columns.proofs.ByFields.{list_ok, list_err, large_list_ok, large_list_err, struct_ok, struct_err, list_item_readable, large_list_item_readable, struct_fields_readable}

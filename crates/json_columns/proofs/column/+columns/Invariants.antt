@@ -1,6 +1,6 @@
 -- The columns so far are those of the fields so far.
 use Rattle.std.proofs.Common.{take}
-use Rattle.json_read.specs.Columns.{lent}
+use Rattle.json_flat.specs.Columns.{lent}
 use Rattle.json_columns.specs.Faults.{AreMemberColumns}
 use Rattle.json_columns.proofs.column.+columns.Given as goal
 

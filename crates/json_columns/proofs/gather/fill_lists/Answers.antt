@@ -1,7 +1,7 @@
 use Rattle.std.proofs.Common.{take, ◌∙◌}
 use Rattle.std.proofs.lemmas.Result.{err_from_is_err_and}
 use Rattle.arrow_types.specs.Numbers.{greatest_offset}
-use Rattle.json_read.specs.Columns.{lent}
+use Rattle.json_flat.specs.Columns.{lent}
 use Rattle.json_columns.proofs.Gathering.{all_more, counts_fault, items_length, lens_end, lens_more}
 use Rattle.json_columns.proofs.gather.fill_lists.Goals as goal
 

@@ -1,5 +1,5 @@
 use Rattle.std.proofs.Common.{◌≡◌, take}
-use Rattle.json_read.specs.Columns.{lent}
+use Rattle.json_flat.specs.Columns.{lent}
 use Rattle.json_columns.specs.Gathered.{all_items, list_lens}
 use Rattle.json_columns.proofs.gather.fill_lists.Given as goal
 

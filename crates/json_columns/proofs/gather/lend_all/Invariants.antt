@@ -1,5 +1,5 @@
 use Rattle.std.proofs.Common.{◌≡◌, ◌++◌, take}
-use Rattle.json_read.specs.Columns.{lent}
+use Rattle.json_flat.specs.Columns.{lent}
 use Rattle.json_columns.proofs.gather.lend_all.Given as goal
 
 abbrev pub invariant-loop-value : goal.invariant-loop-value

@@ -1,0 +1,52 @@
+//! Which file lines become.
+
+use crate::files::{BLOCK, EVENT_LINES, EVENTS, FIFTEEN, HEADER, MINUS_TWO, ONE};
+use crate::samples::{How, PLAIN, column, field, gives, lists, schema};
+use arrow_base::Text;
+use arrow_types::{DataType, TimeUnit};
+
+#[test]
+fn rows_of_an_int_become_a_block(rt: HostRuntime) {
+    let alloc = rt.alloc();
+    let int = column(&rt, alloc, DataType::Int32);
+    let lines = b"{\"a\":1}\n{\"a\":-2}\n";
+    assert!(rt; gives(&rt, alloc, lines, &int, PLAIN, Ok(2), &[HEADER, BLOCK]));
+    let single = How {
+        rows_per_block: 1,
+        ..PLAIN
+    };
+    let blocks: &[&[u8]] = &[HEADER, ONE, MINUS_TWO];
+    assert!(rt; gives(&rt, alloc, lines, &int, single, Ok(2), blocks));
+    let pair = How {
+        rows_per_block: 2,
+        ..PLAIN
+    };
+    assert!(rt; gives(&rt, alloc, lines, &int, pair, Ok(2), &[HEADER, BLOCK]));
+    let fifteen = b"{\"a\":1.5e1}";
+    assert!(rt; gives(&rt, alloc, fifteen, &int, PLAIN, Ok(1), &[HEADER, FIFTEEN]));
+    assert!(rt; gives(&rt, alloc, b" \n\n", &int, PLAIN, Ok(0), &[HEADER]));
+}
+
+#[test]
+fn rows_of_several_columns_become_a_file(rt: HostRuntime) {
+    let alloc = rt.alloc();
+    let zone = Text::try_from_str(alloc, "00:00").expect(&rt, "memory");
+    let millis = DataType::Timestamp(TimeUnit::Millisecond, Some(zone));
+    let id = field(&rt, alloc, "id", DataType::Int64, false);
+    let user = field(&rt, alloc, "user", DataType::Utf8, false);
+    let tags = field(
+        &rt,
+        alloc,
+        "tags",
+        lists(&rt, alloc, DataType::Utf8, true),
+        false,
+    );
+    let when = field(&rt, alloc, "when", millis, false);
+    let fields = vec![in alloc; id, user, tags, when].expect(&rt, "memory");
+    let events = schema(alloc, fields);
+    let pair = How {
+        rows_per_block: 2,
+        ..PLAIN
+    };
+    assert!(rt; gives(&rt, alloc, EVENT_LINES, &events, pair, Ok(3), &[EVENTS]));
+}

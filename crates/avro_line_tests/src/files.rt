@@ -1,0 +1,31 @@
+//! Files in memory, and pieces of files.
+
+/// The header of a file of a record of one int, `a`. Its marker is sixteen bytes 1.
+pub static HEADER: &[u8] =
+    b"Obj\x01\x02\x16avro.schema\x82\x01{\"type\":\"record\",\"name\":\"t\",\"fields\":[{\"name\":\"a\",\"type\":\"int\"}]}\x00\x01\x01\x01\x01\x01\x01\x01\x01\x01\x01\x01\x01\x01\x01\x01\x01";
+
+/// A block of that file: the rows 1 and -2, 2 bytes of encodings.
+pub static BLOCK: &[u8] =
+    b"\x04\x04\x02\x03\x01\x01\x01\x01\x01\x01\x01\x01\x01\x01\x01\x01\x01\x01\x01\x01";
+
+/// The block of the row 1.
+pub static ONE: &[u8] =
+    b"\x02\x02\x02\x01\x01\x01\x01\x01\x01\x01\x01\x01\x01\x01\x01\x01\x01\x01\x01";
+
+/// The block of the row -2.
+pub static MINUS_TWO: &[u8] =
+    b"\x02\x02\x03\x01\x01\x01\x01\x01\x01\x01\x01\x01\x01\x01\x01\x01\x01\x01\x01";
+
+/// The block of the row 15.
+pub static FIFTEEN: &[u8] =
+    b"\x02\x02\x1e\x01\x01\x01\x01\x01\x01\x01\x01\x01\x01\x01\x01\x01\x01\x01\x01";
+
+/// Three rows of a long, a string, a list of nullable strings and a timestamp of milliseconds, in
+/// two blocks.
+pub static EVENTS: &[u8] =
+    b"Obj\x01\x02\x16avro.schema\xda\x03{\"type\":\"record\",\"name\":\"t\",\"fields\":[{\"name\":\"id\",\"type\":\"long\"},{\"name\":\"user\",\"type\":\"string\"},{\"name\":\"tags\",\"type\":{\"type\":\"array\",\"items\":[\"null\",\"string\"]}},{\"name\":\"when\",\"type\":{\"type\":\"long\",\"logicalType\":\"timestamp-millis\"}}]}\x00\x01\x01\x01\x01\x01\x01\x01\x01\x01\x01\x01\x01\x01\x01\x01\x01\x040\x0e\x06ann\x04\x02\x02a\x00\x00\x90\xe2\x86\x82\x99c\x10\x06bob\x00\x00\x01\x01\x01\x01\x01\x01\x01\x01\x01\x01\x01\x01\x01\x01\x01\x01\x02\x14\x12\x04\xc3\xa9\x02\x02\x02x\x00\x01\x01\x01\x01\x01\x01\x01\x01\x01\x01\x01\x01\x01\x01\x01\x01\x01";
+
+/// Lines of these rows, of which one is blank: members in any order, a name twice, of which the last
+/// value counts, a name that no field has, and a number with a point and an exponent.
+pub static EVENT_LINES: &[u8] =
+    b"{\"id\":7,\"user\":\"ann\",\"tags\":[\"a\",null],\"when\":1704164645000}\n \t\r\n{\"when\":0,\"tags\":[],\"more\":{\"id\":1},\"user\":\"bob\",\"id\":1,\"id\":8}\n{\"id\":0.9e1,\"user\":\"\\u00e9\",\"tags\":[\"x\"],\"when\":-1}";

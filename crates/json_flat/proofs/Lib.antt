@@ -1,0 +1,7 @@
+pub mod Bounds
+pub mod Digits
+pub mod Growing
+pub mod Layers
+pub mod Scaling
+pub mod Signs
+pub mod Splitting

@@ -1,0 +1,17 @@
+//! JSON values (RFC 8259): the whole values of numbers, and values into columns of a type that has no type beneath it.
+#![tactic(auto)]
+
+mod content;
+mod exponent;
+mod magnitude;
+mod mantissa;
+mod moment;
+mod native;
+mod plain;
+mod whole;
+
+pub use content::{read_binaries, read_texts};
+pub use moment::read_moments;
+pub use native::WholeNumber;
+pub use plain::{read_booleans, read_integers, read_nulls};
+pub use whole::{read_whole, read_whole_text};

@@ -1,0 +1,10 @@
+pub mod Clean
+pub mod Gathered
+pub mod MeaningLaw
+pub mod LineLaw
+pub mod Numerals
+pub mod Printed
+pub mod RowLaw
+pub mod RowMeaning
+pub mod TextLaw
+pub mod Written

@@ -1,0 +1,3 @@
+pub mod Depth
+pub mod Laws
+pub mod Values

@@ -1,4 +1,0 @@
-pub mod Digits
-pub mod Scaling
-pub mod Signs
-pub mod Splitting

@@ -1,5 +1,0 @@
-use Rattle.json_read.proofs.Bounds.{bounded}
-use Rattle.json_read.proofs.native.whole_between.Goals as goal
-
-pub returns : goal.returns
-returns c = bounded c.read_whole.result c.args.low c.args.high _ c.ranges.low c.ranges.high c.read_whole.ensures

@@ -1,0 +1,12 @@
+pub mod Batching
+pub mod Complete
+pub mod Holding
+pub mod Nexts
+pub mod NullTypes
+pub mod Parsing
+pub mod PartOf
+pub mod Reasons
+pub mod Refused
+pub mod Roots
+pub mod Taking
+pub mod Whole

@@ -1,0 +1,81 @@
+-- Why a step isn't taken, by the errors of the calls that it makes.
+use Rattle.std.proofs.Common.{◌≡◌, ◌∙◌, inl, inr, ℕ, true, false, ◌||◌, List, [], ◌∷◌, Option, None, refl, sym, subst}
+use Rattle.std.specs.Prelude.{All}
+use Rattle.std.specs.List.{list_any}
+use Rattle.std.proofs.lemmas.Bool.{false≢true}
+use Rattle.std.proofs.KnownBytes.{Keeps-refl}
+use Rattle.arrow_array.specs.declared.array.Array.{Array}
+use Rattle.arrow_array.specs.Arrays.{array_slots, array_type}
+use Rattle.arrow_core.specs.declared.error.Error.{Error}
+use Rattle.arrow_core.specs.declared.error.Error.TheVariants.{InvalidArgumentError, NotYetImplemented, Overflow, OutOfMemory}
+use Rattle.arrow_core.specs.declared.error.Reason.TheVariants as reason
+use Rattle.arrow_types.specs.declared.slot.Slot.{Slot}
+use Rattle.arrow_types.specs.declared.types.DataType.{DataType}
+use Rattle.arrow_types.specs.declared.types.Field.{Field}
+use Rattle.avro_record.specs.Schemas.{NoAvroTypeWhere, record_of}
+use Rattle.avro_schema.specs.declared.schema.Schema.{Schema}
+use Rattle.avro_write.specs.declared.flaws.Flaw.TheVariants as flaw
+use Rattle.avro_write.specs.Flaws.{IsRefused, shows}
+use Rattle.json_columns.specs.Reading.{reading}
+use Rattle.json_columns.specs.Refusals.{IsRefusal}
+use Rattle.json_flat.specs.Columns.{AreSlotsOf}
+use Rattle.json_tree.specs.Tree.{Json}
+use Rattle.ndjson_read.specs.Reading.{State}
+use Rattle.avro_blocks.specs.Changes.{change_of}
+use Rattle.ndjson_avro.specs.Batches.{BatchFails}
+use Rattle.ndjson_avro.specs.Rows.{AreNotWritten}
+use Rattle.ndjson_avro.specs.Steps.{HoldOther, IsNotEncoded, IsRootOf}
+use Rattle.ndjson_avro.specs.Target.{AreNamed, HasNoTarget}
+use Rattle.ndjson_avro.specs.BatchSteps.{NoBatch, TakesBatch}
+use Rattle.ndjson_avro.specs.Values.{is_object}
+
+-- ---- the record
+
+pub no_record : (fields : List Field) (e : Error) → AreNamed fields → NoAvroTypeWhere (record_of true fields ≡ None) e → HasNoTarget fields e
+no_record fields (NotYetImplemented reason.NoAvroType) named h = (named, inl h)
+no_record fields OutOfMemory named h = tt
+no_record fields _ named h = absurd h
+
+pub memory_target : (fields : List Field) (e : Error) → e ≡ OutOfMemory → HasNoTarget fields e
+memory_target fields e is = subst (HasNoTarget fields) (sym is) tt
+
+-- ---- a block
+
+-- columns of the root are refused for a null, or for want of memory
+pub not_encoded : (root : Schema) (a : Array) (e : Error) → IsRootOf root (array_type a) → IsRefused root a e → IsNotEncoded root (array_slots a) e
+not_encoded root a (NotYetImplemented reason.SerializerPair) is h = absurd (h is.pairs)
+not_encoded root a (InvalidArgumentError reason.NullUnderRequired) is h = inr (refl, h.1)
+not_encoded root a (InvalidArgumentError reason.Interval) is h = absurd (false≢true (sym (none (array_slots a)) ∙ h.2))
+  where
+    none : (xs : List Slot) → list_any (shows flaw.Interval root) xs ≡ false
+    none [] = refl
+    none (x ∷ xs) = λ i. (is.no_interval x i || none xs i)
+not_encoded root a OutOfMemory is h = inl refl
+not_encoded root a _ is h = absurd h
+
+pub not_read : (t : DataType) (root : Schema) (values : List Json) (e : Error) → IsRootOf root t → All (λ v. is_object v ≡ true) values → IsRefusal t values e → AreNotWritten t root values e
+not_read t root values (InvalidArgumentError reason.DuplicateName) is objects h = absurd (false≢true (sym is.distinct ∙ h))
+not_read t root values (NotYetImplemented reason.NoJsonReading) is objects h = absurd (false≢true (sym h.1 ∙ is.readable))
+not_read t root values (NotYetImplemented reason.TextTimestamp) is objects h = (objects, h.2)
+not_read t root values Overflow is objects h = (objects, h.2, h.3)
+not_read t root values OutOfMemory is objects h = tt
+not_read t root values _ is objects h = absurd h
+
+pub other_value : (t : DataType) (root : Schema) (values : List Json) (e : Error) → HoldOther values e → AreNotWritten t root values e
+other_value t root values e h = subst (AreNotWritten t root values) (sym h.0) h.1
+
+pub lacks_a_value : (t : DataType) (root : Schema) (values : List Json) (slots : List Slot) (e : Error) → All (λ v. is_object v ≡ true) values → AreSlotsOf (reading t) values slots → IsNotEncoded root slots e → AreNotWritten t root values e
+lacks_a_value t root values slots e objects meant (inl memory) = subst (AreNotWritten t root values) (sym memory) tt
+lacks_a_value t root values slots e objects meant (inr h) = subst (AreNotWritten t root values) (sym h.0) (objects, (slots, meant, h.1))
+
+-- ---- a batch
+
+module _ (t : DataType) (root : Schema) (marker : List ℕ) (n : ℕ) (old new : State) (held : Option (List ℕ)) (faults : ℕ) where
+  pub no_batch : (e : Error) → NoBatch n old new e → BatchFails t root marker n old new (change_of held faults held faults) e
+  no_batch e (inl (inl memory)) = inl (Keeps-refl held, inl memory)
+  no_batch e (inl (inr h)) = inl (Keeps-refl held, inr (inl h))
+  no_batch e (inr (texts, takes, fault)) = inl (Keeps-refl held, inr (inr (record { texts = texts; takes = takes.takes; most = takes.most; fewer = takes.fewer; why = inl fault })))
+
+  pub not_written : (values given : List Json) (e : Error) → given ≡ values → TakesBatch n old new values → AreNotWritten t root given e → BatchFails t root marker n old new (change_of held faults held faults) e
+  not_written values given e is (texts, takes, have) h =
+      inl (Keeps-refl held, inr (inr (record { texts = texts; takes = takes.takes; most = takes.most; fewer = takes.fewer; why = inr (values, have, subst (λ (vs : List Json). AreNotWritten t root vs e) is h) })))

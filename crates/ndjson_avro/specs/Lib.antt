@@ -1,0 +1,10 @@
+pub mod Answers
+pub mod BatchSteps
+pub mod Batches
+pub mod Conversion
+pub mod Nulls
+pub mod Rows
+pub mod Steps
+pub mod Taken
+pub mod Target
+pub mod Values

@@ -1,0 +1,98 @@
+-- What is encoded and written of a batch, and batch after batch. Contracts of private functions alone cite this file.
+use Rattle.std.specs.Prelude.{◌≡◌, ◌⊎◌, ℕ, ◌+◌, ◌≤◌, true, false, Option, List, [], ◌∷◌, length, All}
+use Rattle.std.specs.List.{Any}
+use Rattle.std.specs.Io.KnownBytes.{Appends, IsAtEnd}
+use Rattle.arrow_core.specs.declared.error.Error.{Error}
+use Rattle.arrow_core.specs.declared.error.Error.TheVariants.{ExternalFormat, InvalidArgumentError, OutOfMemory}
+use Rattle.arrow_core.specs.declared.error.Reason.TheVariants as reason
+use Rattle.arrow_types.specs.declared.types.DataType as types
+use Rattle.arrow_types.specs.declared.types.DataType.{DataType}
+use Rattle.arrow_types.specs.declared.types.Field.{Field}
+use Rattle.arrow_types.specs.declared.slot.Slot.{Slot}
+use Rattle.avro_container.specs.Canonical.{canonical_blocks}
+use Rattle.avro_container.specs.File.{FileBlock}
+use Rattle.avro_encode.specs.Pairs.{Pairs}
+use Rattle.avro_encode.specs.PairTypes.{PairsType}
+use Rattle.avro_schema.specs.declared.schema.Record.{Record as TheRecord}
+use Rattle.avro_schema.specs.declared.schema.Schema.{Record, Schema}
+use Rattle.avro_write.specs.declared.flaws.Flaw.TheVariants as flaw
+use Rattle.avro_write.specs.Flaws.{shows}
+use Rattle.json_columns.specs.Names.{names_twice}
+use Rattle.json_columns.specs.Reading.{has_reading, reading}
+use Rattle.json_flat.specs.Columns.{AreSlotsOf}
+use Rattle.json_tree.specs.Tree.{Json}
+use Rattle.ndjson_read.specs.Reading.{State}
+use Rattle.ndjson_avro.specs.Batches.{WritesBatches}
+use Rattle.ndjson_avro.specs.BatchSteps.{TakesSome}
+use Rattle.ndjson_avro.specs.Rows.{all_rows, AreBatches, AreRows, lacks_value, rows_block, rows_blocks}
+use Rattle.ndjson_avro.specs.Taken.{TakesRows}
+use Rattle.ndjson_avro.specs.Target.{HasTarget}
+use Rattle.ndjson_avro.specs.Values.{is_object}
+use Rattle.ndjson_avro.specs.declared.encoder.BlockEncoder.{BlockEncoder}
+
+-- ---- encoding
+
+-- Values are read under the row type, whose rows pair with the root, and are intervals nowhere.
+pub record IsRootOf (root : Schema) (row_type : DataType) : Type 0 where
+  pub distinct : names_twice row_type ≡ false
+  pub readable : has_reading row_type ≡ true
+  pub pairs : PairsType root row_type
+  pub no_interval : (x : Slot) → shows flaw.Interval root x ≡ false
+
+-- An encoder of the rows of these fields, and the record of the file.
+pub record IsEncoderOf (fields : List Field) (name : List ℕ) (encoder : BlockEncoder) (target : TheRecord) : Type 0 where
+  pub has : HasTarget fields name target
+  pub row_type : encoder.row_type ≡ types.Struct fields
+  pub root : encoder.root ≡ Record target
+  pub is_root : IsRootOf encoder.root encoder.row_type
+
+-- a value is no object
+abbrev pub HoldOther : List Json → Error → Type 0
+HoldOther values e = (e ≡ ExternalFormat reason.NotAnObject) × Any (λ value. is_object value ≡ false) values
+
+-- why slots aren't encoded
+abbrev pub IsNotEncoded : Schema → List Slot → Error → Type 0
+IsNotEncoded root slots e = (e ≡ OutOfMemory) ⊎ ((e ≡ InvalidArgumentError reason.NullUnderRequired) × (lacks_value root slots ≡ true))
+
+-- the values are rows, and this is their block
+pub record EncodesValues (row_type : DataType) (root : Schema) (values : List Json) (block : FileBlock) : Type 0 where
+  pub objects : All (λ value. is_object value ≡ true) values
+  pub slots : List Slot
+  pub meant : AreSlotsOf (reading row_type) values slots
+  pub complete : lacks_value root slots ≡ false
+  pub paired : All (Pairs root) slots
+  pub is : block ≡ rows_block root slots
+
+-- ---- writing
+
+-- the batch of some rows; none where there is no row
+abbrev pub as_batch : List Slot → List (List Slot)
+as_batch [] = []
+as_batch (x ∷ slots) = (x ∷ slots) ∷ []
+
+-- the next rows were taken, so many, and written as a block, if any
+pub record NextWritten (row_type : DataType) (root : Schema) (marker : List ℕ) (n : ℕ) (old new : State) (held held_after : Option (List ℕ)) (count : ℕ) : Type 0 where
+  pub texts : List (List ℕ)
+  pub takes : TakesSome n old new texts
+  pub slots : List Slot
+  pub rows : AreRows row_type root texts slots
+  pub written : Appends held held_after (canonical_blocks marker (rows_blocks root (as_batch slots)))
+  pub counted : count ≡ length texts
+
+-- whole batches of n rows were written so far, and of so many rows
+pub record WrittenSoFar (row_type : DataType) (root : Schema) (marker : List ℕ) (n : ℕ) (old new : State) (held held_after : Option (List ℕ)) (count : ℕ) : Type 0 where
+  pub batches : List (List Slot)
+  pub before : WritesBatches row_type root marker n old new held held_after batches
+  pub counted : count ≡ length before.texts
+  pub few : length before.texts + new.limit ≤ old.limit
+
+-- all rows were taken, so many, and written
+pub record AllWritten (row_type : DataType) (root : Schema) (marker : List ℕ) (n : ℕ) (old new : State) (held held_after : Option (List ℕ)) (count : ℕ) : Type 0 where
+  pub texts : List (List ℕ)
+  pub takes : TakesRows old new texts
+  pub end : IsAtEnd new.left
+  pub batches : List (List Slot)
+  pub rows : AreRows row_type root texts (all_rows batches)
+  pub cut : AreBatches n batches
+  pub written : Appends held held_after (canonical_blocks marker (rows_blocks root batches))
+  pub counted : count ≡ length texts

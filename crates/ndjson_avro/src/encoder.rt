@@ -1,0 +1,115 @@
+//! The values of rows into a block.
+ghost use Rattle.std.specs.Prelude.{◌≡◌, true, false, length, All, IfOk, OnOk, IfErr, MatchResult};
+ghost use Rattle.arrow_array.specs.Arrays.{array_slots, array_type};
+ghost use Rattle.avro_container.specs.File.{the_block};
+ghost use Rattle.avro_encode.specs.Pairs.{Pairs};
+ghost use Rattle.ndjson_avro.specs.Rows.{lacks_value, rows_block, AreNotWritten};
+ghost use Rattle.ndjson_avro.specs.Steps.{EncodesValues, IsEncoderOf, IsNotEncoded, IsRootOf, HoldOther};
+ghost use Rattle.ndjson_avro.specs.Target.{HasNoTarget};
+ghost use Rattle.ndjson_avro.specs.Values.{is_object as is_object_of};
+
+use crate::target::make_target;
+use arrow_array::Array;
+use arrow_core::{Bytes, Error, Reason, Result};
+use arrow_types::{DataType, Schema};
+use avro_schema::{AvroSchema, Block, Record};
+use avro_write::{new_serializer, serialize};
+use json_columns::read_values;
+use json_tree::Value;
+use std::alloc::Global;
+
+/// Turns the values of rows into blocks of one file.
+#[derive(Drop)]
+pub(crate) struct BlockEncoder {
+    // The Struct of the columns.
+    pub(crate) row_type: DataType,
+    // The record of the file.
+    pub(crate) root: AvroSchema,
+    // The block at hand.
+    pub(crate) block: Block,
+}
+
+fn is_object(value: &Value) -> bool
+    ensures { result ≡ is_object_of value.now }
+{
+    matches!(value, Value::Object(_))
+}
+
+/// Whether all values are objects.
+fn check_objects(values: &[Value]) -> Result<()>
+    ensures { MatchResult result (λ _. All (λ value. is_object_of value ≡ true) values.now)
+        (HoldOther values.now) }
+{
+    for value in values {
+        if !is_object(value) {
+            return Err(Error::ExternalFormat(Reason::NotAnObject));
+        }
+    }
+    Ok(())
+}
+
+/// Fills the block with the canonical encodings of the rows, as many as it states.
+///
+/// `InvalidArgumentError(NullUnderRequired)` where a null stands where the root requires a value;
+/// `OutOfMemory`.
+fn encode_rows(alloc: Global, rows: &Array, root: &AvroSchema, block: &mut Block) -> Result<()>
+    requires root { IsRootOf root.now (array_type rows.now) }
+    requires number { length (array_slots rows.now) ≡ block.old.number_of_rows }
+    ensures ok { OnOk result (the_block block.new.number_of_rows block.new.bytes
+        ≡ rows_block root.now (array_slots rows.now)) }
+    ensures complete { OnOk result (lacks_value root.now (array_slots rows.now) ≡ false) }
+    ensures paired { OnOk result (All (Pairs root.now) (array_slots rows.now)) }
+    ensures err { IfErr result (IsNotEncoded root.now (array_slots rows.now)) }
+{
+    let serializer = new_serializer(alloc, rows, root)?;
+    serialize(&mut [serializer], block)?;
+    Ok(())
+}
+
+impl BlockEncoder {
+    /// An encoder of rows of these columns, and the record of their file, under this name.
+    ///
+    /// The errors are those of `make_target`.
+    pub(crate) fn new(alloc: Global, schema: &Schema, name: &str) -> Result<(BlockEncoder, Record)>
+        ensures ok { IfOk result
+            (λ made. IsEncoderOf schema.now.fields name.now made.0 made.1) }
+        ensures err { IfErr result (HasNoTarget schema.now.fields) }
+    {
+        let Schema { fields, .. } = schema.try_clone(alloc)?;
+        let row_type = DataType::Struct(fields);
+        let target = make_target(alloc, schema, &row_type, name)?;
+        let root = target.try_clone(alloc)?;
+        let encoder = BlockEncoder {
+            row_type,
+            root: AvroSchema::Record(root),
+            block: Block {
+                number_of_rows: 0,
+                bytes: Bytes::new(alloc),
+            },
+        };
+        Ok((encoder, target))
+    }
+
+    /// Fills the block with the rows that these values are under the row type.
+    ///
+    /// In this order: `ExternalFormat(NotAnObject)` where a value is no object,
+    /// `NotYetImplemented(TextTimestamp)` where a text stands under a timestamp, `Overflow` where a
+    /// value doesn't fit its type, or there are more items or bytes than can be counted, and
+    /// `InvalidArgumentError(NullUnderRequired)` where a null stands where the root requires a
+    /// value. `OutOfMemory` at any time.
+    pub(crate) fn fill_block(&mut self, alloc: Global, values: &[Value]) -> Result<()>
+        requires { IsRootOf self.old.root self.old.row_type }
+        ensures ok { OnOk result (EncodesValues self.old.row_type self.old.root values.now
+            (the_block self.new.block.number_of_rows self.new.block.bytes)) }
+        ensures err { IfErr result
+            (AreNotWritten self.old.row_type self.old.root values.now) }
+        ensures row_type { self.new.row_type ≡ self.old.row_type }
+        ensures root { self.new.root ≡ self.old.root }
+    {
+        check_objects(values)?;
+        let rows = read_values(alloc, values, &self.row_type)?;
+        self.block.number_of_rows = values.len();
+        encode_rows(alloc, &rows, &self.root, &mut self.block)?;
+        Ok(())
+    }
+}

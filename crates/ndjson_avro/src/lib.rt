@@ -1,0 +1,14 @@
+//! JSON lines into Avro files.
+#![tactic(auto)]
+
+mod batch;
+mod batches;
+mod encoder;
+mod laws;
+mod ndjson;
+mod nulls;
+mod sizes;
+mod target;
+
+pub use laws::conversion_answers;
+pub use ndjson::ndjson_to_avro;

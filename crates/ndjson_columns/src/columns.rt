@@ -1,0 +1,90 @@
+//! The column of rows of JSON lines.
+ghost use Rattle.std.specs.Prelude.{◌≡◌, ◌≢◌, [], IfOk, IfErr, OnOk};
+ghost use Rattle.std.specs.Iterator.{IsFinite};
+ghost use Rattle.arrow_array.specs.Arrays.{array_slots, array_type};
+ghost use Rattle.ndjson_columns.specs.Columns.{IsColumnOf, IsColumnOfAll, IsNoColumn, IsNoColumnOfAll, IsRefusalOf};
+
+use crate::rows::{push_given, push_values};
+use arrow_array::Array;
+use arrow_core::{Error, Reason, Result, Text};
+use arrow_types::DataType;
+use json_columns::read_values;
+use json_tree::Value;
+use std::alloc::Global;
+
+/// The column of rows, whose values are kept in `values`, where there is none yet.
+fn read_rows(
+    alloc: Global,
+    values: &mut Vec<Value>,
+    rows: &[Text],
+    data_type: &DataType,
+) -> Result<Array>
+    requires none { values.old.items ≡ [] }
+    ensures column { IfOk result
+        (λ a. IsColumnOf rows.now data_type.now (array_type a) (array_slots a)) }
+    ensures err { IfErr result (IsNoColumn rows.now data_type.now) }
+{
+    push_values(alloc, values, rows)?;
+    read_values(alloc, values.as_slice(), data_type)
+}
+
+/// The column of the rows that an iterator gives, whose values are kept in `values`, where there is
+/// none yet.
+fn read_given<'a, I: Iterator<Item = &'a str> + Drop>(
+    alloc: Global,
+    values: &mut Vec<Value>,
+    rows: I,
+    data_type: &DataType,
+) -> Result<Array>
+    requires can { I.can_next rows }
+    requires ends { IsFinite (I.remaining rows) }
+    requires none { values.old.items ≡ [] }
+    ensures column { IfOk result
+        (λ a. IsColumnOfAll I.next_gives rows data_type.now (array_type a) (array_slots a)) }
+    ensures err { IfErr result (IsNoColumnOfAll I.next_gives rows data_type.now) }
+{
+    push_given(alloc, values, rows)?;
+    read_values(alloc, values.as_slice(), data_type)
+}
+
+/// The column of rows under a type, one slot a row: what the row's value means under the type, as
+/// the table of types in `docs/FORMATS.md` has it. Each row is a JSON text (RFC 8259), and may end
+/// with its line feed.
+///
+/// The first of these that applies: `ExternalFormat(EmptyInput)` where there is no row; of the first
+/// row that is no such text, `LimitExceeded` where it has more than 128 brackets open at once, else
+/// `ExternalFormat(Json)`; then what `json_columns::read_values` refuses, from
+/// `InvalidArgumentError(DuplicateName)` on. `OutOfMemory` may come in place of any answer but the
+/// first.
+pub fn deserialize(alloc: Global, rows: &[Text], data_type: DataType) -> Result<Array>
+    ensures some { OnOk result (rows.now ≢ []) }
+    ensures column { IfOk result
+        (λ a. IsColumnOf rows.now data_type (array_type a) (array_slots a)) }
+    ensures err { IfErr result (IsRefusalOf rows.now data_type) }
+{
+    if rows.is_empty() {
+        return Err(Error::ExternalFormat(Reason::EmptyInput));
+    }
+    let mut values = Vec::new(alloc);
+    read_rows(alloc, &mut values, rows, &data_type)
+}
+
+/// The column of the rows that an iterator gives under a type, as `deserialize` has it. The column
+/// of no rows is empty. The iterator has to end.
+///
+/// The refusals are those of `deserialize` but the first. Where a row is no JSON text, none after it
+/// is asked for.
+pub fn deserialize_iter<'a, I: Iterator<Item = &'a str> + Drop>(
+    alloc: Global,
+    rows: I,
+    data_type: DataType,
+) -> Result<Array>
+    requires can { I.can_next rows }
+    requires ends { IsFinite (I.remaining rows) }
+    ensures column { IfOk result
+        (λ a. IsColumnOfAll I.next_gives rows data_type (array_type a) (array_slots a)) }
+    ensures err { IfErr result (IsNoColumnOfAll I.next_gives rows data_type) }
+{
+    let mut values = Vec::new(alloc);
+    read_given(alloc, &mut values, rows, &data_type)
+}
