@@ -1,6 +1,6 @@
 #!/bin/sh
-# Measures one of the folders beside this script: arrays, avro_write, block, builders, container, dates, infer, json_tree,
-# json_write or ndjson.
+# Measures one of the folders beside this script: arrays, avro, avro_write, block, builders, container, dates, infer, json_tree,
+# json_write, ndjson or rewrite.
 #     bench/run.sh NAME
 # `main.rattle` of the folder is a Rattle program over the crates that `crates` names (without it, avrocat itself is measured),
 # `plain.rs`, where there is one, the same in plain Rust, and `measure.py` runs both on the same input and prints what it found.

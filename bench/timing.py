@@ -1,11 +1,13 @@
 """Seconds of processor time, user and system together, of programs that run."""
 
+import os
 import resource
 import subprocess
 import sys
 
 work = sys.argv[1]
 OURS, PLAIN = work + "/crates/bench/out/bench", work + "/plain"
+TIME = "/usr/bin/time"
 
 
 def seconds(words, given=None):
@@ -26,3 +28,12 @@ def least_in_turn(all_words, given=None, runs=5):
 def compared(ours, plain):
     """The two times, and how many times the second the first is."""
     return "%.3f s, plain Rust %.3f s, %.2f times" % (ours, plain, ours / plain)
+
+
+def peak(words, given):
+    """The most memory of one run, by GNU time (Debian's time), whose own is small: a child of this program would be charged its memory."""
+    if not os.path.exists(TIME):
+        return "memory not measured"
+    with open(given) as source:
+        told = subprocess.run([TIME, "-f", "%M"] + words, stdin=source, stdout=subprocess.DEVNULL, stderr=subprocess.PIPE, check=True).stderr
+    return "at most %.1f MB of memory" % (int(told) / 1024)

@@ -1,6 +1,7 @@
 import java.io.File;
 import java.io.FileOutputStream;
 import java.nio.charset.StandardCharsets;
+import java.util.Arrays;
 import org.apache.avro.Schema;
 import org.apache.avro.file.DataFileReader;
 import org.apache.avro.file.DataFileWriter;
@@ -15,7 +16,8 @@ import org.apache.avro.generic.GenericRecord;
  * <ul>
  * <li>`write FILE` writes a file of blocks of one row and of two, with an entry of its own in the metadata;
  * <li>`copy FILE COPY` copies a file's blocks as they are, also one of no rows, which no writer makes by itself;
- * <li>`show FILE` prints the rows of a file as JSON, a line each.
+ * <li>`show FILE` prints the rows of a file as JSON, a line each;
+ * <li>`try FILE..` does so for each file, and prints at its end, or where it is refused, a line of `end` or of `refused` and why.
  * </ul>
  */
 public class AvroSamples {
@@ -73,8 +75,20 @@ public class AvroSamples {
         }
     }
 
+    static void showEach(String[] names) {
+        for (String name : names) {
+            try {
+                show(name);
+                System.out.println("end");
+            } catch (Exception error) {
+                System.out.println("refused " + error.toString().split("\n")[0]);
+            }
+        }
+    }
+
     public static void main(String[] words) throws Exception {
         switch (words[0]) {
+            case "try": showEach(Arrays.copyOfRange(words, 1, words.length)); break;
             case "write": write(words[1]); break;
             case "copy": copy(words[1], words[2]); break;
             case "show": show(words[1]); break;

@@ -1,8 +1,11 @@
-"""A slow model of the formats, written from docs/FORMATS.md: what the program answers of words and bytes.
+"""A slow model of the formats, written from docs/FORMATS.md: schemas, blocks and files read, words, JSON texts, and what
+`block`, `block-large` and `ndjson` answer. `canonical_model.py` and `lines_model.py` beside it have the other commands.
 
-Schemas are tuples: a kind, and what belongs to it. A slot is None, a bool, an int, a str, bytes, a list, or a
-tuple for a struct.
+Schemas are tuples: a kind, and what belongs to it. A logical type is its name, of a decimal a tuple of `decimal`,
+precision and scale. A slot is None, a bool, an int, a str, bytes, a list, or a tuple for a struct.
 """
+
+import re
 
 DIGITS = "0123456789"
 NAME_CHARACTERS = set(
@@ -24,6 +27,7 @@ STATUS = {
     "NotYetImplemented": 3,
     "ExternalFormat": 4,
     "OutOfSpec": 5,
+    "Overflow": 6,
     "LimitExceeded": 7,
 }
 
@@ -397,9 +401,8 @@ class Word:
         self.expect(")")
         if precision < 1 or scale > precision:
             raise Usage()
-        if size is None:
-            return ("bytes", "decimal")
-        return ("fixed", size, "decimal")
+        logical = ("decimal", precision, scale)
+        return ("bytes", logical) if size is None else ("fixed", size, logical)
 
     def scale(self, precision):
         start = self.at
@@ -550,6 +553,10 @@ class TooDeep(Exception):
     """A JSON text in which 129 brackets are open at once."""
 
 
+# Characters of a string that are what they are.
+PLAIN = re.compile('[^"\\\\\x00-\x1f]*')
+
+
 class JsonNumber(str):
     """A number's text."""
 
@@ -579,15 +586,18 @@ class JsonReader:
 
     def value(self, depth):
         self.skip_spaces()
-        for word, value in (("null", None), ("true", True), ("false", False)):
-            if self.takes(word):
-                return value
-        if self.text[self.at : self.at + 1] in ("[", "{"):
+        first = self.text[self.at : self.at + 1]
+        if first == '"':
+            self.at += 1
+            return self.string()
+        if first in ("[", "{"):
             if depth == 128:
                 raise TooDeep()
-            return self.array(depth + 1) if self.takes("[") else self.object(depth + 1)
-        if self.takes('"'):
-            return self.string()
+            self.at += 1
+            return self.array(depth + 1) if first == "[" else self.object(depth + 1)
+        for word, value in (("null", None), ("true", True), ("false", False)):
+            if first == word[0] and self.takes(word):
+                return value
         return self.number()
 
     def array(self, depth):
@@ -604,7 +614,6 @@ class JsonReader:
                 raise Fault()
 
     def object(self, depth):
-        self.takes("{")
         members = {}
         self.skip_spaces()
         if self.takes("}"):
@@ -627,11 +636,15 @@ class JsonReader:
     def string(self):
         out = ""
         while not self.takes('"'):
+            plain = PLAIN.match(self.text, self.at)
+            out += plain.group()
+            self.at = plain.end()
             character = self.text[self.at : self.at + 1]
             if not character or ord(character) < 32:
                 raise Fault()
-            self.at += 1
-            out += self.escape() if character == "\\" else character
+            if character == "\\":
+                self.at += 1
+                out += self.escape()
         return out
 
     def unit(self):
@@ -758,8 +771,8 @@ class SchemaReader:
             return ("long", logical)
         if kind == "string" and logical == "uuid":
             return ("string", logical)
-        if kind in ("bytes", "fixed") and logical == "decimal" and is_decimal(value):
-            return ("bytes", logical) if kind == "bytes" else ("fixed", schema[1], logical)
+        if kind in ("bytes", "fixed") and logical == "decimal" and (decimal := decimal_type(value)):
+            return ("bytes", decimal) if kind == "bytes" else ("fixed", schema[1], decimal)
         if kind == "fixed" and logical == "duration" and schema[1] == 12:
             return ("fixed", 12, logical)
         return schema
@@ -794,21 +807,28 @@ def number_of(value):
     return int(value)
 
 
-def is_decimal(value):
-    precision, scale = number_of(value.get("precision")), JsonNumber("0")
-    scale = number_of(value.get("scale", scale))
-    return (
-        precision is not None
-        and 1 <= precision <= MOST_32
-        and scale is not None
-        and scale <= precision
-    )
+def decimal_type(value):
+    """The decimal of a schema's attributes; None where they make none."""
+    precision = number_of(value.get("precision"))
+    scale = number_of(value.get("scale", JsonNumber("0")))
+    if precision is None or not 1 <= precision <= MOST_32 or scale is None or scale > precision:
+        return None
+    return ("decimal", precision, scale)
+
+
+def text_before_fault(data):
+    """The text of bytes up to the first that is no UTF-8: what is too deep before it is too deep."""
+    try:
+        return data.decode("utf-8")
+    except UnicodeDecodeError as error:
+        return data[: error.start].decode("utf-8")
 
 
 def root_of(text):
     """The fields of the record for which the text of a schema stands."""
     try:
-        value = JsonReader(text.decode("utf-8")).whole()
+        value = JsonReader(text_before_fault(text)).whole()
+        text.decode("utf-8")
     except (UnicodeDecodeError, Fault):
         raise Refused("ExternalFormat", "SchemaText") from None
     except TooDeep:
@@ -892,22 +912,3 @@ def run_ndjson(words, data, out):
         rows, block = block_of(bytes_, marker)
         table = table_of(rows, fields, keeps, block)
         out.append("".join(json_text(record, tuple(row)) + "\n" for row in table).encode())
-
-
-def answer_of(words, data):
-    """Exit status, standard output and standard error of the program."""
-    out = []
-    try:
-        command = words[0] if words else ""
-        if command in ("block", "block-large"):
-            out.append(run_block(words, data))
-        elif command == "ndjson":
-            run_ndjson(words, data, out)
-        else:
-            raise Usage()
-    except Usage:
-        return 1, b"", b"avrocat: usage\n"
-    except Refused as refused:
-        status, note = refused.answer()
-        return status, b"".join(out), note
-    return 0, b"".join(out), b""

@@ -5,11 +5,10 @@ avrocat (Debian's avro-bin) where it is installed, and Python's avro (Debian's p
 import os
 import subprocess
 
-from timing import PLAIN, compared, least_in_turn, seconds, work
+from timing import PLAIN, compared, least_in_turn, peak, seconds, work
 
 OURS = work + "/crates/avrocat/out/avrocat"
 AVRO_C = "/usr/bin/avrocat"
-TIME = "/usr/bin/time"
 PYTHON = """
 import json, sys
 from avro.datafile import DataFileReader
@@ -17,15 +16,6 @@ from avro.io import DatumReader
 for row in DataFileReader(open(sys.argv[1], "rb"), DatumReader()):
     print(json.dumps(row, default=str))
 """
-
-
-def peak(words, given):
-    """The most memory of one run, by GNU time (Debian's time), whose own is small: a child of this program would be charged its memory."""
-    if not os.path.exists(TIME):
-        return "memory not measured"
-    with open(given) as source:
-        told = subprocess.run([TIME, "-f", "%M"] + words, stdin=source, stdout=subprocess.DEVNULL, stderr=subprocess.PIPE, check=True).stderr
-    return "at most %.1f MB of memory" % (int(told) / 1024)
 
 
 for kind, rows in [("flat", 400_000), ("forty", 200_000), ("nested", 400_000)]:

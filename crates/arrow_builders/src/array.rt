@@ -9,6 +9,7 @@ ghost use Rattle.arrow_types.specs.declared.slot.Slot.TheVariants.{Null as NullS
 ghost use Rattle.arrow_array.specs.Arrays.{array_type, array_slots};
 ghost use Rattle.arrow_array.specs.Parts.{IsRefusalOf, is_extension};
 ghost use Rattle.arrow_flat.specs.Nodes.{NoLessSpare, Emptied, HasSpare, IsEmpty};
+ghost use Rattle.arrow_builders.specs.Calls.{PushesNull};
 ghost use Rattle.arrow_builders.specs.Fits.{ChildrenFit, TypesFit};
 ghost use Rattle.arrow_builders.specs.MutableArrays.{builder_type, builder_slots, builder_kind, nodes, lengths_of, slots_at};
 ghost use Rattle.arrow_builders.specs.Shapes.{shape, nulls_at, AllTake, AllGetNulls, AllGetBytes, FitsIn, BytesFitIn, IsFlat};
@@ -144,6 +145,7 @@ impl MutableArray {
     /// `OutOfMemory` leaves slots and content bytes of a flat kind as they are, and where only
     /// slots lack capacity, it changes nothing. A nested kind takes only `node_lengths`, `clear`
     /// and drop after it.
+    #[inline(always)]
     pub fn push_null(&mut self) -> Result<()>
         ensures shape { shape self.new ≡ shape self.old }
         ensures kind { builder_kind self.new ≡ builder_kind self.old }
@@ -169,7 +171,21 @@ impl MutableArray {
         ensures takes { AllTake (nulls_at 1 self.old) (nodes self.old) (nodes self.new) }
         ensures has_capacity { AllZip FitsIn (nulls_at 1 self.old) (nodes self.old) → IsOk result }
     {
-        self.append_null()
+        self.append_any_null()
+    }
+
+    /// Appends a null, with the nulls beneath. Kinds that are null often take no call.
+    #[inline(always)]
+    fn append_any_null(&mut self) -> Result<()>
+        ensures { PushesNull self.old self.new result }
+    {
+        match self {
+            MutableArray::Boolean(builder) => builder.push_null(),
+            MutableArray::Int32(builder) => builder.push_null(),
+            MutableArray::Int64(builder) => builder.push_null(),
+            MutableArray::Utf8(builder) => builder.push_null(),
+            _ => self.append_null(),
+        }
     }
 
     /// Makes spare capacity at every node for so many more slots and so many more content bytes.

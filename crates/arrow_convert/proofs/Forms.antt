@@ -1,5 +1,5 @@
 -- A file has one canonical form, and canonical files tell their rows.
-use Rattle.std.proofs.Common.{◌≡◌, ◌∙◌, ℕ, true, List, [], ◌∷◌, ◌++◌, length, Option, Some, refl, sym, ap, subst, arith}
+use Rattle.std.proofs.Common.{◌≡◌, ◌∙◌, ℕ, true, List, [], ◌∷◌, length, Some, refl, sym, ap, subst}
 use Rattle.std.proofs.lemmas.Option.{same_Some}
 use Rattle.std.specs.Prelude.{◌^◌, ◌<◌, sum_by}
 use Rattle.std.specs.List.{AllByRecursion, AllZip}
@@ -23,7 +23,7 @@ use Rattle.avro_record.specs.Schemas.{record_of}
 use Rattle.avro_write.specs.Laws.{all_kept, plain_table}
 use Rattle.avro_write.proofs.TableLaw.{table_tells}
 use Rattle.avro_canonical.specs.Canonical.{HasEncodings, HasTable}
-use Rattle.avro_canonical.specs.Rewritten.{HasCanonicalForm, RewritesFile, table_blocks}
+use Rattle.avro_canonical.specs.Rewritten.{HasCanonicalForm, table_blocks}
 use Rattle.arrow_convert.specs.Laws.{CanBeStated, OneCanonicalForm, FilesTellRows, with_rows}
 
 -- ---- one canonical form
@@ -87,7 +87,7 @@ none_some : {X : Type 0} {x : X} {xs : List X} → [] ≡ x ∷ xs → ⊥
 none_some q = cc
 
 -- the blocks of tables are those of the tables that have a row
-of_rows : (fields : List AvroField) (ts : List (List (List Slot))) → table_blocks fields ts ≡ table_blocks fields (with_rows ts)
+pub of_rows : (fields : List AvroField) (ts : List (List (List Slot))) → table_blocks fields ts ≡ table_blocks fields (with_rows ts)
 of_rows fields [] = refl
 of_rows fields ([] ∷ ts) = of_rows fields ts
 of_rows fields ((row ∷ table) ∷ ts) = ap (λ (bs : List FileBlock). the_block (length (row ∷ table)) (plain_table fields (row ∷ table)) ∷ bs) (of_rows fields ts)

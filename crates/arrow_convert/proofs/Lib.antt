@@ -1,1 +1,11 @@
+pub mod ByParts
+pub mod Files
 pub mod Forms
+pub mod LinesBack
+pub mod Numbers
+pub mod OneError
+pub mod Readable
+pub mod RewrittenAgain
+pub mod SmallForms
+pub mod SmallTexts
+pub mod Targets

@@ -1,11 +1,13 @@
 -- What two rewritings tell of each other.
-use Rattle.std.specs.Prelude.{◌≡◌, ℕ, ◌^◌, ◌<◌, List, [], ◌∷◌, length}
+use Rattle.std.specs.Prelude.{◌≡◌, ◌⊎◌, ℕ, ◌^◌, ◌<◌, List, [], ◌∷◌, length, Some}
+use Rattle.arrow_core.specs.declared.error.Error.{Error}
 use Rattle.arrow_types.specs.declared.slot.Slot.{Slot}
 use Rattle.avro_schema.specs.declared.schema.Schema as schema
 use Rattle.avro_schema.specs.declared.schema.Record.{Record, out-Record}
+use Rattle.avro_blocks.specs.Changes.{CameFromOutside, Change, Failed}
 use Rattle.avro_container.specs.Laws.{AllSmall}
 use Rattle.avro_text.specs.Writing.{schema_text_of}
-use Rattle.avro_canonical.specs.Rewritten.{RewritesFile, table_blocks}
+use Rattle.avro_canonical.specs.Rewritten.{RewritesFile, RewritingFails, table_blocks}
 
 -- a file has one canonical form under a name and a marker, and one number of rows
 abbrev pub OneCanonicalForm : Type 0
@@ -31,3 +33,12 @@ FilesTellRows =
     → h.target ≡ k.target → length marker ≡ 16
     → (with_rows h.form.tables ≡ with_rows k.form.tables → text ≡ other)
     × (CanBeStated h.target h.form.tables → CanBeStated k.target k.form.tables → text ≡ other → with_rows h.form.tables ≡ with_rows k.form.tables)
+
+-- Of bytes that two sources told which didn't fail, one error is answered at most under one name, marker and limit,
+-- those from outside aside.
+abbrev pub OneErrorComes : Type 0
+OneErrorComes =
+    (name marker bytes : List ℕ) (limit : ℕ) (source other sink another : Change) (e d : Error)
+    → source.bytes ≡ Some bytes → other.bytes ≡ Some bytes → (Failed source → ⊥) → (Failed other → ⊥)
+    → RewritingFails name marker limit source sink e → RewritingFails name marker limit other another d
+    → (e ≡ d) ⊎ CameFromOutside sink e ⊎ CameFromOutside another d

@@ -1,5 +1,6 @@
-//! Laws of files that were rewritten.
-ghost use Rattle.arrow_convert.specs.Laws.{OneCanonicalForm, FilesTellRows};
+//! Laws of two calls: of files that were rewritten, and of files that were written and are read again.
+ghost use Rattle.arrow_convert.specs.Laws.{FilesTellRows, OneCanonicalForm, OneErrorComes};
+ghost use Rattle.arrow_convert.specs.ReadAgain.{LinesAreFile, LinesComeBack, LinesDoNotFail, RecordsAreWritable, RewrittenDoesNotFail, RewrittenIsFile, RewrittenIsSame};
 
 /// Of what `avro_rewrite` answers in two calls. A file has one canonical form under a name and a
 /// marker. Under one record and one marker two canonical files are equal exactly where their rows
@@ -10,4 +11,51 @@ ghost use Rattle.arrow_convert.specs.Laws.{OneCanonicalForm, FilesTellRows};
 pub fn canonical_forms()
     ensures one { OneCanonicalForm }
     ensures rows { FilesTellRows }
+{}
+
+/// What `ndjson_to_avro` wrote of lines is an Avro file, and `avro_to_ndjson` with all fields kept
+/// converts it into the lines of the same rows, however many stand in a block. The record can be read
+/// back (`IsWritable`: its schema text is UTF-8, as it is where the names are, and nests at most 128
+/// deep), the sync marker has sixteen bytes, and the file fewer than 2^63.
+///
+/// It does so, or answers `OutOfMemory`, or `WriteFault` where its sink failed, where each type has a
+/// JSON text, each date and timestamp is in a year from 0 to 9999, the file has no more bytes than the
+/// limit and each block at most 2147483647, and the source tells these bytes and doesn't fail.
+///
+/// The function does nothing: its contract is the law.
+pub fn lines_and_back()
+    ensures file { LinesAreFile }
+    ensures lines { LinesComeBack }
+    ensures no_error { LinesDoNotFail }
+    ensures writable { RecordsAreWritable }
+{}
+
+/// What `avro_rewrite` wrote is an Avro file: its record can be read back (`IsWritable`: the schema
+/// text is UTF-8 and nests at most 128 deep, and sizes and decimals are those that a text may give),
+/// the sync marker has sixteen bytes, and the file fewer than 2^63.
+///
+/// The function does nothing: its contract is the law.
+pub fn rewritten_file()
+    ensures file { RewrittenIsFile }
+{}
+
+/// Such a file, each block of which has at most 2147483647 bytes, is its own canonical form: under
+/// the same name and marker `avro_rewrite` writes the same bytes again, and counts the same rows.
+///
+/// It does so, or answers `OutOfMemory`, or `WriteFault` where its sink failed, where the file has no
+/// more bytes than the limit and the source tells them and doesn't fail.
+///
+/// The function does nothing: its contract is the law.
+pub fn rewritten_twice()
+    ensures same { RewrittenIsSame }
+    ensures no_error { RewrittenDoesNotFail }
+{}
+
+/// Of any bytes `avro_rewrite` answers one error at most under one name, marker and limit, where the
+/// sources tell these bytes and don't fail: `OutOfMemory` may come instead, or `WriteFault` where the
+/// sink failed.
+///
+/// The function does nothing: its contract is the law.
+pub fn rewriting_error()
+    ensures one_error { OneErrorComes }
 {}

@@ -99,7 +99,7 @@ impl MutableBooleanArray {
     }
 
     /// Appends a slot, null for `None`. `OutOfMemory` changes nothing.
-    #[inline]
+    #[inline(always)]
     pub fn push(&mut self, value: Option<bool>) -> Result<()>
         ensures data_type { self.new.data_type ≡ self.old.data_type }
         ensures ok { OnOk result
@@ -116,6 +116,7 @@ impl MutableBooleanArray {
     }
 
     /// Appends a null. `OutOfMemory` changes nothing.
+    #[inline(always)]
     pub fn push_null(&mut self) -> Result<()>
         ensures data_type { self.new.data_type ≡ self.old.data_type }
         ensures ok { OnOk result (self.new.slots ≡ self.old.slots ++ NullSlot ∷ []) }

@@ -109,6 +109,22 @@ impl<C: Content, O: Offset> Container for MutableContentArray<C, O> {
     }
 }
 
+/// Makes spare capacity for one more item. Where there is some, the call is spared.
+#[inline(always)]
+fn reserve_item<T>(items: &mut Vec<T>) -> std::result::Result<(), AllocError>
+    ensures items { items.new.items ≡ items.old.items }
+    ensures len { vec_len items.new ≡ vec_len items.old }
+    ensures ok { OnOk result (vec_len items.new + 1 ≤ vec_capacity items.new) }
+    ensures capacity { vec_capacity items.old ≤ vec_capacity items.new }
+    ensures full { OnErr result (vec_capacity items.old < vec_len items.old + 1) }
+    ensures err { OnErr result (vec_capacity items.new ≡ vec_capacity items.old) }
+{
+    if items.len() < items.capacity() {
+        return Ok(());
+    }
+    items.reserve(1)
+}
+
 /// Appends these bytes. Where there are none, the call that moves bytes is spared.
 #[inline(always)]
 fn append(values: &mut Vec<u8>, bytes: &[u8]) -> std::result::Result<(), AllocError>
@@ -160,6 +176,7 @@ impl<C: Content, O: Offset> MutableContentArray<C, O> {
     }
 
     /// Appends a null. `OutOfMemory` changes nothing.
+    #[inline(always)]
     pub fn push_null(&mut self) -> Result<()>
         ensures data_type { self.new.data_type ≡ self.old.data_type }
         ensures ok { OnOk result (self.new.slots ≡ self.old.slots ++ NullSlot ∷ []) }
@@ -200,7 +217,7 @@ impl<C: Content, O: Offset> MutableContentArray<C, O> {
         let Some(offset) = O::from_usize(end) else {
             return Err(Error::Overflow);
         };
-        self.offsets.reserve(1)?;
+        reserve_item(&mut self.offsets)?;
         self.validity.reserve_one()?;
         append(&mut self.values, bytes)?;
         self.offsets.push_reserved(offset);

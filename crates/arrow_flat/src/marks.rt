@@ -81,7 +81,24 @@ impl MutableMarks {
     }
 
     /// Appends a slot, valid or null. `OutOfMemory` changes nothing.
+    #[inline(always)]
     pub fn push(&mut self, is_valid: bool) -> Result<()>
+        ensures data_type { self.new.data_type ≡ self.old.data_type }
+        ensures ok { OnOk result (self.new.booleans ≡ self.old.booleans ++ is_valid ∷ []) }
+        ensures err { OnErr result (self.new ≡ self.old) }
+        ensures memory { OnlyOutOfMemory result }
+        ensures capacity { KeepsCapacity (marks_node self.old) (marks_node self.new) }
+        ensures has_capacity { 1 ≤ self.old.spare → IsOk result }
+    {
+        if self.validity.push_within(is_valid) {
+            return Ok(());
+        }
+        self.push_word(is_valid)
+    }
+
+    /// `push`, where the bit begins a word.
+    #[inline(never)]
+    fn push_word(&mut self, is_valid: bool) -> Result<()>
         ensures data_type { self.new.data_type ≡ self.old.data_type }
         ensures ok { OnOk result (self.new.booleans ≡ self.old.booleans ++ is_valid ∷ []) }
         ensures err { OnErr result (self.new ≡ self.old) }

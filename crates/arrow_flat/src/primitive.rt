@@ -140,7 +140,7 @@ impl<T: NativeType> MutablePrimitiveArray<T> {
     }
 
     /// Appends a slot, null for `None`. `OutOfMemory` changes nothing.
-    #[inline]
+    #[inline(always)]
     pub fn push(&mut self, value: Option<T>) -> Result<()>
         ensures data_type { self.new.data_type ≡ self.old.data_type }
         ensures ok { OnOk result (self.new.slots
@@ -157,6 +157,7 @@ impl<T: NativeType> MutablePrimitiveArray<T> {
     }
 
     /// Appends a null. `OutOfMemory` changes nothing.
+    #[inline(always)]
     pub fn push_null(&mut self) -> Result<()>
         ensures data_type { self.new.data_type ≡ self.old.data_type }
         ensures ok { OnOk result (self.new.slots ≡ self.old.slots ++ NullSlot ∷ []) }

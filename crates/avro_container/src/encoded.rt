@@ -1,7 +1,7 @@
 //! Numbers in their shortest encoding.
-ghost use Rattle.std.specs.Prelude.{◌≡◌, ◌<◌, ◌≤◌, ◌+◌, ◌++◌, ◌^◌, [], List, ℕ, length, take, IfOk, OnOk, OnErr, IfErr};
+ghost use Rattle.std.specs.Prelude.{◌≡◌, ◌<◌, ◌≤◌, ◌+◌, ◌++◌, ◌^◌, [], List, ℕ, length, take, IfOk, OnOk, OnErr};
 ghost use Rattle.avro_container.specs.Shortest.{groups, shortest, zigzagged};
-ghost use Rattle.arrow_core.specs.declared.error.Error.TheVariants as TheError;
+ghost use Rattle.arrow_core.specs.Errors.{OnlyOutOfMemory};
 
 use arrow_base::{Error, Result};
 
@@ -64,7 +64,7 @@ impl EncodedNumber {
 pub fn zigzag_encode(value: i64, target: &mut Vec<u8>) -> Result<()>
     ensures ok { OnOk result (target.new.items ≡ target.old.items ++ shortest value) }
     ensures err { OnErr result (target.new.items ≡ target.old.items) }
-    ensures memory { IfErr result (λ e. e ≡ TheError.OutOfMemory) }
+    ensures memory { OnlyOutOfMemory result }
 {
     let number = EncodedNumber::of(value);
     target.extend_from_slice(number.as_slice())?;

@@ -289,6 +289,7 @@ fn decode_large_array<C: Ahead>(
 
 /// Reads blocks of items, up to the number 0 that ends them.
 #[cycle(decode)]
+#[inline(always)]
 #[tactic(auto, using(crate::proofs::Sets::values))]
 fn decode_blocks<C: Ahead>(
     cursor: &mut C,

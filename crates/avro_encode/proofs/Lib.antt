@@ -1,5 +1,6 @@
 pub mod Appending
 pub mod ByLists
+pub mod ColumnItems
 pub mod EvenSizes
 pub mod FlatPairs
 pub mod Groups

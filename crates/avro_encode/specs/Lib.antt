@@ -1,7 +1,9 @@
+pub mod Columns
 pub mod Decimals
 pub mod Flat
 pub mod Laws
 pub mod Listed
+pub mod Nullable
 pub mod Pairs
 pub mod PairTypes
 pub mod Plain

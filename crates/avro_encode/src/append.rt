@@ -9,57 +9,19 @@ ghost use Rattle.arrow_array.specs.Parts.{IsOfKind};
 ghost use Rattle.arrow_array.specs.Slots.{slot_at};
 ghost use Rattle.arrow_array.specs.Structs.{HaveSlots};
 ghost use Rattle.avro_grammar.specs.Carried.{IsNoUnion};
-ghost use Rattle.avro_grammar.specs.Encodes.{is_null as is_null_schema};
 ghost use Rattle.avro_encode.specs.Flat.{HasNoParts, IsListKind, IsStructKind};
-ghost use Rattle.avro_encode.specs.Listed.{PairsFieldsOf, PairsMemberTypeOf, PairsTypesOf, PairsUnionOf, IsBesideNull, index_byte, plain_fields_of, plain_union_of, slots_across};
+ghost use Rattle.avro_encode.specs.Listed.{PairsFieldsOf, PairsMemberTypeOf, PairsTypesOf, PairsUnionOf, plain_fields_of, plain_union_of, slots_across};
 ghost use Rattle.avro_encode.specs.Pairs.{IsCounted, Pairs};
 ghost use Rattle.avro_encode.specs.PairTypes.{PairsType};
 ghost use Rattle.avro_encode.specs.Plain.{one_block, parts_of, plain};
 ghost use Rattle.avro_encode.specs.Steps.{PairsList, PairsStruct};
 
 use crate::flat::{append_flat, append_flat_after};
+use crate::nulls::{beside_null, index_byte};
 use crate::numbers::append_number;
 use arrow_array::{Array, Part};
 use avro_schema::{AvroField, AvroSchema};
 use std::alloc::AllocError;
-
-/// Whether a schema is null's.
-#[inline(always)]
-fn is_null(schema: &AvroSchema) -> bool
-    ensures { result ≡ is_null_schema schema.now }
-{
-    matches!(schema, AvroSchema::Null)
-}
-
-/// Whether null is the first member of a union of two, and the member beside it.
-#[inline(always)]
-fn beside_null(members: &[AvroSchema]) -> (bool, &AvroSchema)
-    requires { length members.now ≡ 2 }
-    ensures { IsBesideNull members.now result.0 result.1.now }
-{
-    let [first, second] = members else {
-        unreachable!()
-    };
-    if is_null(first) {
-        (true, second)
-    } else {
-        (false, first)
-    }
-}
-
-/// The byte of the index at which null stands, or of a value's member beside it.
-#[inline(always)]
-fn index_byte(null_first: bool, held: bool) -> u8
-    ensures { result ≡ index_byte null_first held }
-{
-    if held {
-        if null_first { 2 } else { 0 }
-    } else if null_first {
-        0
-    } else {
-        2
-    }
-}
 
 /// Appends the canonical encoding of slot `i` of an array whose type pairs with the schema, where
 /// the slot does too. It takes no memory but the bytes'.
@@ -227,7 +189,9 @@ fn append_list(
 }
 
 /// Appends the items of a list as one block, and the end of blocks.
+// It is inlined, so that the ends of the part stay in registers.
 #[cycle(append)]
+#[inline(always)]
 fn append_items(part: &Part<'_>, item: &AvroSchema, out: &mut Vec<u8>) -> Result<(), AllocError>
     requires part { IsPart part.now }
     requires types { PairsType item.now (array_type part.now.array.now) }
@@ -268,7 +232,9 @@ fn append_struct(
 }
 
 /// Appends the slots of the arrays at index `i`, each under its field's schema.
+// It is inlined into the one place that calls it.
 #[cycle(append)]
+#[inline(always)]
 fn append_fields(
     children: &[Array],
     i: usize,

@@ -3,11 +3,15 @@
 #![tactic(auto)]
 
 mod append;
+mod column;
 mod decimal;
 mod duration;
+mod encoder;
 mod flat;
 mod laws;
+mod nulls;
 mod numbers;
 
 pub use append::append_slot;
+pub use encoder::ColumnEncoder;
 pub use laws::{canonical_encoding, decimal_sizes};

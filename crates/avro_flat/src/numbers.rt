@@ -13,8 +13,7 @@ use arrow_flat::{MutableBooleanArray, MutablePrimitiveArray};
 use avro_reference::Ahead;
 
 /// Reads a boolean: one byte, 0 or 1.
-// Here the push is inlined; in the loop over rows it would be a call, and its answer go through memory.
-#[inline(never)]
+#[inline(always)]
 #[tactic(auto, using(crate::proofs::Sets::flats))]
 pub fn decode_boolean<C: Ahead>(
     cursor: &mut C,

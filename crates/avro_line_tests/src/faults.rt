@@ -1,9 +1,7 @@
 //! Each error, where it comes, and what is written then.
 
 use crate::files::{BLOCK, HEADER, MINUS_TWO, ONE};
-use crate::samples::{
-    Converted, How, PLAIN, column, convert, field, gives, is_refused, joined, schema,
-};
+use crate::samples::{How, PLAIN, column, convert, field, gives, is_refused, joined, schema};
 use arrow_base::{Error, Reason};
 use arrow_types::{DataType, Schema, TimeUnit};
 use std::alloc::Global;
@@ -109,14 +107,19 @@ fn a_failing_write_leaves_a_prefix(rt: HostRuntime) {
     let alloc = rt.alloc();
     let file = joined(&rt, alloc, &[HEADER, BLOCK]);
     let int = column(&rt, alloc, DataType::Int32);
-    // The header takes at least two writes, and the block one.
-    for k in 1..4 {
+    for failing_write in 1..122u64 {
         let how = How {
-            failing_write: k,
+            piece: 1,
+            failing_write,
             ..PLAIN
         };
-        let Converted { answer, held } = convert(&rt, alloc, b"{\"a\":1}\n{\"a\":-2}\n", &int, how);
-        assert!(rt; answer == Err(Error::WriteFault));
-        assert!(rt; file.as_slice().starts_with(held.as_slice()));
+        let before = (failing_write - 1) as usize;
+        let held = file.as_slice().get(..before).unwrap_or(b"");
+        let fault = Err(Error::WriteFault);
+        let lines = b"{\"a\":1}\n{\"a\":-2}\n";
+        assert!(rt;
+            gives(&rt, alloc, lines, &int, how, fault, &[held]),
+            "{failing_write}"
+        );
     }
 }

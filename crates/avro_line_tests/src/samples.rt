@@ -7,12 +7,13 @@ use ndjson_avro::ndjson_to_avro;
 use std::alloc::Global;
 use std::process::Abort;
 
-/// How many rows a block has, under which limit, and which calls fail, counted from 1: none where it
-/// is 0.
+/// How many rows a block has, under which limit, in pieces of how many bytes at most lines are read and
+/// the file is written, and which calls fail, counted from 1: none where it is 0.
 #[derive(Clone, Copy)]
 pub struct How {
     pub rows_per_block: usize,
     pub limit: u64,
+    pub piece: usize,
     pub failing_read: u64,
     pub failing_write: u64,
 }
@@ -20,6 +21,7 @@ pub struct How {
 pub const PLAIN: How = How {
     rows_per_block: 10,
     limit: 1000,
+    piece: 60,
     failing_read: 0,
     failing_write: 0,
 };
@@ -74,8 +76,7 @@ pub fn joined(rt: &impl Abort, alloc: Global, pieces: &[&[u8]]) -> Bytes {
     bytes
 }
 
-/// What becomes of lines under the name `t` and a marker of sixteen bytes 1. They are read and written
-/// in pieces of 60 bytes at most.
+/// What becomes of lines under the name `t` and a marker of sixteen bytes 1.
 pub fn convert(
     rt: &impl Abort,
     alloc: Global,
@@ -85,8 +86,9 @@ pub fn convert(
 ) -> Converted {
     let failing_read = number(rt, alloc, how.failing_read);
     let failing_write = number(rt, alloc, how.failing_write);
-    let mut source = MemorySource::new(joined(rt, alloc, &[lines]), 60, failing_read);
-    let mut sink = MemorySink::with_room(alloc, 1000, 60, failing_write).expect(rt, "memory");
+    let piece = how.piece.max(1);
+    let mut source = MemorySource::new(joined(rt, alloc, &[lines]), piece, failing_read);
+    let mut sink = MemorySink::with_room(alloc, 1000, piece, failing_write).expect(rt, "memory");
     let marker = [1u8; 16];
     let rows = how.rows_per_block.max(1);
     let answer = ndjson_to_avro(

@@ -1,5 +1,6 @@
 //! Copies of schemas, which equal what they copy.
-ghost use Rattle.std.specs.Prelude.{◌≡◌, IfOk, IfErr};
+ghost use Rattle.std.specs.Prelude.{◌≡◌, IfOk};
+ghost use Rattle.arrow_core.specs.Errors.{OnlyOutOfMemory};
 
 use crate::schema::{AvroField, Enum, Fixed, Record, Schema};
 use arrow_core::{Box, Error, Items, Result, Text};
@@ -9,7 +10,7 @@ impl Schema {
     /// A copy of this schema, with memory of its own. `OutOfMemory` alone.
     pub fn try_clone(&self, alloc: Global) -> Result<Schema>
         ensures copy { IfOk result (λ copied. copied ≡ self.now) }
-        ensures memory { IfErr result (λ e. e ≡ Error.OutOfMemory) }
+        ensures memory { OnlyOutOfMemory result }
     {
         clone_schema(self, alloc)
     }
@@ -19,7 +20,7 @@ impl Record {
     /// A copy of this record, with memory of its own. `OutOfMemory` alone.
     pub fn try_clone(&self, alloc: Global) -> Result<Record>
         ensures copy { IfOk result (λ copied. copied ≡ self.now) }
-        ensures memory { IfErr result (λ e. e ≡ Error.OutOfMemory) }
+        ensures memory { OnlyOutOfMemory result }
     {
         clone_record(self, alloc)
     }
@@ -29,7 +30,7 @@ impl AvroField {
     /// A copy of this field, with memory of its own. `OutOfMemory` alone.
     pub fn try_clone(&self, alloc: Global) -> Result<AvroField>
         ensures copy { IfOk result (λ copied. copied ≡ self.now) }
-        ensures memory { IfErr result (λ e. e ≡ Error.OutOfMemory) }
+        ensures memory { OnlyOutOfMemory result }
     {
         clone_field(self, alloc)
     }
@@ -39,7 +40,7 @@ impl Enum {
     /// A copy of this enum, with memory of its own. `OutOfMemory` alone.
     pub fn try_clone(&self, alloc: Global) -> Result<Enum>
         ensures copy { IfOk result (λ copied. copied ≡ self.now) }
-        ensures memory { IfErr result (λ e. e ≡ Error.OutOfMemory) }
+        ensures memory { OnlyOutOfMemory result }
     {
         Ok(Enum {
             name: self.name.try_clone(alloc)?,
@@ -54,7 +55,7 @@ impl Fixed {
     /// A copy of this fixed-size type, with memory of its own. `OutOfMemory` alone.
     pub fn try_clone(&self, alloc: Global) -> Result<Fixed>
         ensures copy { IfOk result (λ copied. copied ≡ self.now) }
-        ensures memory { IfErr result (λ e. e ≡ Error.OutOfMemory) }
+        ensures memory { OnlyOutOfMemory result }
     {
         Ok(Fixed {
             name: self.name.try_clone(alloc)?,
@@ -68,7 +69,7 @@ impl Fixed {
 
 fn clone_text(text: &Option<Text>, alloc: Global) -> Result<Option<Text>>
     ensures copy { IfOk result (λ copied. copied ≡ text.now) }
-    ensures memory { IfErr result (λ e. e ≡ Error.OutOfMemory) }
+    ensures memory { OnlyOutOfMemory result }
 {
     match text {
         Some(text) => Ok(Some(text.try_clone(alloc)?)),
@@ -78,7 +79,7 @@ fn clone_text(text: &Option<Text>, alloc: Global) -> Result<Option<Text>>
 
 fn clone_texts(texts: &Items<Text>, alloc: Global) -> Result<Items<Text>>
     ensures copy { IfOk result (λ copied. copied ≡ texts.now) }
-    ensures memory { IfErr result (λ e. e ≡ Error.OutOfMemory) }
+    ensures memory { OnlyOutOfMemory result }
 {
     let mut copies = Vec::new(alloc);
     for text in texts.as_slice() {
@@ -91,7 +92,7 @@ fn clone_texts(texts: &Items<Text>, alloc: Global) -> Result<Items<Text>>
 #[cycle(cloned)]
 fn clone_boxed(boxed: &Box<Schema>, alloc: Global) -> Result<Box<Schema>>
     ensures copy { IfOk result (λ copied. copied ≡ boxed.now) }
-    ensures memory { IfErr result (λ e. e ≡ Error.OutOfMemory) }
+    ensures memory { OnlyOutOfMemory result }
 {
     let schema = clone_schema(boxed.get(), alloc)?;
     Box::new(alloc, schema)
@@ -100,7 +101,7 @@ fn clone_boxed(boxed: &Box<Schema>, alloc: Global) -> Result<Box<Schema>>
 #[cycle(cloned)]
 fn clone_members(members: &Items<Schema>, alloc: Global) -> Result<Items<Schema>>
     ensures copy { IfOk result (λ copied. copied ≡ members.now) }
-    ensures memory { IfErr result (λ e. e ≡ Error.OutOfMemory) }
+    ensures memory { OnlyOutOfMemory result }
 {
     let mut copies = Vec::new(alloc);
     for member in members.as_slice() {
@@ -113,7 +114,7 @@ fn clone_members(members: &Items<Schema>, alloc: Global) -> Result<Items<Schema>
 #[cycle(cloned)]
 fn clone_fields(fields: &Items<AvroField>, alloc: Global) -> Result<Items<AvroField>>
     ensures copy { IfOk result (λ copied. copied ≡ fields.now) }
-    ensures memory { IfErr result (λ e. e ≡ Error.OutOfMemory) }
+    ensures memory { OnlyOutOfMemory result }
 {
     let mut copies = Vec::new(alloc);
     for field in fields.as_slice() {
@@ -126,7 +127,7 @@ fn clone_fields(fields: &Items<AvroField>, alloc: Global) -> Result<Items<AvroFi
 #[cycle(cloned)]
 fn clone_field(field: &AvroField, alloc: Global) -> Result<AvroField>
     ensures copy { IfOk result (λ copied. copied ≡ field.now) }
-    ensures memory { IfErr result (λ e. e ≡ Error.OutOfMemory) }
+    ensures memory { OnlyOutOfMemory result }
 {
     Ok(AvroField {
         name: field.name.try_clone(alloc)?,
@@ -138,7 +139,7 @@ fn clone_field(field: &AvroField, alloc: Global) -> Result<AvroField>
 #[cycle(cloned)]
 fn clone_record(original: &Record, alloc: Global) -> Result<Record>
     ensures copy { IfOk result (λ copied. copied ≡ original.now) }
-    ensures memory { IfErr result (λ e. e ≡ Error.OutOfMemory) }
+    ensures memory { OnlyOutOfMemory result }
 {
     Ok(Record {
         name: original.name.try_clone(alloc)?,
@@ -151,7 +152,7 @@ fn clone_record(original: &Record, alloc: Global) -> Result<Record>
 #[cycle(cloned)]
 fn clone_schema(schema: &Schema, alloc: Global) -> Result<Schema>
     ensures copy { IfOk result (λ copied. copied ≡ schema.now) }
-    ensures memory { IfErr result (λ e. e ≡ Error.OutOfMemory) }
+    ensures memory { OnlyOutOfMemory result }
 {
     Ok(match schema {
         Schema::Null => Schema::Null,

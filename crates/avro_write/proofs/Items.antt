@@ -1,40 +1,33 @@
 -- The items of columns, one by one and row by row.
 use Rattle.std.proofs.Common.{◌≡◌, ℕ, zero, suc, ◌+◌, ◌<◌, ◌≤◌, List, [], ◌∷◌, ◌++◌, length, take, drop, map, set, flat_map, slice_index_or, refl, sym, ap, ◌∙◌, arith, add-one, append_assoc, get_or-drop, length-drop}
-use Rattle.std.specs.List.{range_with_len}
+use Rattle.std.specs.List.{concat, range_with_len}
 use Rattle.std.proofs.lemmas.Grind.{flat_map-append}
-use Rattle.std.proofs.lemmas.List.{append-nil, length-map}
-use Rattle.arrow_types.specs.declared.slot.Slot.{Slot}
-use Rattle.arrow_types.specs.declared.slot.Slot.TheVariants as slot
-use Rattle.arrow_array.specs.Slots.{slot_at}
+use Rattle.std.proofs.lemmas.List.{append-nil}
+use Rattle.std.proofs.lemmas.List.Concat.{concat_is}
 use Rattle.avro_write.specs.Rows.{row, rows}
 
 -- ---- one column
 
-pub items_none : (f : Slot → List ℕ) (xs : List Slot) (n : ℕ) → length xs ≤ n → map f (drop n xs) ≡ []
-items_none f [] zero l = refl
-items_none f [] (suc n) l = refl
-items_none f (x ∷ xs) zero l = absurd (omega (arith, l))
-items_none f (x ∷ xs) (suc n) l = items_none f xs n (omega (arith, l))
+items_none : (xs : List (List ℕ)) (n : ℕ) → length xs ≤ n → drop n xs ≡ []
+items_none [] zero l = refl
+items_none [] (suc n) l = refl
+items_none (x ∷ xs) zero l = absurd (omega (arith, l))
+items_none (x ∷ xs) (suc n) l = items_none xs n (omega (arith, l))
 
-items_more : (f : Slot → List ℕ) (xs : List Slot) (n : ℕ) → n < length xs → map f (drop n xs) ≡ f (slot_at xs n) ∷ map f (drop (suc n) xs)
-items_more f [] n l = absurd (omega (arith, l))
-items_more f (x ∷ xs) zero l = refl
-items_more f (x ∷ xs) (suc n) l = items_more f xs n (omega (arith, l))
+items_more : (xs : List (List ℕ)) (n : ℕ) → n < length xs → drop n xs ≡ slice_index_or xs n [] ∷ drop (suc n) xs
+items_more [] n l = absurd (omega (arith, l))
+items_more (x ∷ xs) zero l = refl
+items_more (x ∷ xs) (suc n) l = items_more xs n (omega (arith, l))
 
-pub items_rest : (f : Slot → List ℕ) (xs : List Slot) (n : ℕ) → n < length xs → map f (drop (n + 1) xs) ≡ drop 1 (map f (drop n xs))
-items_rest f xs n l = ap (λ k. map f (drop k xs)) (add-one n) ∙ sym (ap (drop 1) (items_more f xs n l))
+pub items_rest : (xs : List (List ℕ)) (n : ℕ) → n < length xs → drop (n + 1) xs ≡ drop 1 (drop n xs)
+items_rest xs n l = ap (λ k. drop k xs) (add-one n) ∙ sym (ap (drop 1) (items_more xs n l))
 
-pub item_is : (f : Slot → List ℕ) (xs : List Slot) (k : ℕ) → k < length xs → slice_index_or (map f xs) k [] ≡ f (slot_at xs k)
-item_is f [] k l = absurd (omega (arith, l))
-item_is f (x ∷ xs) zero l = refl
-item_is f (x ∷ xs) (suc k) l = item_is f xs k (omega (arith, l))
+-- the index of an item lies within the column
+pub item_within : (xs : List (List ℕ)) (n k : ℕ) → k < length (drop n xs) → n + k < length xs
+item_within xs n k l = omega (arith, l, length-drop n xs)
 
--- the index of an item's slot lies within the slots
-pub item_within : (f : Slot → List ℕ) (xs : List Slot) (n k : ℕ) → k < length (map f (drop n xs)) → n + k < length xs
-item_within f xs n k l = omega (arith, l, length-map (drop n xs) f, length-drop n xs)
-
-pub item_at : (f : Slot → List ℕ) (xs : List Slot) (n k : ℕ) → k < length (map f (drop n xs)) → f (slot_at xs (n + k)) ≡ slice_index_or (map f (drop n xs)) k []
-item_at f xs n k l = ap f (sym (get_or-drop n xs k slot.Null)) ∙ sym (item_is f (drop n xs) k (omega (arith, l, length-map (drop n xs) f)))
+pub item_at : (xs : List (List ℕ)) (n k : ℕ) → k < length (drop n xs) → slice_index_or xs (n + k) [] ≡ slice_index_or (drop n xs) k []
+item_at xs n k l = sym (get_or-drop n xs k [])
 
 -- ---- several
 
@@ -79,6 +72,26 @@ rows_more i columns =
 pub rows_step : (columns : List (List (List ℕ))) (i : ℕ) (old now next : List ℕ) → now ≡ old ++ rows i columns → next ≡ now ++ row i columns → next ≡ old ++ rows (i + 1) columns
 rows_step columns i old now next e f =
     f ∙ ap (λ (z : List ℕ). z ++ row i columns) e ∙ append_assoc old (rows i columns) (row i columns) ∙ ap (λ (z : List ℕ). old ++ z) (sym (rows_more i columns))
+
+rows_of_one : (xs : List (List ℕ)) (n : ℕ) → n ≤ length xs → rows n (xs ∷ []) ≡ flat_map (λ z. z) (take n xs)
+rows_of_one [] zero l = refl
+rows_of_one (x ∷ xs) zero l = refl
+rows_of_one xs (suc n) l =
+    ap (λ k. rows k (xs ∷ [])) (sym (add-one n)) ∙ rows_more n (xs ∷ [])
+    ∙ (λ j. rows_of_one xs n (omega (arith, l)) j ++ append-nil (slice_index_or xs n []) j) ∙ sym (more (λ z. z) xs n [] (omega (arith, l)))
+
+sole : {S : Type 0} (xs : List S) (s : S) → s ≡ slice_index_or xs 0 s → 1 ≤ length xs → length xs < 2 → xs ≡ s ∷ []
+sole [] s e l m = absurd (omega (arith, l))
+sole (x ∷ []) s e l m = ap (λ y. y ∷ []) (sym e)
+sole (x ∷ y ∷ xs) s e l m = absurd (omega (arith, m))
+
+-- the rows of one column are its items
+pub one_column : {S : Type 0} (f : S → List (List ℕ)) (xs : List S) (s : S) (count : ℕ) (old now : List ℕ) → s ≡ slice_index_or xs 0 s → 1 ≤ length xs → length xs < 2 → length (f s) ≡ count → now ≡ old ++ concat (f s)
+    → now ≡ old ++ rows count (map f xs)
+one_column f xs s count old now is l m n e =
+    let all : rows (length (f s)) (f s ∷ []) ≡ concat (f s) =
+    rows_of_one (f s) (length (f s)) (omega arith) ∙ ap (flat_map (λ z. z)) (whole (f s) (length (f s)) (omega arith)) ∙ sym (concat_is (f s)) in
+    e ∙ ap (λ (z : List ℕ). old ++ z) (sym all ∙ ap (λ k. rows k (f s ∷ [])) n ∙ ap (λ ys. rows count (map f ys)) (sym (sole xs s is l m)))
 
 -- one more column has no item left
 pub ended_more : {S : Type 0} (f : S → List (List ℕ)) (xs : List S) (k : ℕ) (s : S) → k < length xs → f s ≡ [] → ((j : ℕ) (d : S) → j < k → f (slice_index_or xs j d) ≡ [])

@@ -12,7 +12,7 @@ use Rattle.avro_encode.specs.Listed.{PairsFieldsOf, plain_fields_of}
 use Rattle.avro_encode.specs.Plain.{plain}
 use Rattle.avro_write.specs.Laws.{ArePaired, RowsAreTable, RowsEncode, all_kept, plain_columns, plain_table, table_of}
 use Rattle.avro_write.specs.Rows.{row}
-use Rattle.avro_write.proofs.Items.{item_is}
+use Rattle.avro_encode.proofs.ColumnItems.{item_is}
 use Rattle.avro_write.proofs.TableLaw.{table_encodes}
 
 -- the slots of a row

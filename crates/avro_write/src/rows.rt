@@ -25,8 +25,8 @@ fn append_row(
     Ok(())
 }
 
-/// Appends so many rows. `AllocError` alone.
-fn append_rows(
+/// Appends so many rows, item by item. `AllocError` alone.
+fn append_each_row(
     serializers: &[BoxSerializer<'_>],
     count: usize,
     out: &mut Vec<u8>,
@@ -39,6 +39,23 @@ fn append_rows(
         append_row(serializers, i, out)?;
     }
     Ok(())
+}
+
+/// Appends so many rows. Those of one column are its items, in a loop of their own. `AllocError`
+/// alone.
+fn append_rows(
+    serializers: &[BoxSerializer<'_>],
+    count: usize,
+    out: &mut Vec<u8>,
+) -> std::result::Result<(), AllocError>
+    requires left { All (λ s. length s.left ≡ count) serializers.now }
+    ensures ok { OnOk result (out.new.items
+        ≡ out.old.items ++ rows count (map (λ s. s.left) serializers.now)) }
+{
+    match serializers {
+        [serializer] => serializer.append_left(out),
+        _ => append_each_row(serializers, count, out),
+    }
 }
 
 /// Leaves no item to be shown.

@@ -1,5 +1,6 @@
 //! The canonical encodings of an array's slots, one after another.
 ghost use Rattle.std.specs.Prelude.{◌≡◌, ◌<◌, ◌++◌, ℕ, List, [], Option, Some, None, Result, length, map, drop, slice_index_or, All, IfErr, IfOk, OnErr, OnOk};
+ghost use Rattle.std.specs.List.{concat};
 ghost use Rattle.arrow_core.specs.Errors.{OnlyOutOfMemory};
 ghost use Rattle.arrow_array.specs.Arrays.{array_slots};
 ghost use Rattle.avro_encode.specs.Pairs.{Pairs};
@@ -10,7 +11,7 @@ use crate::flaws::{Flaw, column_shows};
 use crate::pairs::pairs;
 use arrow_array::Array;
 use arrow_core::{Error, Reason, Result};
-use avro_encode::append_slot;
+use avro_encode::ColumnEncoder;
 use avro_schema::AvroSchema;
 use lending::StreamingIterator;
 use std::alloc::{AllocError, Global};
@@ -22,24 +23,23 @@ use std::marker::Model;
 /// Contracts see the items that are still to be shown, `left`, and what is `shown`.
 #[derive(Drop)]
 pub struct BoxSerializer<'a> {
-    array: &'a Array,
-    schema: AvroSchema,
+    column: ColumnEncoder<'a>,
     next: usize,
     buffer: Vec<u8>,
     is_shown: bool,
 }
 
 impl<'a> Model for BoxSerializer<'a> {
-    ghost use Rattle.std.specs.Prelude.{Some, None, cond};
-    ghost use Rattle.avro_write.specs.Serializing.{Serializing, serializing_code, items_from, IsReady};
+    ghost use Rattle.std.specs.Prelude.{◌≤◌, Some, None, cond, drop, length};
+    ghost use Rattle.avro_write.specs.Serializing.{Serializing, serializing_code};
 
     ghost Value = { Serializing };
 
     ghost coded = { serializing_code };
 
-    ghost view = { λ s. record { left = items_from s.schema s.array.now s.next; shown = cond s.is_shown (Some s.buffer.items) None } };
+    ghost view = { λ s. record { left = drop s.next s.column; shown = cond s.is_shown (Some s.buffer.items) None } };
 
-    ghost invariant = { λ s. IsReady s.schema s.array.now s.next };
+    ghost invariant = { λ s. s.next ≤ length s.column };
 }
 
 /// What shows the canonical encodings of an array's slots under the schema, in order: nothing yet,
@@ -72,10 +72,9 @@ pub fn new_serializer<'a>(
         return Err(Error::InvalidArgumentError(Reason::Interval));
     }
     array.slots_are_typed();
-    let schema = schema.try_clone(alloc)?;
+    let column = ColumnEncoder::new(alloc, array, schema)?;
     Ok(BoxSerializer {
-        array,
-        schema,
+        column,
         next: 0,
         buffer: Vec::new(alloc),
         is_shown: false,
@@ -87,7 +86,7 @@ impl<'a> BoxSerializer<'a> {
     pub fn left(&self) -> usize
         ensures { result ≡ length self.now.left }
     {
-        self.array.len() - self.next
+        self.column.len() - self.next
     }
 
     /// Appends the item before which `k` others are still to be shown, and shows none.
@@ -104,15 +103,24 @@ impl<'a> BoxSerializer<'a> {
             ≡ out.old.items ++ slice_index_or self.now.left k []) }
     {
         // It tells that the index is a number.
-        let _ = self.array.len();
-        append_slot(self.array, self.next + k, &self.schema, out)
+        let _ = self.column.len();
+        self.column.append(self.next + k, out)
+    }
+
+    /// Appends the items that are still to be shown, one after another, and shows none.
+    ///
+    /// `AllocError` alone.
+    pub(crate) fn append_left(&self, out: &mut Vec<u8>) -> std::result::Result<(), AllocError>
+        ensures ok { OnOk result (out.new.items ≡ out.old.items ++ concat self.now.left) }
+    {
+        self.column.append_from(self.next, out)
     }
 
     /// Leaves no item to be shown. What is shown stays.
     pub(crate) fn end(&mut self)
         ensures { self.new.left ≡ [] }
     {
-        self.next = self.array.len();
+        self.next = self.column.len();
     }
 }
 
@@ -141,13 +149,13 @@ impl<'a> StreamingIterator for BoxSerializer<'a> {
     fn advance(&mut self) -> Result<()> {
         self.is_shown = false;
         let index = self.next;
-        let count = self.array.len();
+        let count = self.column.len();
         if index == count {
             return Ok(());
         }
         self.next = count;
         self.buffer.clear();
-        append_slot(self.array, index, &self.schema, &mut self.buffer)?;
+        self.column.append(index, &mut self.buffer)?;
         self.next = index + 1;
         self.is_shown = true;
         Ok(())

@@ -1,5 +1,6 @@
 //! The commands `block` and `block-large`: the columns of one Avro block as lines.
 ghost use Rattle.std.specs.Prelude.{◌≡◌, ◌≤◌, ◌⊎◌, length, map, IfOk, IfErr, OnOk};
+ghost use Rattle.arrow_core.specs.Errors.{OnlyOutOfMemory};
 ghost use Rattle.arrow_core.specs.declared.error.Error.TheVariants.{OutOfMemory};
 ghost use Rattle.avro_grammar.specs.ValidBlock.{kept};
 ghost use Rattle.avrocat.specs.Blocks.{AreColumnsOf, ShowsColumns, BlockDone};
@@ -110,7 +111,7 @@ fn chunk_lines(
 fn kept_names(alloc: Global, avro_fields: &[AvroField], projection: &[bool]) -> Result<Vec<Text>>
     requires { length avro_fields.now ≡ length projection.now }
     ensures ok { IfOk result (λ names. names.items ≡ map (λ f. f.name) (kept avro_fields.now projection.now)) }
-    ensures memory { IfErr result (λ e. e ≡ OutOfMemory) }
+    ensures memory { OnlyOutOfMemory result }
 {
     let mut names = Vec::new(alloc);
     for i in 0..avro_fields.len() {

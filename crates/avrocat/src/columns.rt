@@ -1,6 +1,7 @@
 //! The columns of a block's fields, in large forms where these are asked for.
 
 ghost use Rattle.std.specs.Prelude.{◌≡◌, ◌⊎◌, map, Some, IfOk, IfErr};
+ghost use Rattle.arrow_core.specs.Errors.{OnlyOutOfMemory};
 ghost use Rattle.arrow_core.specs.declared.error.Error.TheVariants.{NotYetImplemented, OutOfMemory};
 ghost use Rattle.arrow_core.specs.declared.error.Reason.TheVariants.{NotCarried};
 ghost use Rattle.avro_schema.specs.declared.schema.Record.{out-Record};
@@ -45,7 +46,7 @@ fn small_columns(alloc: Global, root: &Record) -> Result<Items<Field>>
 /// The fields as they are, or in large forms where `large`.
 fn in_forms(alloc: Global, fields: Items<Field>, large: bool) -> Result<Items<Field>>
     ensures forms { IfOk result (AreForms large fields) }
-    ensures memory { IfErr result (λ e. e ≡ OutOfMemory) }
+    ensures memory { OnlyOutOfMemory result }
 {
     if large {
         enlarge_all(alloc, fields.as_slice())
@@ -57,7 +58,7 @@ fn in_forms(alloc: Global, fields: Items<Field>, large: bool) -> Result<Items<Fi
 /// The fields in large forms.
 fn enlarge_all(alloc: Global, fields: &[Field]) -> Result<Items<Field>>
     ensures ok { IfOk result (λ large. large ≡ map enlarged fields.now) }
-    ensures memory { IfErr result (λ e. e ≡ OutOfMemory) }
+    ensures memory { OnlyOutOfMemory result }
 {
     let mut large = Vec::new(alloc);
     for field in fields {

@@ -1,7 +1,7 @@
 //! A source, read to its end.
 
 ghost use Rattle.std.specs.Prelude.{◌≡◌, ◌≤◌, IfOk, IfErr, vec_len};
-ghost use Rattle.arrow_core.specs.declared.error.Error.TheVariants.{OutOfMemory};
+ghost use Rattle.arrow_core.specs.Errors.{OnlyOutOfMemory};
 ghost use Rattle.avro_blocks.specs.Changes.{change_of};
 ghost use Rattle.avrocat.specs.Input.{TakesAll, NotRead};
 
@@ -17,7 +17,7 @@ const PIECE: usize = 65_536;
 /// Where a read puts its bytes.
 fn new_piece(alloc: Global) -> Result<Vec<u8>>
     ensures len { IfOk result (λ piece. vec_len piece ≡ PIECE) }
-    ensures memory { IfErr result (λ e. e ≡ OutOfMemory) }
+    ensures memory { OnlyOutOfMemory result }
 {
     Ok(vec![in alloc; 0u8; PIECE]?)
 }

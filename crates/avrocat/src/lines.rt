@@ -1,8 +1,8 @@
 //! The lines that show columns: a name, a colon, and the slots between brackets.
-ghost use Rattle.std.specs.Prelude.{◌≡◌, ◌+◌, ◌<◌, ◌≤◌, ◌++◌, ◌∷◌, [], length, map, take, codes, IfErr, OnOk, if◌then◌else◌, ◌==◌};
+ghost use Rattle.std.specs.Prelude.{◌≡◌, ◌+◌, ◌<◌, ◌≤◌, ◌++◌, ◌∷◌, [], length, map, take, codes, OnOk, if◌then◌else◌, ◌==◌};
 ghost use Rattle.std.specs.Char.{digit_char};
 ghost use Rattle.std.specs.Fmt.{signed_decimal};
-ghost use Rattle.arrow_core.specs.declared.error.Error.TheVariants.{OutOfMemory};
+ghost use Rattle.arrow_core.specs.Errors.{OnlyOutOfMemory};
 ghost use Rattle.arrow_types.specs.declared.slot.Slot.TheVariants.{List as ListSlot, Binary as BinarySlot};
 ghost use Rattle.arrow_base.specs.Outside.{last_count};
 ghost use Rattle.arrow_base.specs.WrittenString.{json_string};
@@ -88,7 +88,7 @@ impl Lines {
     /// Adds the line of one column.
     pub fn push_column(&mut self, name: &str, column: &Array) -> Result<()>
         ensures ok { OnOk result (self.new.text.items ≡ self.old.text.items ++ line_of name.now (array_slots column.now)) }
-        ensures memory { IfErr result (λ e. e ≡ OutOfMemory) }
+        ensures memory { OnlyOutOfMemory result }
     {
         self.push(name.as_bytes())?;
         self.push(b":[")?;
@@ -100,7 +100,7 @@ impl Lines {
     pub fn push_columns(&mut self, names: &[Text], columns: &[Array]) -> Result<()>
         requires { length names.now ≡ length columns.now }
         ensures ok { OnOk result (self.new.text.items ≡ self.old.text.items ++ shown names.now (map array_slots columns.now)) }
-        ensures memory { IfErr result (λ e. e ≡ OutOfMemory) }
+        ensures memory { OnlyOutOfMemory result }
     {
         for i in 0..names.len() {
             self.push_column(names[i].as_str(), &columns[i])?;
@@ -111,7 +111,7 @@ impl Lines {
     /// Adds the slots of a column, with commas between them.
     fn push_slots(&mut self, column: &Array) -> Result<()>
         ensures ok { OnOk result (self.new.text.items ≡ self.old.text.items ++ joined (map slot_text (array_slots column.now))) }
-        ensures memory { IfErr result (λ e. e ≡ OutOfMemory) }
+        ensures memory { OnlyOutOfMemory result }
     {
         for i in 0..column.len() {
             self.push_comma(i)?;
@@ -125,7 +125,7 @@ impl Lines {
     fn push_slot(&mut self, column: &Array, i: usize) -> Result<()>
         requires { i < length (array_slots column.now) }
         ensures ok { OnOk result (self.new.text.items ≡ self.old.text.items ++ slot_text (slot_at (array_slots column.now) i)) }
-        ensures memory { IfErr result (λ e. e ≡ OutOfMemory) }
+        ensures memory { OnlyOutOfMemory result }
     {
         let cell = cell_at(column, i);
         self.push_cell(&cell)
@@ -136,7 +136,7 @@ impl Lines {
     fn push_cell(&mut self, cell: &Cell<'_>) -> Result<()>
         requires { CellFits cell.now }
         ensures ok { OnOk result (self.new.text.items ≡ self.old.text.items ++ slot_text (cell_slot cell.now)) }
-        ensures memory { IfErr result (λ e. e ≡ OutOfMemory) }
+        ensures memory { OnlyOutOfMemory result }
     {
         match cell {
             Cell::Null => self.push(b"null"),
@@ -155,7 +155,7 @@ impl Lines {
     fn push_list(&mut self, part: &Part<'_>) -> Result<()>
         requires { IsPart part.now }
         ensures ok { OnOk result (self.new.text.items ≡ self.old.text.items ++ slot_text (ListSlot (part_slots part.now))) }
-        ensures memory { IfErr result (λ e. e ≡ OutOfMemory) }
+        ensures memory { OnlyOutOfMemory result }
     {
         self.push(b"[")?;
         for k in 0..part.end - part.start {
@@ -170,7 +170,7 @@ impl Lines {
     fn push_struct(&mut self, children: &[Array], i: usize) -> Result<()>
         requires { HaveSlots (i + 1) children.now }
         ensures ok { OnOk result (self.new.text.items ≡ self.old.text.items ++ slot_text (record_at (map array_slots children.now) i)) }
-        ensures memory { IfErr result (λ e. e ≡ OutOfMemory) }
+        ensures memory { OnlyOutOfMemory result }
     {
         self.push(b"{")?;
         for k in 0..children.len() {
@@ -183,7 +183,7 @@ impl Lines {
     /// Adds a number in decimal.
     fn push_number<I: Integer>(&mut self, number: I) -> Result<()>
         ensures ok { OnOk result (self.new.text.items ≡ self.old.text.items ++ I.text number) }
-        ensures memory { IfErr result (λ e. e ≡ OutOfMemory) }
+        ensures memory { OnlyOutOfMemory result }
     {
         self.push(Buffer::new().format(number).as_bytes())
     }
@@ -191,7 +191,7 @@ impl Lines {
     /// Adds an integer in decimal. Most fit 64 bits, which print faster.
     fn push_integer(&mut self, number: i128) -> Result<()>
         ensures ok { OnOk result (self.new.text.items ≡ self.old.text.items ++ signed_decimal number) }
-        ensures memory { IfErr result (λ e. e ≡ OutOfMemory) }
+        ensures memory { OnlyOutOfMemory result }
     {
         match i64::try_from(number) {
             Ok(short) => self.push_number(short),
@@ -202,7 +202,7 @@ impl Lines {
     /// Adds an interval: its months, days and nanoseconds.
     fn push_interval(&mut self, interval: MonthsDaysNs) -> Result<()>
         ensures ok { OnOk result (self.new.text.items ≡ self.old.text.items ++ slot_text (interval_slot interval)) }
-        ensures memory { IfErr result (λ e. e ≡ OutOfMemory) }
+        ensures memory { OnlyOutOfMemory result }
     {
         self.push(b"{")?;
         self.push_number(interval.months)?;
@@ -216,7 +216,7 @@ impl Lines {
     /// Adds bytes in hexadecimal.
     fn push_binary(&mut self, bytes: &[u8]) -> Result<()>
         ensures ok { OnOk result (self.new.text.items ≡ self.old.text.items ++ slot_text (BinarySlot bytes.now)) }
-        ensures memory { IfErr result (λ e. e ≡ OutOfMemory) }
+        ensures memory { OnlyOutOfMemory result }
     {
         self.push(b"0x")?;
         for i in 0..bytes.len() {
@@ -228,7 +228,7 @@ impl Lines {
     /// Adds the comma before the slot of this index.
     fn push_comma(&mut self, index: usize) -> Result<()>
         ensures ok { OnOk result (self.new.text.items ≡ self.old.text.items ++ (if index == 0 then [] else codes ",")) }
-        ensures memory { IfErr result (λ e. e ≡ OutOfMemory) }
+        ensures memory { OnlyOutOfMemory result }
     {
         if index == 0 {
             return Ok(());
@@ -238,7 +238,7 @@ impl Lines {
 
     fn push_boolean(&mut self, boolean: bool) -> Result<()>
         ensures ok { OnOk result (self.new.text.items ≡ self.old.text.items ++ (if boolean then codes "true" else codes "false")) }
-        ensures memory { IfErr result (λ e. e ≡ OutOfMemory) }
+        ensures memory { OnlyOutOfMemory result }
     {
         if boolean {
             self.push(b"true")
@@ -250,7 +250,7 @@ impl Lines {
     /// Adds the JSON string of a string.
     fn push_string(&mut self, text: &str) -> Result<()>
         ensures ok { OnOk result (self.new.text.items ≡ self.old.text.items ++ json_string text.now) }
-        ensures memory { IfErr result (λ e. e ≡ OutOfMemory) }
+        ensures memory { OnlyOutOfMemory result }
     {
         match write_str(self, text) {
             Ok(()) => Ok(()),
@@ -260,7 +260,7 @@ impl Lines {
 
     fn push(&mut self, bytes: &[u8]) -> Result<()>
         ensures ok { OnOk result (self.new.text.items ≡ self.old.text.items ++ bytes.now) }
-        ensures memory { IfErr result (λ e. e ≡ OutOfMemory) }
+        ensures memory { OnlyOutOfMemory result }
     {
         self.text.extend_from_slice(bytes)?;
         Ok(())

@@ -1,7 +1,7 @@
 //! Columns of nulls, of booleans and of integers.
 ghost use Rattle.std.specs.Prelude.{◌≡◌, OnOk, IfOk, IfErr};
 ghost use Rattle.arrow_array.specs.Parts.{IsPlain};
-ghost use Rattle.arrow_core.specs.declared.error.Error.TheVariants.{OutOfMemory};
+ghost use Rattle.arrow_core.specs.Errors.{OnlyOutOfMemory};
 ghost use Rattle.arrow_types.specs.declared.types.DataType.TheVariants.{Boolean, Null};
 ghost use Rattle.json_flat.specs.Meaning.{boolean_meaning, null_in, truth_in, whole_in};
 ghost use Rattle.json_flat.specs.Columns.{AreSlotsOf, IsColumnFault, IsPushFault, Pushes, lent, means};
@@ -70,7 +70,7 @@ fn boolean_of(value: &Value) -> Option<bool>
 pub fn read_booleans(alloc: Global, values: &[&Value]) -> Result<BooleanArray>
     ensures data_type { IfOk result (λ a. a.data_type ≡ Boolean) }
     ensures slots { IfOk result (λ a. AreSlotsOf truth_in (lent values.now) a.slots) }
-    ensures memory { IfErr result (λ e. e ≡ OutOfMemory) }
+    ensures memory { OnlyOutOfMemory result }
 {
     let mut builder = MutableBooleanArray::with_capacity(alloc, values.len())?;
     for value in values {
@@ -83,7 +83,7 @@ pub fn read_booleans(alloc: Global, values: &[&Value]) -> Result<BooleanArray>
 pub fn read_nulls(alloc: Global, values: &[&Value]) -> Result<NullArray>
     ensures data_type { IfOk result (λ a. a.data_type ≡ Null) }
     ensures slots { IfOk result (λ a. AreSlotsOf null_in (lent values.now) a.slots) }
-    ensures memory { IfErr result (λ e. e ≡ OutOfMemory) }
+    ensures memory { OnlyOutOfMemory result }
 {
     let mut builder = MutableNullArray::new(alloc);
     for _value in values {

@@ -13,8 +13,8 @@ use crate::skip::skip_value;
 use crate::values::lend;
 use arrow_core::Text;
 use json_tree::JsonFault;
+use json_tree::grammar::{closes, goes_on, name_separator};
 use json_tree::reader::Reader;
-use json_tree::values::{closes, goes_on, name_separator};
 
 // Lends a value to the index, or skips it where there is no index.
 #[inline(always)]

@@ -6,8 +6,8 @@ ghost use Rattle.json_lend.specs.Skips.{Skips};
 use crate::numbers::skip_number;
 use crate::strings::skip_string;
 use json_tree::JsonFault;
+use json_tree::grammar::{closes, goes_on, literal, name_separator};
 use json_tree::reader::Reader;
-use json_tree::values::{closes, goes_on, literal, name_separator};
 
 // A value that is no array and no object.
 #[inline(always)]

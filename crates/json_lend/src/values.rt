@@ -10,8 +10,8 @@ use crate::numbers::lend_number;
 use crate::skip::{skip_array, skip_object};
 use crate::strings::skip_escaped;
 use json_tree::JsonFault;
+use json_tree::grammar::literal;
 use json_tree::reader::Reader;
-use json_tree::values::literal;
 
 // A string of any kind, after a call, since few have escapes.
 #[inline(never)]

@@ -1,17 +1,19 @@
-//! The texts of runs of items of one kind.
+//! The texts of runs of items of one flat kind.
 ghost use Rattle.std.specs.Prelude.{◌≡◌, ◌-◌, ◌≤◌, ◌++◌, length, map, take, drop, OnOk};
-ghost use Rattle.arrow_array.specs.Parts.{IsPlain};
 ghost use Rattle.json_text.specs.Columns.{IsForm};
 ghost use Rattle.json_text.specs.JsonText.{text, joined};
 
-use crate::bytes::{Appended, push_comma, push_string_if};
-use crate::integers::{IntegerForm, push_integer_if};
-use arrow_array::{PrimitiveArray, Utf8Array};
+use crate::bytes::{Appended, push_boolean_if, push_comma, push_string_if};
+use crate::integers::IntegerForm;
+use crate::numbers::Printed;
+use arrow_array::{BooleanArray, PrimitiveArray, Utf8Array};
+use arrow_types::Offset;
 
-/// Appends the texts of the integers from `start` to `end`, of this form, with commas between them.
-pub(crate) fn push_integers(
+/// Appends the texts of the values from `start` to `end`, of integers of this form, with commas
+/// between them.
+pub(crate) fn push_numbers<T: Printed>(
     out: &mut Vec<u8>,
-    array: &PrimitiveArray<i64>,
+    array: &PrimitiveArray<T>,
     start: usize,
     end: usize,
     form: &IntegerForm,
@@ -28,15 +30,15 @@ pub(crate) fn push_integers(
     for k in 0..end - start {
         push_comma(out, k)?;
         let i = start + k;
-        push_integer_if(out, form, array.is_valid(i), array.value(i))?;
+        array.value(i).push_if(out, form, array.is_valid(i))?;
     }
     Ok(())
 }
 
 /// The same of strings.
-pub(crate) fn push_strings(
+pub(crate) fn push_strings<O: Offset>(
     out: &mut Vec<u8>,
-    array: &Utf8Array<i32>,
+    array: &Utf8Array<O>,
     start: usize,
     end: usize,
 ) -> Appended
@@ -51,6 +53,28 @@ pub(crate) fn push_strings(
         push_comma(out, k)?;
         let i = start + k;
         push_string_if(out, array.is_valid(i), array.value(i))?;
+    }
+    Ok(())
+}
+
+/// The same of booleans.
+pub(crate) fn push_booleans(
+    out: &mut Vec<u8>,
+    array: &BooleanArray,
+    start: usize,
+    end: usize,
+) -> Appended
+    requires order { start ≤ end }
+    requires within { end ≤ length array.now.slots }
+    ensures ok { OnOk result
+        (out.new.items
+        ≡ out.old.items
+        ++ joined (map (text array.now.data_type) (take (end - start) (drop start array.now.slots)))) }
+{
+    for k in 0..end - start {
+        push_comma(out, k)?;
+        let i = start + k;
+        push_boolean_if(out, array.is_valid(i), array.value(i))?;
     }
     Ok(())
 }

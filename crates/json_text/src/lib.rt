@@ -6,6 +6,7 @@ mod checks;
 mod columns;
 mod integers;
 mod items;
+mod numbers;
 mod range;
 mod slots;
 mod types;

@@ -15,7 +15,7 @@ use crate::bytes::{
 };
 use crate::columns::{Column, columns_within, push_key};
 use crate::integers::{IntegerForm, integer_form, push_integer_if};
-use crate::items::{push_integers, push_strings};
+use crate::items::{push_booleans, push_numbers, push_strings};
 use arrow_array::{
     Array, DictionaryArray, FixedSizeListArray, LargeListArray, ListArray, Part, StructArray,
 };
@@ -235,7 +235,6 @@ fn push_dictionary(
 }
 
 /// Appends the text of a struct.
-#[inline(never)]
 #[cycle(slots)]
 fn push_struct(out: &mut Vec<u8>, array: &StructArray, i: usize, columns: &[Column]) -> Appended
     requires within { i < length array.now.slots }
@@ -250,7 +249,7 @@ fn push_struct(out: &mut Vec<u8>, array: &StructArray, i: usize, columns: &[Colu
 }
 
 /// Appends the text of a list, or `null` where there is none.
-#[inline]
+#[inline(always)]
 #[cycle(slots)]
 fn push_part(
     out: &mut Vec<u8>,
@@ -275,7 +274,9 @@ fn push_part(
     push(out, b"]")
 }
 
-/// Appends the texts of the slots from `start` to `end`, with commas between them.
+/// Appends the texts of the slots from `start` to `end`, with commas between them. The array's kind
+/// is looked at once for all of them, but for lists and dictionaries.
+#[inline(always)]
 #[cycle(slots)]
 fn push_items(
     out: &mut Vec<u8>,
@@ -295,11 +296,20 @@ fn push_items(
         ++ joined (map (text (array_type array.now)) (take (end - start) (drop start (array_slots array.now))))) }
 {
     match array {
-        Array::Int64(array) => {
-            let _ = array.data_type();
-            push_integers(out, array, start, end, form)
-        }
+        Array::Boolean(array) => push_booleans(out, array, start, end),
+        Array::Int8(array) => push_numbers(out, array, start, end, form),
+        Array::Int16(array) => push_numbers(out, array, start, end, form),
+        Array::Int32(array) => push_numbers(out, array, start, end, form),
+        Array::Int64(array) => push_numbers(out, array, start, end, form),
+        Array::UInt8(array) => push_numbers(out, array, start, end, form),
+        Array::UInt16(array) => push_numbers(out, array, start, end, form),
+        Array::UInt32(array) => push_numbers(out, array, start, end, form),
+        Array::UInt64(array) => push_numbers(out, array, start, end, form),
+        Array::Int128(array) => push_numbers(out, array, start, end, form),
+        Array::MonthDayNano(array) => push_numbers(out, array, start, end, form),
         Array::Utf8(array) => push_strings(out, array, start, end),
+        Array::LargeUtf8(array) => push_strings(out, array, start, end),
+        Array::Struct(array) => push_structs(out, array, start, end, columns),
         _ => push_values(out, array, start, end, form, columns),
     }
 }
@@ -326,6 +336,30 @@ fn push_values(
     for k in 0..end - start {
         push_comma(out, k)?;
         push_value(out, array, start + k, form, columns)?;
+    }
+    Ok(())
+}
+
+/// The same of structs.
+#[cycle(slots)]
+fn push_structs(
+    out: &mut Vec<u8>,
+    array: &StructArray,
+    start: usize,
+    end: usize,
+    columns: &[Column],
+) -> Appended
+    requires order { start ≤ end }
+    requires within { end ≤ length array.now.slots }
+    requires columns { AreWithin array.now.data_type columns.now }
+    ensures ok { OnOk result
+        (out.new.items
+        ≡ out.old.items
+        ++ joined (map (text array.now.data_type) (take (end - start) (drop start array.now.slots)))) }
+{
+    for k in 0..end - start {
+        push_comma(out, k)?;
+        push_struct(out, array, start + k, columns)?;
     }
     Ok(())
 }

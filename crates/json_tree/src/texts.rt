@@ -5,9 +5,9 @@ ghost use Rattle.json_tree.specs.Gives.{Gives};
 ghost use Rattle.json_tree.specs.Meaning.{HoldsTooMany, IsJson, IsJsonText};
 ghost use Rattle.json_tree.specs.Reading.{deep, text_at};
 
+use crate::grammar::value;
 use crate::reader::Reader;
 use crate::value::{JsonFault, Value};
-use crate::values::value;
 use std::alloc::Global;
 
 // The value of a whole text that is known to be UTF-8.

@@ -4,6 +4,7 @@ ghost use Rattle.std.specs.Bool.{MatchBool};
 ghost use Rattle.std.specs.Iterator.{size};
 ghost use Rattle.std.specs.Borrow.{sem};
 ghost use Rattle.std.specs.Io.BufRead.{Rests};
+ghost use Rattle.arrow_core.specs.Errors.{OnlyOutOfMemory};
 ghost use Rattle.arrow_core.specs.declared.error.Error.TheVariants.{OutOfMemory};
 ghost use Rattle.arrow_array.specs.Arrays.{array_slots};
 ghost use Rattle.lending.specs.Filling.{Ends};
@@ -33,7 +34,7 @@ where
 // `OutOfMemory` alone.
 fn push_lines(out: &mut Vec<u8>, array: &Array) -> Result<()>
     ensures ok { IfOk result (λ _. out.new.items ≡ out.old.items ++ array_lines array.now) }
-    ensures memory { IfErr result (λ e. e ≡ OutOfMemory) }
+    ensures memory { OnlyOutOfMemory result }
 {
     let columns = columns_within(*out.allocator(), array.data_type())?;
     let form = integer_form(array.data_type());

@@ -8,12 +8,13 @@ use avro_canonical::avro_rewrite;
 use std::alloc::Global;
 use std::process::Abort;
 
-/// By which marker a file is rewritten, under which limit, and which calls fail, counted from 1: none
-/// where it is 0.
+/// By which marker a file is rewritten, under which limit, in pieces of how many bytes at most it is read
+/// and written, and which calls fail, counted from 1: none where it is 0.
 #[derive(Clone, Copy)]
 struct How {
     marker: u8,
     limit: u64,
+    piece: usize,
     failing_read: u64,
     failing_write: u64,
 }
@@ -21,6 +22,7 @@ struct How {
 const PLAIN: How = How {
     marker: 1,
     limit: 1000,
+    piece: 60,
     failing_read: 0,
     failing_write: 0,
 };
@@ -45,12 +47,13 @@ fn joined(rt: &impl Abort, alloc: Global, pieces: &[&[u8]]) -> Bytes {
     bytes
 }
 
-/// What becomes of a file under the name `t`. It is read and written in pieces of 60 bytes at most.
+/// What becomes of a file under the name `t`.
 fn rewrite_file(rt: &impl Abort, alloc: Global, pieces: &[&[u8]], how: How) -> Rewritten {
     let failing_read = number(rt, alloc, how.failing_read);
     let failing_write = number(rt, alloc, how.failing_write);
-    let mut source = MemorySource::new(joined(rt, alloc, pieces), 60, failing_read);
-    let mut sink = MemorySink::with_room(alloc, 1000, 60, failing_write).expect(rt, "memory");
+    let piece = how.piece.max(1);
+    let mut source = MemorySource::new(joined(rt, alloc, pieces), piece, failing_read);
+    let mut sink = MemorySink::with_room(alloc, 1000, piece, failing_write).expect(rt, "memory");
     let marker = [how.marker; 16];
     let answer = avro_rewrite(alloc, &mut source, &mut sink, "t", marker, how.limit);
     let held = Bytes::try_from_slice(alloc, sink.held()).expect(rt, "memory");
@@ -130,11 +133,39 @@ fn fields_are_refused_before_anything_is_written(rt: HostRuntime) {
 }
 
 #[test]
-fn a_cut_block_leaves_the_blocks_before(rt: HostRuntime) {
+fn a_file_that_is_cut_is_refused(rt: HostRuntime) {
     let alloc = rt.alloc();
-    let cut = Err(Error::ExternalFormat(Reason::Container));
-    let file: &[&[u8]] = &[HEADER, LONG_NUMBERS, b"\x04"];
-    assert!(rt; gives(&rt, alloc, file, PLAIN, cut, &[HEADER, BLOCK]));
+    let fault = |reason: Reason| Err(Error::ExternalFormat(reason));
+    for k in 0..101usize {
+        let reason = if k < 4 { Reason::Magic } else { Reason::Header };
+        let file = HEADER.get(..k).unwrap_or(HEADER);
+        assert!(rt;
+            gives(&rt, alloc, &[file], PLAIN, fault(reason), &[]),
+            "{k}"
+        );
+    }
+    for k in 1..20usize {
+        let file = [HEADER, LONG_NUMBERS, BLOCK.get(..k).unwrap_or(BLOCK)];
+        let container = fault(Reason::Container);
+        let held = [HEADER, BLOCK];
+        assert!(rt; gives(&rt, alloc, &file, PLAIN, container, &held), "{k}");
+    }
+}
+
+#[test]
+fn a_block_whose_rows_are_cut_leaves_the_blocks_before(rt: HostRuntime) {
+    let alloc = rt.alloc();
+    let marker: &[u8] = &[1; 16];
+    let cut: [(&[u8], Reason); 3] = [
+        (b"\x04\x00", Reason::Rows),
+        (b"\x04\x02\x82", Reason::Rows),
+        (b"\x04\x04\x82\x00", Reason::BlockBytes),
+    ];
+    for (block, reason) in cut {
+        let file = [HEADER, LONG_NUMBERS, block, marker];
+        let fault = Err(Error::ExternalFormat(reason));
+        assert!(rt; gives(&rt, alloc, &file, PLAIN, fault, &[HEADER, BLOCK]));
+    }
 }
 
 #[test]
@@ -167,25 +198,56 @@ fn the_header_counts_for_the_limit(rt: HostRuntime) {
 fn a_failing_write_leaves_a_prefix(rt: HostRuntime) {
     let alloc = rt.alloc();
     let file = joined(&rt, alloc, &[HEADER, BLOCK]);
-    // The header takes at least two writes, and the block one.
-    for k in 1..4 {
+    let bytes = How { piece: 1, ..PLAIN };
+    assert!(rt;
+        gives(
+            &rt,
+            alloc,
+            &[file.as_slice()],
+            bytes,
+            Ok(2),
+            &[file.as_slice()]
+        )
+    );
+    for failing_write in 1..122u64 {
         let how = How {
-            failing_write: k,
+            piece: 1,
+            failing_write,
             ..PLAIN
         };
-        let failed = rewrite_file(&rt, alloc, &[HEADER, BLOCK], how);
-        assert!(rt; failed.answer == Err(Error::WriteFault));
-        assert!(rt; file.as_slice().starts_with(failed.held.as_slice()));
+        let before = (failing_write - 1) as usize;
+        let held = file.as_slice().get(..before).unwrap_or(b"");
+        let fault = Err(Error::WriteFault);
+        assert!(rt;
+            gives(&rt, alloc, &[HEADER, LONG_NUMBERS], how, fault, &[held]),
+            "{failing_write}"
+        );
     }
 }
 
 #[test]
-fn a_failed_first_read_leaves_nothing(rt: HostRuntime) {
+fn a_failing_read_leaves_the_blocks_before(rt: HostRuntime) {
     let alloc = rt.alloc();
-    let failed = Err(Error::ReadFault { line: None });
-    let first = How {
-        failing_read: 1,
-        ..PLAIN
-    };
-    assert!(rt; gives(&rt, alloc, &[HEADER, BLOCK], first, failed, &[]));
+    for failing_read in 1..123u64 {
+        let how = How {
+            piece: 1,
+            failing_read,
+            ..PLAIN
+        };
+        // The header has 101 bytes, and the last read is the one that would show the end.
+        let whole: &[&[u8]] = &[HEADER, BLOCK];
+        let pieces = if failing_read <= 101 {
+            0
+        } else if failing_read <= 121 {
+            1
+        } else {
+            2
+        };
+        let held = whole.get(..pieces).unwrap_or(whole);
+        let fault = Err(Error::ReadFault { line: None });
+        assert!(rt;
+            gives(&rt, alloc, &[HEADER, BLOCK], how, fault, held),
+            "{failing_read}"
+        );
+    }
 }

@@ -1,8 +1,6 @@
-//! Arrays that no block of Avro makes, written: large forms, slices, and what lies beneath nulls.
+//! Arrays that no block of Avro makes, written: slices, and what lies beneath nulls.
 //! The bytes are those that Python's `avro` writes for the values that stand beside them.
-use arrow_array::{
-    Array, BinaryArray, Bitmap, LargeListArray, ListArray, PrimitiveArray, StructArray, Utf8Array,
-};
+use arrow_array::{Array, Bitmap, ListArray, PrimitiveArray, StructArray, Utf8Array};
 use arrow_core::{Box, Bytes, Error, Items, Metadata, Reason, Result, Text};
 use arrow_types::{DataType, Field, Schema};
 use avro_record::{can_serialize, to_record_with};
@@ -73,25 +71,8 @@ fn large_strings(alloc: Global) -> Result<Array> {
     Ok(Array::LargeUtf8(array))
 }
 
-/// 00 ff, and nothing.
-fn large_bytes(alloc: Global) -> Result<Array> {
-    let offsets: Vec<i64> = vec![in alloc; 0, 2, 2]?;
-    let bytes = vec![in alloc; 0, 255]?;
-    let array = BinaryArray::try_new(alloc, DataType::LargeBinary, offsets, bytes, None)?;
-    Ok(Array::LargeBinary(array))
-}
-
 fn item(alloc: Global) -> Result<Box<Field>> {
     Box::new(alloc, column(alloc, "item", DataType::Int64, false)?)
-}
-
-/// [1, 2], [] and [3].
-fn large_lists(alloc: Global) -> Result<Array> {
-    let offsets: Vec<i64> = vec![in alloc; 0, 2, 2, 3]?;
-    let items = longs(alloc, &[1, 2, 3], None)?;
-    let data_type = DataType::LargeList(item(alloc)?);
-    let array = LargeListArray::try_new(alloc, data_type, offsets, items, None)?;
-    Ok(Array::LargeList(array))
 }
 
 /// [1, 2], [] and [3].
@@ -110,31 +91,6 @@ fn structs(alloc: Global) -> Result<Array> {
     let data_type = DataType::Struct(Items::from_vec(fields));
     let array = StructArray::try_new(alloc, data_type, children, None)?;
     Ok(Array::Struct(array))
-}
-
-#[test]
-fn large_strings_are_strings(rt: HostRuntime) {
-    let array = large_strings(rt.alloc());
-    assert!(rt; is_written(rt.alloc(), array, false, b"\x06\x68\xc3\xa9\x00\x02\x62"));
-}
-
-#[test]
-fn large_binary_values_are_bytes(rt: HostRuntime) {
-    let array = large_bytes(rt.alloc());
-    assert!(rt; is_written(rt.alloc(), array, false, b"\x04\x00\xff\x00"));
-}
-
-#[test]
-fn large_lists_are_arrays(rt: HostRuntime) {
-    let array = large_lists(rt.alloc());
-    assert!(rt;
-        is_written(
-            rt.alloc(),
-            array,
-            false,
-            b"\x04\x02\x04\x00\x00\x02\x06\x00"
-        )
-    );
 }
 
 /// "" and "b".

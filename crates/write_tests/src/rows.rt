@@ -1,8 +1,10 @@
 //! Columns that are read from bytes and written again.
 use arrow_array::Array;
+use arrow_columns::equal;
 use arrow_core::{Bytes, Error, Items, Reason, Text};
+use arrow_types::Field;
 use avro_decode::deserialize;
-use avro_infer::infer_schema;
+use avro_infer::{enlarge, infer_schema};
 use avro_schema::{AvroField, Block, Record};
 use avro_write::{BoxSerializer, new_serializer, serialize};
 use field_words::read_field;
@@ -29,22 +31,62 @@ fn written(serializer: BoxSerializer<'_>, block: &mut Block) -> Result<(), Error
     serialize(&mut serializers, block)
 }
 
-/// Reads a block of rows of the record, and writes it again into the same block.
-fn rewrite(alloc: Global, root: &Record, block: &mut Block) -> Result<(), Error> {
-    let columns = infer_schema(alloc, root)?;
-    let fields = root.fields.as_slice();
-    let chunk = deserialize(alloc, block, columns.fields.as_slice(), fields, &[true])?;
-    match (chunk.arrays(), fields) {
-        ([array], [field]) => {
-            let serializer = new_serializer(alloc, array, &field.schema)?;
-            written(serializer, block)
-        }
-        _ => Err(Error::InvalidArgumentError(Reason::Lengths)),
+/// Whether the rows of a block are the slots of the array.
+fn are_rows_of(
+    alloc: Global,
+    array: &Array,
+    columns: &[Field],
+    fields: &[AvroField],
+    block: &Block,
+) -> Result<bool, Error> {
+    let chunk = deserialize(alloc, block, columns, fields, &[true])?;
+    match chunk.arrays() {
+        [found] => Ok(equal(found, array)),
+        _ => Ok(false),
     }
 }
 
-/// What becomes of so many rows of the field that a word names.
-fn rewritten(alloc: Global, word: &str, rows: usize, bytes: &[u8]) -> Result<Bytes, Error> {
+/// Reads a block of rows of one column, writes it again into the same block, and reads that.
+fn rewrite(
+    alloc: Global,
+    columns: &[Field],
+    fields: &[AvroField],
+    block: &mut Block,
+) -> Result<bool, Error> {
+    let chunk = deserialize(alloc, block, columns, fields, &[true])?;
+    match (chunk.arrays(), fields) {
+        ([array], [field]) => {
+            let serializer = new_serializer(alloc, array, &field.schema)?;
+            written(serializer, block)?;
+            are_rows_of(alloc, array, columns, fields, block)
+        }
+        _ => Ok(false),
+    }
+}
+
+/// The same under the record's columns, or under their large forms.
+fn rewrite_columns(
+    alloc: Global,
+    root: &Record,
+    is_large: bool,
+    block: &mut Block,
+) -> Result<bool, Error> {
+    let columns = infer_schema(alloc, root)?;
+    let fields = root.fields.as_slice();
+    match columns.fields.as_slice() {
+        [column] if is_large => rewrite(alloc, &[enlarge(alloc, column)?], fields, block),
+        columns => rewrite(alloc, columns, fields, block),
+    }
+}
+
+/// What becomes of so many rows of the field that a word names, where they read back as they were.
+fn rewritten(
+    alloc: Global,
+    word: &str,
+    is_large: bool,
+    rows: usize,
+    bytes: &[u8],
+) -> Result<Bytes, Error> {
     let Ok(field) = read_field(alloc, word) else {
         return Err(Error::OutOfMemory);
     };
@@ -53,13 +95,22 @@ fn rewritten(alloc: Global, word: &str, rows: usize, bytes: &[u8]) -> Result<Byt
         number_of_rows: rows,
         bytes: Bytes::try_from_slice(alloc, bytes)?,
     };
-    rewrite(alloc, &root, &mut block)?;
+    if !rewrite_columns(alloc, &root, is_large, &mut block)? {
+        return Err(Error::InvalidArgumentError(Reason::Lengths));
+    }
     Ok(block.bytes)
 }
 
 /// Whether those rows become these.
-fn becomes(alloc: Global, word: &str, rows: usize, bytes: &[u8], wanted: &[u8]) -> bool {
-    match rewritten(alloc, word, rows, bytes) {
+fn becomes(
+    alloc: Global,
+    word: &str,
+    is_large: bool,
+    rows: usize,
+    bytes: &[u8],
+    wanted: &[u8],
+) -> bool {
+    match rewritten(alloc, word, is_large, rows, bytes) {
         Ok(found) => found.as_slice() == wanted,
         Err(_) => false,
     }
@@ -69,7 +120,7 @@ fn becomes(alloc: Global, word: &str, rows: usize, bytes: &[u8], wanted: &[u8]) 
 /// durations the bytes are those of Python's `struct`.
 #[test]
 fn canonical_rows_stay(rt: HostRuntime) {
-    let table: [(&str, usize, &[u8]); 27] = [
+    let table: [(&str, usize, &[u8]); 34] = [
         ("a=boolean", 2, b"\x01\x00"),
         ("a=int", 3, b"\x02\x03\xff\xff\xff\xff\x0f"),
         ("a=date", 1, b"\x98\xb4\x02"),
@@ -91,6 +142,17 @@ fn canonical_rows_stay(rt: HostRuntime) {
         ("a=string", 2, b"\x00\x06\x68\xc3\xa9"),
         ("a=string?", 2, b"\x00\x02\x02\x61"),
         ("a=int!", 2, b"\x00\x0a\x02"),
+        ("a=boolean?", 2, b"\x00\x02\x01"),
+        ("a=long!", 2, b"\x00\x81\x01\x02"),
+        ("a=bytes!", 2, b"\x00\x04\x00\xff\x02"),
+        ("a=fixed(2)?", 2, b"\x02\x01\x02\x00"),
+        ("a=decimal(10,2)?", 2, b"\x02\x04\x00\x05\x00"),
+        (
+            "a=duration!",
+            2,
+            b"\x00\x01\x00\x00\x00\xfe\xff\xff\xff\x03\x00\x00\x00\x02",
+        ),
+        ("a={x=int}?", 2, b"\x02\x06\x00"),
         ("a=[int]", 2, b"\x00\x02\x0a\x00"),
         ("a=[int?]", 1, b"\x04\x00\x02\x0e\x00"),
         ("a=[[boolean]]?", 2, b"\x00\x02\x04\x00\x02\x01\x00\x00"),
@@ -111,7 +173,10 @@ fn canonical_rows_stay(rt: HostRuntime) {
         ),
     ];
     for (word, rows, bytes) in table {
-        assert!(rt; becomes(rt.alloc(), word, rows, bytes, bytes), "{word}");
+        assert!(rt;
+            becomes(rt.alloc(), word, false, rows, bytes, bytes),
+            "{word}"
+        );
     }
 }
 
@@ -134,6 +199,36 @@ fn other_encodings_become_canonical(rt: HostRuntime) {
         ),
     ];
     for (word, rows, bytes, wanted) in table {
-        assert!(rt; becomes(rt.alloc(), word, rows, bytes, wanted), "{word}");
+        assert!(rt;
+            becomes(rt.alloc(), word, false, rows, bytes, wanted),
+            "{word}"
+        );
+    }
+}
+
+/// Rows as Python's `avro` writes them, of columns with offsets of 64 bits.
+#[test]
+fn rows_of_large_forms_stay(rt: HostRuntime) {
+    let table: [(&str, usize, &[u8]); 6] = [
+        ("a=string", 3, b"\x06\x68\xc3\xa9\x00\x02\x62"),
+        ("a=uuid?", 2, b"\x00\x02\x00"),
+        ("a=bytes", 2, b"\x04\x00\xff\x00"),
+        ("a=[int]", 3, b"\x04\x02\x04\x00\x00\x02\x06\x00"),
+        (
+            "a=[[string]]?",
+            2,
+            b"\x00\x02\x04\x04\x02\x61\x00\x00\x00\x00",
+        ),
+        (
+            "a={x=string;y=[bytes?]}",
+            2,
+            b"\x02\x62\x04\x00\x02\x02\x07\x00\x00\x00",
+        ),
+    ];
+    for (word, rows, bytes) in table {
+        assert!(rt;
+            becomes(rt.alloc(), word, true, rows, bytes, bytes),
+            "{word}"
+        );
     }
 }

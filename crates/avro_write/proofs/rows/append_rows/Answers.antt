@@ -1,13 +1,16 @@
-use Rattle.std.proofs.Common.{ℕ, List, map, arith}
+use Rattle.std.proofs.Common.{◌∙◌, ℕ, List, length, ap, arith}
+use Rattle.std.proofs.lemmas.Result.{on_ok_weaker}
 use Rattle.avro_write.specs.Serializing.{Serializing}
-use Rattle.avro_write.proofs.Items.{rows_step}
+use Rattle.avro_write.proofs.Items.{one_column}
 use Rattle.avro_write.proofs.rows.append_rows.Goals as goal
 
 abbrev left_of : Serializing → List (List ℕ)
 left_of s = s.left
 
-pub append_row-requires : goal.append_row-requires
-append_row-requires c = record { left = λ k d l. omega (arith, c.requires.left k d l, c.loop-i-test.true) }
-
-pub loop-i-preserved : goal.loop-i-preserved
-loop-i-preserved c = rows_step (map left_of c.args.serializers.now) c.loop-i.i _ _ _ c.loop-i.invariant c.in_ok-append_row.ensures.ok
+pub returns-in-len1 : goal.returns-in-len1
+returns-in-len1 c = record {
+  ok =
+      let s = c.serializer-item.result in
+      let many = ap (λ z. length (left_of z)) c.serializer-item.is ∙ c.requires.left 0 s (omega (arith, c.in-len1.len_at_least)) in
+      on_ok_weaker c.append_left.result (λ e. one_column left_of c.args.serializers.now s c.args.count _ _ c.serializer-item.is c.in-len1.len_at_least c.in-len1.len_below many e) c.append_left.ensures.ok;
+}

@@ -8,7 +8,7 @@ use Rattle.json_text.proofs.Joined.{joined_more, map_at, map_length, part_at, pa
 use Rattle.json_text.proofs.items.push_strings.Goals as goal
 
 pub loop-k-preserved : goal.loop-k-preserved
-loop-k-preserved c =
+loop-k-preserved g c =
     let a = c.args.array.now in
     let f = text a.data_type in
     let xs = take (c.args.end - c.args.start) (drop c.args.start a.slots) in

@@ -101,6 +101,27 @@ push_values-loop-k-preserved t c =
     let here = map_at f xs c.loop-k.k slot.Null within ∙ ap f (part_at slots c.args.start c.args.end c.loop-k.k slot.Null c.requires.order c.requires.within (omega arith)) in
     joined_more c.args.out.now.items _ _ _ _ (map f xs) c.loop-k.k (omega (arith, map_length f xs, within)) here c.loop-k.invariant c.in_ok-push_comma.ensures.ok c.in_ok-push_value.ensures.ok
 
+pub push_items-push_structs-requires : goal.push_items-push_structs-requires
+push_items-push_structs-requires t c =
+    let same : size-DataType c.in-Struct.array.data_type ≡ size-DataType (array_type c.args.array.now) = rw c.in-Struct.is refl in
+    let below : 5 * size-DataType c.in-Struct.array.data_type + 3 < 5 * size-DataType (array_type c.args.array.now) + 5 = omega (arith, same) in
+    (search (rules, below), (c.requires.order, (rw c.in-Struct.is at c.requires.within, rw c.in-Struct.is at c.requires.columns)))
+
+pub push_structs-push_struct-requires : goal.push_structs-push_struct-requires
+push_structs-push_struct-requires t c =
+    let below : 5 * size-DataType c.args.array.now.data_type + 2 < 5 * size-DataType c.args.array.now.data_type + 3 = omega arith in
+    (search (rules, below), (omega (arith, c.requires.order, c.requires.within), c.requires.columns))
+
+pub push_structs-loop-k-preserved : goal.push_structs-loop-k-preserved
+push_structs-loop-k-preserved t c =
+    let slots = c.args.array.now.slots in
+    let f = text c.args.array.now.data_type in
+    let xs = take (c.args.end - c.args.start) (drop c.args.start slots) in
+    let n = part_length slots c.args.start c.args.end c.requires.order c.requires.within in
+    let within : c.loop-k.k < length xs = omega (arith, n) in
+    let here = map_at f xs c.loop-k.k slot.Null within ∙ ap f (part_at slots c.args.start c.args.end c.loop-k.k slot.Null c.requires.order c.requires.within (omega arith)) in
+    joined_more c.args.out.now.items _ _ _ _ (map f xs) c.loop-k.k (omega (arith, map_length f xs, within)) here c.loop-k.invariant c.in_ok-push_comma.ensures.ok c.in_ok-push_struct.ensures.ok
+
 pub push_object-unreachable-requires : goal.push_object-unreachable-requires
 push_object-unreachable-requires t c =
     let arrays = c.args.arrays.now in

@@ -10,6 +10,9 @@ use Rattle.json_text.proofs.slots.+slots.Given as goal
 abbrev pub invariant-push_values-loop-k : goal.invariant-push_values-loop-k
 invariant-push_values-loop-k l = l.out.items ≡ l.fn.out.items ++ joined (take l.k (map (text (array_type l.array)) (take (l.end - l.start) (drop l.start (array_slots l.array)))))
 
+abbrev pub invariant-push_structs-loop-k : goal.invariant-push_structs-loop-k
+invariant-push_structs-loop-k l = l.out.items ≡ l.fn.out.items ++ joined (take l.k (map (text l.array.data_type) (take (l.end - l.start) (drop l.start l.array.slots))))
+
 abbrev pub invariant-push_object-loop-array : goal.invariant-push_object-loop-array
 invariant-push_object-loop-array l = record {
   columns : AreColumns (drop l.array-index l.arrays) l.rest;
@@ -42,6 +45,9 @@ decreases-push_items l = 5 * size-DataType (array_type l.array.now) + 5
 
 abbrev pub decreases-push_values : goal.decreases-push_values
 decreases-push_values l = 5 * size-DataType (array_type l.array.now) + 4
+
+abbrev pub decreases-push_structs : goal.decreases-push_structs
+decreases-push_structs l = 5 * size-DataType l.array.now.data_type + 3
 
 abbrev pub decreases-push_object : goal.decreases-push_object
 decreases-push_object l = 5 * children_depth l.arrays.now
