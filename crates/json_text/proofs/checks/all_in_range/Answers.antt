@@ -1,5 +1,5 @@
 -- The run of all slots.
-use Rattle.std.proofs.Common.{◌∙◌, ap}
+use Rattle.std.proofs.Common.{◌∙◌}
 use Rattle.arrow_array.specs.Arrays.{array_type, array_slots}
 use Rattle.json_text.specs.Refusals.{in_range}
 use Rattle.json_text.proofs.Runs.{whole_run}
