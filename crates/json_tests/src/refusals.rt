@@ -1,6 +1,6 @@
 //! Which arrays have no JSON text, and why.
 
-use crate::samples::{days, hidden_day, list_of_days, longs, numbers, timestamp};
+use crate::samples::{days, hidden_day, list_of_days, longs, numbers, struct_of, timestamp};
 use arrow_columns::Array;
 use arrow_core::{Error, Reason, Result};
 use arrow_types::{DataType, TimeUnit};
@@ -42,4 +42,16 @@ fn dates_of_a_list_are_those_between_its_offsets(rt: HostRuntime) {
     let refused = Err(Error::InvalidArgumentError(Reason::DateRange));
     assert!(rt; outcome(list_of_days(&rt, alloc, &[0, 2])) == refused);
     assert!(rt; outcome(list_of_days(&rt, alloc, &[1, 2])) == Ok(()));
+}
+
+#[test]
+fn dates_of_a_struct_are_those_of_its_children(rt: HostRuntime) {
+    let alloc = rt.alloc();
+    let refused = Err(Error::InvalidArgumentError(Reason::DateRange));
+    let number = longs(&rt, alloc, &[1]);
+    let array = struct_of(&rt, alloc, number, days(&rt, alloc, 2932897));
+    assert!(rt; outcome(array) == refused);
+    let number = longs(&rt, alloc, &[1]);
+    let array = struct_of(&rt, alloc, number, hidden_day(&rt, alloc));
+    assert!(rt; outcome(array) == Ok(()));
 }

@@ -6,7 +6,7 @@ use arrow_columns::{
 };
 use arrow_core::{Box, Items, Text};
 use arrow_types::{DataType, Field, IntegerType, NativeType, TimeUnit};
-use json_text::push_slot;
+use json_text::{push_slot, push_slots};
 use std::alloc::Global;
 use std::process::Abort;
 
@@ -20,6 +20,13 @@ pub fn slot_is(rt: &impl Abort, alloc: Global, array: Array, i: usize, text: &st
     let mut out = Vec::new(alloc);
     push_slot(&mut out, &array, i).expect(rt, "memory");
     out.as_slice() == text.as_bytes()
+}
+
+/// Whether the slots have these texts, with commas between them.
+pub fn slots_are(rt: &impl Abort, alloc: Global, array: Array, texts: &str) -> bool {
+    let mut out = Vec::new(alloc);
+    push_slots(&mut out, &array).expect(rt, "memory");
+    out.as_slice() == texts.as_bytes()
 }
 
 /// A bitmap that says so of each slot.

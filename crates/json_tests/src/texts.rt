@@ -3,7 +3,7 @@
 
 use crate::samples::{
     booleans, days, dictionary, large_list, list_with_a_null, lists, longs, nulls, numbers, pairs,
-    short_string, slot_is, string, structs, timestamp,
+    short_string, slot_is, slots_are, string, struct_of, structs, timestamp,
 };
 use arrow_columns::Array;
 use arrow_types::DataType;
@@ -68,6 +68,10 @@ fn strings_are_escaped(rt: HostRuntime) {
 #[test]
 fn an_escape_is_found_in_each_chunk(rt: HostRuntime) {
     let alloc = rt.alloc();
+    let array = string(&rt, alloc, "0\"2");
+    assert!(rt; slot_is(&rt, alloc, array, 0, "\"0\\\"2\""));
+    let array = string(&rt, alloc, "0123\"5");
+    assert!(rt; slot_is(&rt, alloc, array, 0, "\"0123\\\"5\""));
     let array = string(&rt, alloc, "0123456789abcde\"");
     assert!(rt; slot_is(&rt, alloc, array, 0, "\"0123456789abcde\\\"\""));
     let array = string(&rt, alloc, "0123456789abcdef0123456\"");
@@ -94,6 +98,28 @@ fn a_list_shows_what_lies_between_its_offsets(rt: HostRuntime) {
     assert!(rt; slot_is(&rt, alloc, lists(&rt, alloc, &[0, 0, 3]), 1, "null"));
     assert!(rt; slot_is(&rt, alloc, large_list(&rt, alloc), 0, "[1,2,3]"));
     assert!(rt; slot_is(&rt, alloc, pairs(&rt, alloc), 1, "[3,4]"));
+}
+
+#[test]
+fn slots_of_one_kind_stand_side_by_side(rt: HostRuntime) {
+    let alloc = rt.alloc();
+    assert!(rt; slots_are(&rt, alloc, booleans(&rt, alloc), "true,null,false"));
+    let array = Array::UInt8(numbers(&rt, alloc, DataType::UInt8, &[0u8, 255]));
+    assert!(rt; slots_are(&rt, alloc, array, "0,255"));
+    let array = Array::Int32(numbers(&rt, alloc, DataType::Date32, &[0i32, -1]));
+    assert!(rt; slots_are(&rt, alloc, array, "\"1970-01-01\",\"1969-12-31\""));
+    assert!(rt; slots_are(&rt, alloc, nulls(&rt, alloc), "null"));
+    assert!(rt; slots_are(&rt, alloc, lists(&rt, alloc, &[1, 3, 3]), "[2,3],null"));
+    assert!(rt; slots_are(&rt, alloc, pairs(&rt, alloc), "[1,2],[3,4]"));
+    assert!(rt; slots_are(&rt, alloc, dictionary(&rt, alloc), "\"x\""));
+    let array = struct_of(
+        &rt,
+        alloc,
+        longs(&rt, alloc, &[1, 2, 3]),
+        booleans(&rt, alloc),
+    );
+    let objects = "{\"p\":1,\"q\\\"\":true},{\"p\":2,\"q\\\"\":null},{\"p\":3,\"q\\\"\":false}";
+    assert!(rt; slots_are(&rt, alloc, array, objects));
 }
 
 #[test]

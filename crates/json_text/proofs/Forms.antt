@@ -1,5 +1,5 @@
 -- How slots of each type are written.
-use Rattle.std.proofs.Common.{◌≡◌, ◌++◌, ℕ, Bool, true, false, ℤ, List, [], ◌∷◌, map, refl, sym, ap, ◌∙◌, if◌then◌else◌, IsTrue, Result, Ok, Err, OnOk}
+use Rattle.std.proofs.Common.{◌≡◌, ◌++◌, ℕ, Bool, true, false, ℤ, List, [], ◌∷◌, map, refl, sym, ap, ◌∙◌, if◌then◌else◌, IsTrue, true≢false, Result, Ok, Err, OnOk}
 use Rattle.std.specs.Fmt.{signed_decimal}
 use Rattle.arrow_types.specs.declared.slot.Slot.{Slot, Null, Boolean, Integer, String, Binary, List', Struct', items_hidden-the_row-Slot-0}
 use Rattle.arrow_types.specs.declared.slot.Slot.TheVariants as slot
@@ -35,7 +35,7 @@ appended (Ok a) old new t x y v held e h k d = d ∙ ap (λ z. old ++ z) (if_hel
 appended (Err b) old new t x y v held e h k d = tt
 
 -- a slot that is null or holds what stands for null
-if_null : (t : DataType) (x y : Slot) → (IsTrue (is_held x) → x ≡ y) → null ≡ text t y → null ≡ text t x
+pub if_null : (t : DataType) (x y : Slot) → (IsTrue (is_held x) → x ≡ y) → null ≡ text t y → null ≡ text t x
 if_null t Null y h k = refl
 if_null t (Boolean b) y h k = k ∙ ap (text t) (sym (h refl))
 if_null t (Integer n) y h k = k ∙ ap (text t) (sym (h refl))
@@ -43,6 +43,16 @@ if_null t (String s) y h k = k ∙ ap (text t) (sym (h refl))
 if_null t (Binary s) y h k = k ∙ ap (text t) (sym (h refl))
 if_null t (List' m row) y h k = k ∙ ap (text t) (sym (h refl))
 if_null t (Struct' m row) y h k = k ∙ ap (text t) (sym (h refl))
+
+-- a slot that is null
+pub if_not_held : (t : DataType) (x : Slot) → is_held x ≡ false → null ≡ text t x
+if_not_held t Null h = refl
+if_not_held t (Boolean b) h = absurd (true≢false h)
+if_not_held t (Integer n) h = absurd (true≢false h)
+if_not_held t (String s) h = absurd (true≢false h)
+if_not_held t (Binary s) h = absurd (true≢false h)
+if_not_held t (List' m row) h = absurd (true≢false h)
+if_not_held t (Struct' m row) h = absurd (true≢false h)
 
 pub appended_null : {A E : Type 0} (r : Result A E) (old new : List ℕ) (t : DataType) (x y : Slot)
     → (IsTrue (is_held x) → x ≡ y) → null ≡ text t y → OnOk r (new ≡ old ++ null) → OnOk r (new ≡ old ++ text t x)

@@ -77,16 +77,16 @@ child_below (b ∷ cs) (suc k) c l e = omega (arith, child_below cs k c (omega (
 
 -- ---- dates in range
 
-and_left : (a b : Bool) → (a && b) ≡ true → a ≡ true
+pub and_left : (a b : Bool) → (a && b) ≡ true → a ≡ true
 and_left true b h = refl
 and_left false b h = h
 
-and_right : (a b : Bool) → (a && b) ≡ true → b ≡ true
+pub and_right : (a b : Bool) → (a && b) ≡ true → b ≡ true
 and_right true b h = h
 and_right false true h = refl
 and_right false false h = h
 
-and_both : (a b : Bool) → a ≡ true → b ≡ true → (a && b) ≡ true
+pub and_both : (a b : Bool) → a ≡ true → b ≡ true → (a && b) ≡ true
 and_both a b h l = rw h l
 
 and_not_left : (a b : Bool) → a ≡ false → (a && b) ≡ false

@@ -1,13 +1,13 @@
 //! Text that grows in memory.
-ghost use Rattle.std.specs.Prelude.{◌≡◌, ◌++◌, ◌==◌, [], pos, codes, take, OnOk, if◌then◌else◌};
+ghost use Rattle.std.specs.Prelude.{◌≡◌, ◌*◌, ◌≤◌, ◌++◌, ◌==◌, [], pos, codes, length, take, OnOk, if◌then◌else◌};
 ghost use Rattle.std.specs.Bool.{OnFalse};
-ghost use Rattle.std.specs.Fmt.{signed_decimal};
+ghost use Rattle.std.specs.Fmt.{decimal, signed_decimal};
 ghost use Rattle.arrow_base.specs.WrittenString.{json_string};
 ghost use Rattle.json_text.specs.JsonText.{null};
 ghost use Rattle.json_text.specs.Unescaped.{IsUnescaped};
 
 use arrow_base::utf8::write_str;
-use itoa::{Buffer, Integer};
+use itoa::{Buffer, write_digits};
 use std::alloc::AllocError;
 
 /// What appending a text answers: nothing, or that there is no memory. The wider error of calls
@@ -66,6 +66,19 @@ fn chunk_has_escape(chunk: &[u8]) -> bool
     found
 }
 
+/// Whether one of the first `n` bytes or of the last `n` needs an escape, of a string that has no
+/// byte between them. Where `n` is a constant, those of each end are compared at once.
+#[inline(always)]
+fn ends_have_escape(string: &[u8], n: usize) -> bool
+    requires within { n ≤ length string.now }
+    requires covered { length string.now ≤ 2 * n }
+    ensures { OnFalse result (IsUnescaped string.now) }
+{
+    let (first, _) = string.split_at(n);
+    let (_, last) = string.split_at(string.len() - n);
+    chunk_has_escape(first) | chunk_has_escape(last)
+}
+
 /// Whether a byte of the string needs an escape. Chunks have a constant length, so that the bytes of
 /// each are compared at once.
 #[inline]
@@ -73,7 +86,8 @@ pub(crate) fn has_escape(string: &[u8]) -> bool
     ensures { OnFalse result (IsUnescaped string.now) }
 {
     let mut rest = string;
-    while let Some((chunk, more)) = rest.split_first_chunk::<16>() {
+    while rest.len() > 32 {
+        let (chunk, more) = rest.split_at(16);
         if chunk_has_escape(chunk) {
             return true;
         }
@@ -82,32 +96,19 @@ pub(crate) fn has_escape(string: &[u8]) -> bool
     short_has_escape(rest)
 }
 
-/// The same of a string of fewer than 16 bytes.
+/// The same of a string of at most 32 bytes: its ends may overlap, so that no more than 3 bytes are
+/// looked at one by one.
 #[inline]
 fn short_has_escape(string: &[u8]) -> bool
+    requires { length string.now ≤ 32 }
     ensures { OnFalse result (IsUnescaped string.now) }
 {
-    let Some((chunk, rest)) = string.split_first_chunk::<8>() else {
-        return tail_has_escape(string);
-    };
-    if chunk_has_escape(chunk) {
-        return true;
+    match string.len() {
+        0..=3 => chunk_has_escape(string),
+        4..=7 => ends_have_escape(string, 4),
+        8..=15 => ends_have_escape(string, 8),
+        _ => ends_have_escape(string, 16),
     }
-    tail_has_escape(rest)
-}
-
-/// The same of a string of fewer than 8 bytes.
-#[inline]
-fn tail_has_escape(string: &[u8]) -> bool
-    ensures { OnFalse result (IsUnescaped string.now) }
-{
-    let Some((chunk, rest)) = string.split_first_chunk::<4>() else {
-        return chunk_has_escape(string);
-    };
-    if chunk_has_escape(chunk) {
-        return true;
-    }
-    chunk_has_escape(rest)
 }
 
 /// Appends the JSON string of a string (RFC 8259, section 7).
@@ -166,15 +167,53 @@ pub(crate) fn push_string_if(out: &mut Vec<u8>, is_valid: bool, string: &str) ->
     }
 }
 
-/// Appends an integer in decimal.
+/// How many digits an integer has in decimal.
 #[inline]
-fn push_integer<I: Integer>(out: &mut Vec<u8>, integer: I) -> Appended
-    ensures ok { OnOk result (out.new.items ≡ out.old.items ++ I.text integer) }
+fn count_digits(integer: u64) -> usize
+    ensures { result ≡ length (decimal integer) }
 {
-    push(out, Buffer::new().format(integer).as_bytes())
+    match integer.checked_ilog10() {
+        Some(power) => power as usize + 1,
+        None => 1,
+    }
+}
+
+/// Appends an unsigned integer in decimal. The room of the longest is added, in one step of constant
+/// length, and what is too much taken away again: the digits are written where they stay.
+#[inline]
+fn push_digits(out: &mut Vec<u8>, integer: u64) -> Appended
+    ensures ok { OnOk result (out.new.items ≡ out.old.items ++ decimal integer) }
+{
+    let start = out.len();
+    out.extend_from_slice(&[b'0'; 20])?;
+    let end = start + count_digits(integer);
+    out.truncate(end);
+    write_digits(integer, out.as_mut_slice(), end);
+    Ok(())
+}
+
+/// Appends the sign of a negative integer.
+#[inline]
+fn push_sign(out: &mut Vec<u8>, is_negative: bool) -> Appended
+    ensures ok { OnOk result
+        (out.new.items ≡ out.old.items ++ (if is_negative then codes "-" else [])) }
+{
+    if !is_negative {
+        return Ok(());
+    }
+    push(out, b"-")
 }
 
 /// Appends a signed integer in decimal.
+#[inline]
+fn push_integer(out: &mut Vec<u8>, integer: i64) -> Appended
+    ensures ok { OnOk result (out.new.items ≡ out.old.items ++ signed_decimal integer) }
+{
+    push_sign(out, integer < 0)?;
+    push_digits(out, integer.unsigned_abs())
+}
+
+/// The same, by a call.
 #[inline(never)]
 pub(crate) fn push_signed(out: &mut Vec<u8>, integer: i64) -> Appended
     ensures ok { OnOk result (out.new.items ≡ out.old.items ++ signed_decimal integer) }
@@ -182,11 +221,11 @@ pub(crate) fn push_signed(out: &mut Vec<u8>, integer: i64) -> Appended
     push_integer(out, integer)
 }
 
-/// Appends an integer in decimal, or `null` where there is none.
-#[inline]
-fn push_integer_if<I: Integer>(out: &mut Vec<u8>, is_valid: bool, integer: I) -> Appended
+/// Appends a signed integer in decimal, or `null` where there is none.
+#[inline(never)]
+pub(crate) fn push_signed_if(out: &mut Vec<u8>, is_valid: bool, integer: i64) -> Appended
     ensures ok { OnOk result
-        (out.new.items ≡ out.old.items ++ (if is_valid then I.text integer else null)) }
+        (out.new.items ≡ out.old.items ++ (if is_valid then signed_decimal integer else null)) }
 {
     if is_valid {
         push_integer(out, integer)
@@ -195,22 +234,17 @@ fn push_integer_if<I: Integer>(out: &mut Vec<u8>, is_valid: bool, integer: I) ->
     }
 }
 
-/// The same for a signed integer.
-#[inline(never)]
-pub(crate) fn push_signed_if(out: &mut Vec<u8>, is_valid: bool, integer: i64) -> Appended
-    ensures ok { OnOk result
-        (out.new.items ≡ out.old.items ++ (if is_valid then signed_decimal integer else null)) }
-{
-    push_integer_if(out, is_valid, integer)
-}
-
 /// The same for an unsigned integer.
 #[inline(never)]
 pub(crate) fn push_unsigned_if(out: &mut Vec<u8>, is_valid: bool, integer: u64) -> Appended
     ensures ok { OnOk result
         (out.new.items ≡ out.old.items ++ (if is_valid then signed_decimal (pos integer) else null)) }
 {
-    push_integer_if(out, is_valid, integer)
+    if is_valid {
+        push_digits(out, integer)
+    } else {
+        push_null(out)
+    }
 }
 
 /// The same for an integer of 128 bits.
@@ -219,7 +253,11 @@ pub(crate) fn push_wide_if(out: &mut Vec<u8>, is_valid: bool, integer: i128) -> 
     ensures ok { OnOk result
         (out.new.items ≡ out.old.items ++ (if is_valid then signed_decimal integer else null)) }
 {
-    push_integer_if(out, is_valid, integer)
+    if is_valid {
+        push(out, Buffer::new().format(integer).as_bytes())
+    } else {
+        push_null(out)
+    }
 }
 
 /// Appends a boolean, or `null` where there is none.

@@ -4,9 +4,8 @@ ghost use Rattle.std.specs.List.{list_all};
 ghost use Rattle.arrow_array.specs.Arrays.{array_type, array_slots};
 ghost use Rattle.json_text.specs.Refusals.{refusal, in_range};
 
-use crate::integers::integer_form;
-use crate::range::in_range;
-use crate::types::{has_offsets, has_text, holds_dates};
+use crate::range::dates_in_range;
+use crate::types::{has_offsets, has_text};
 use arrow_array::Array;
 use arrow_core::{Error, Reason, Result};
 
@@ -14,16 +13,7 @@ use arrow_core::{Error, Reason, Result};
 fn all_in_range(array: &Array) -> bool
     ensures { result ≡ list_all (in_range (array_type array.now)) (array_slots array.now) }
 {
-    if !holds_dates(array.data_type()) {
-        return true;
-    }
-    let form = integer_form(array.data_type());
-    for i in 0..array.len() {
-        if !in_range(array, i, &form) {
-            return false;
-        }
-    }
-    true
+    dates_in_range(array, 0, array.len())
 }
 
 /// Whether the array has a JSON text, by its type and its slots. It takes no memory.

@@ -3,10 +3,12 @@ ghost use Rattle.std.specs.Prelude.{◌≡◌, ◌-◌, ◌≤◌, ◌++◌, len
 ghost use Rattle.json_text.specs.Columns.{IsForm};
 ghost use Rattle.json_text.specs.JsonText.{text, joined};
 
-use crate::bytes::{Appended, push_boolean_if, push_comma, push_string_if};
+use crate::bytes::{Appended, push_boolean_if, push_comma, push_null, push_string_if};
 use crate::integers::IntegerForm;
 use crate::numbers::Printed;
-use arrow_array::{BooleanArray, PrimitiveArray, Utf8Array};
+use arrow_array::{
+    BinaryArray, BooleanArray, FixedSizeBinaryArray, NullArray, PrimitiveArray, Utf8Array,
+};
 use arrow_types::Offset;
 
 /// Appends the texts of the values from `start` to `end`, of integers of this form, with commas
@@ -75,6 +77,73 @@ pub(crate) fn push_booleans(
         push_comma(out, k)?;
         let i = start + k;
         push_boolean_if(out, array.is_valid(i), array.value(i))?;
+    }
+    Ok(())
+}
+
+/// The same of nulls.
+pub(crate) fn push_nulls(out: &mut Vec<u8>, array: &NullArray, start: usize, end: usize) -> Appended
+    requires order { start ≤ end }
+    requires within { end ≤ length array.now.slots }
+    ensures ok { OnOk result
+        (out.new.items
+        ≡ out.old.items
+        ++ joined (map (text array.now.data_type) (take (end - start) (drop start array.now.slots)))) }
+{
+    for k in 0..end - start {
+        push_comma(out, k)?;
+        let i = start + k;
+        // It says that the slot is null.
+        let _ = array.is_valid(i);
+        push_null(out)?;
+    }
+    Ok(())
+}
+
+/// The same of binary values, for which `null` stands.
+pub(crate) fn push_binaries<O: Offset>(
+    out: &mut Vec<u8>,
+    array: &BinaryArray<O>,
+    start: usize,
+    end: usize,
+) -> Appended
+    requires order { start ≤ end }
+    requires within { end ≤ length array.now.slots }
+    ensures ok { OnOk result
+        (out.new.items
+        ≡ out.old.items
+        ++ joined (map (text array.now.data_type) (take (end - start) (drop start array.now.slots)))) }
+{
+    for k in 0..end - start {
+        push_comma(out, k)?;
+        let i = start + k;
+        let _ = array.is_valid(i);
+        let _ = array.value(i);
+        push_null(out)?;
+    }
+    Ok(())
+}
+
+/// The same of fixed-size binary values.
+pub(crate) fn push_fixed_size_binaries(
+    out: &mut Vec<u8>,
+    array: &FixedSizeBinaryArray,
+    start: usize,
+    end: usize,
+) -> Appended
+    requires order { start ≤ end }
+    requires within { end ≤ length array.now.slots }
+    ensures ok { OnOk result
+        (out.new.items
+        ≡ out.old.items
+        ++ joined (map (text array.now.data_type) (take (end - start) (drop start array.now.slots)))) }
+{
+    for k in 0..end - start {
+        push_comma(out, k)?;
+        let i = start + k;
+        let _ = array.is_valid(i);
+        let _ = array.value(i);
+        push_null(out)?;
     }
     Ok(())
 }

@@ -15,7 +15,9 @@ use crate::bytes::{
 };
 use crate::columns::{Column, columns_within, push_key};
 use crate::integers::{IntegerForm, integer_form, push_integer_if};
-use crate::items::{push_booleans, push_numbers, push_strings};
+use crate::items::{
+    push_binaries, push_booleans, push_fixed_size_binaries, push_nulls, push_numbers, push_strings,
+};
 use arrow_array::{
     Array, DictionaryArray, FixedSizeListArray, LargeListArray, ListArray, Part, StructArray,
 };
@@ -269,13 +271,16 @@ fn push_part(
     if !is_valid {
         return push_null(out);
     }
+    if part.start == part.end {
+        return push(out, b"[]");
+    }
     push(out, b"[")?;
     push_items(out, part.array, part.start, part.end, form, columns)?;
     push(out, b"]")
 }
 
 /// Appends the texts of the slots from `start` to `end`, with commas between them. The array's kind
-/// is looked at once for all of them, but for lists and dictionaries.
+/// is looked at once for all of them.
 #[inline(always)]
 #[cycle(slots)]
 fn push_items(
@@ -296,6 +301,7 @@ fn push_items(
         ++ joined (map (text (array_type array.now)) (take (end - start) (drop start (array_slots array.now))))) }
 {
     match array {
+        Array::Null(array) => push_nulls(out, array, start, end),
         Array::Boolean(array) => push_booleans(out, array, start, end),
         Array::Int8(array) => push_numbers(out, array, start, end, form),
         Array::Int16(array) => push_numbers(out, array, start, end, form),
@@ -309,33 +315,117 @@ fn push_items(
         Array::MonthDayNano(array) => push_numbers(out, array, start, end, form),
         Array::Utf8(array) => push_strings(out, array, start, end),
         Array::LargeUtf8(array) => push_strings(out, array, start, end),
+        Array::Binary(array) => push_binaries(out, array, start, end),
+        Array::LargeBinary(array) => push_binaries(out, array, start, end),
+        Array::FixedSizeBinary(array) => push_fixed_size_binaries(out, array, start, end),
+        Array::List(array) => push_lists(out, array, start, end, form, columns),
+        Array::LargeList(array) => push_large_lists(out, array, start, end, form, columns),
+        Array::FixedSizeList(array) => push_fixed_size_lists(out, array, start, end, form, columns),
         Array::Struct(array) => push_structs(out, array, start, end, columns),
-        _ => push_values(out, array, start, end, form, columns),
+        Array::Dictionary(array) => push_dictionaries(out, array, start, end, form, columns),
     }
 }
 
-/// The same of an array of any kind.
+/// The same of lists.
 #[cycle(slots)]
-fn push_values(
+fn push_lists(
     out: &mut Vec<u8>,
-    array: &Array,
+    array: &ListArray,
     start: usize,
     end: usize,
     form: &IntegerForm,
     columns: &[Column],
 ) -> Appended
     requires order { start ≤ end }
-    requires within { end ≤ length (array_slots array.now) }
-    requires form { IsForm form.now (array_type array.now) }
-    requires columns { AreWithin (array_type array.now) columns.now }
+    requires within { end ≤ length array.now.slots }
+    requires form { IsForm form.now array.now.data_type }
+    requires columns { AreWithin array.now.data_type columns.now }
     ensures ok { OnOk result
         (out.new.items
         ≡ out.old.items
-        ++ joined (map (text (array_type array.now)) (take (end - start) (drop start (array_slots array.now))))) }
+        ++ joined (map (text array.now.data_type) (take (end - start) (drop start array.now.slots)))) }
 {
     for k in 0..end - start {
         push_comma(out, k)?;
-        push_value(out, array, start + k, form, columns)?;
+        push_list(out, array, start + k, form, columns)?;
+    }
+    Ok(())
+}
+
+/// The same of large lists.
+#[cycle(slots)]
+fn push_large_lists(
+    out: &mut Vec<u8>,
+    array: &LargeListArray,
+    start: usize,
+    end: usize,
+    form: &IntegerForm,
+    columns: &[Column],
+) -> Appended
+    requires order { start ≤ end }
+    requires within { end ≤ length array.now.slots }
+    requires form { IsForm form.now array.now.data_type }
+    requires columns { AreWithin array.now.data_type columns.now }
+    ensures ok { OnOk result
+        (out.new.items
+        ≡ out.old.items
+        ++ joined (map (text array.now.data_type) (take (end - start) (drop start array.now.slots)))) }
+{
+    for k in 0..end - start {
+        push_comma(out, k)?;
+        push_large_list(out, array, start + k, form, columns)?;
+    }
+    Ok(())
+}
+
+/// The same of lists of fixed size.
+#[cycle(slots)]
+fn push_fixed_size_lists(
+    out: &mut Vec<u8>,
+    array: &FixedSizeListArray,
+    start: usize,
+    end: usize,
+    form: &IntegerForm,
+    columns: &[Column],
+) -> Appended
+    requires order { start ≤ end }
+    requires within { end ≤ length array.now.slots }
+    requires form { IsForm form.now array.now.data_type }
+    requires columns { AreWithin array.now.data_type columns.now }
+    ensures ok { OnOk result
+        (out.new.items
+        ≡ out.old.items
+        ++ joined (map (text array.now.data_type) (take (end - start) (drop start array.now.slots)))) }
+{
+    for k in 0..end - start {
+        push_comma(out, k)?;
+        push_fixed_size_list(out, array, start + k, form, columns)?;
+    }
+    Ok(())
+}
+
+/// The same of the values of a dictionary.
+#[cycle(slots)]
+fn push_dictionaries(
+    out: &mut Vec<u8>,
+    array: &DictionaryArray,
+    start: usize,
+    end: usize,
+    form: &IntegerForm,
+    columns: &[Column],
+) -> Appended
+    requires order { start ≤ end }
+    requires within { end ≤ length array.now.slots }
+    requires form { IsForm form.now array.now.data_type }
+    requires columns { AreWithin array.now.data_type columns.now }
+    ensures ok { OnOk result
+        (out.new.items
+        ≡ out.old.items
+        ++ joined (map (text array.now.data_type) (take (end - start) (drop start array.now.slots)))) }
+{
+    for k in 0..end - start {
+        push_comma(out, k)?;
+        push_dictionary(out, array, start + k, form, columns)?;
     }
     Ok(())
 }

@@ -4,13 +4,12 @@ use Rattle.json_text.proofs.Beneath.{on_false_map}
 use Rattle.json_text.proofs.Chunks.{passed_then}
 use Rattle.json_text.proofs.bytes.has_escape.Goals as goal
 
-pub loop-chunk-init : goal.loop-chunk-init
-loop-chunk-init c = passed-none _
+pub loop-rest-init : goal.loop-rest-init
+loop-rest-init c = passed-none _
 
-pub loop-chunk-preserved : goal.loop-chunk-preserved
-loop-chunk-preserved c =
-    let cut = c.in-Some.ensures.cases in
-    passed-block _ _ _ _ 16 c.loop-chunk.invariant cut.0 cut.1 (rw c.if-chunk_has_escape.false at c.chunk_has_escape.ensures)
+pub loop-rest-preserved : goal.loop-rest-preserved
+loop-rest-preserved c =
+    passed-block _ _ _ _ 16 c.loop-rest.invariant c.split_at.ensures.front c.split_at.ensures.back (rw c.if-chunk_has_escape.false at c.chunk_has_escape.ensures)
 
 pub returns : goal.returns
-returns c = on_false_map _ _ _ (passed_then _ _ c.loop-chunk.invariant) c.short_has_escape.ensures
+returns c = on_false_map _ _ _ (passed_then _ _ c.loop-rest.invariant) c.short_has_escape.ensures

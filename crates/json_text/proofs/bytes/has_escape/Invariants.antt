@@ -3,8 +3,8 @@ use Rattle.std.proofs.Common.{length}
 use Rattle.arrow_base.proofs.Runs.{Passed}
 use Rattle.json_text.proofs.bytes.has_escape.Given as goal
 
-abbrev pub invariant-loop-chunk : goal.invariant-loop-chunk
-invariant-loop-chunk l = Passed l.fn.string l.rest
+abbrev pub invariant-loop-rest : goal.invariant-loop-rest
+invariant-loop-rest l = Passed l.fn.string l.rest
 
-abbrev pub decreases-loop-chunk : goal.decreases-loop-chunk
-decreases-loop-chunk l = length l.rest
+abbrev pub decreases-loop-rest : goal.decreases-loop-rest
+decreases-loop-rest l = length l.rest

@@ -1,5 +1,5 @@
 -- Each turn adds a comma where one is wanted, and a boolean.
-use Rattle.std.proofs.Common.{◌≡◌, ◌<◌, ◌+◌, ◌-◌, length, map, take, drop, ap, sym, ◌∙◌, arith, refl}
+use Rattle.std.proofs.Common.{◌<◌, ◌+◌, ◌-◌, length, map, take, drop, ap, sym, ◌∙◌, arith, refl}
 use Rattle.arrow_types.specs.declared.slot.Slot.TheVariants as slot
 use Rattle.arrow_array.specs.Slots.{slot_at}
 use Rattle.json_text.specs.JsonText.{text}

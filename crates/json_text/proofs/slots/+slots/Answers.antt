@@ -13,10 +13,10 @@ use Rattle.arrow_array.specs.Lent.{part_slots}
 use Rattle.arrow_array.specs.Slots.{slot_at, is_held}
 use Rattle.arrow_array.proofs.Records.{capacity}
 use Rattle.json_text.specs.Columns.{AreColumns, AreWithin, columns_text, integer_text}
-use Rattle.json_text.specs.JsonText.{text}
+use Rattle.json_text.specs.JsonText.{array, text}
 use Rattle.json_text.proofs.ColumnLemmas.{in_list, in_fixed_list, in_dictionary, within_item, within_fixed_item, within_value, children_columns, children_object, column_here, text_more, object_closed, no_column, plain_form, front_is, none_is}
 use Rattle.json_text.proofs.Forms.{appended, list_is, fixed_list_is, value_is}
-use Rattle.json_text.proofs.Joined.{joined_more, map_at, map_length, part_at, part_length}
+use Rattle.json_text.proofs.Joined.{empty_part, joined_more, map_at, map_length, part_at, part_length}
 use Rattle.json_text.proofs.Records.{child_below, looked_up_at}
 use Rattle.json_text.proofs.slots.+slots.Goals as goal
 
@@ -88,18 +88,95 @@ push_struct-returns t c =
     let is = c.values.ensures.slots c.args.i c.requires.within held in
     record { ok = on_ok_weaker c.push_object.result (λ e. e ∙ ap (λ z. c.args.out.now.items ++ z) (children_object _ _ _ c.args.i _ c.values.ensures.data_type c.requires.columns ∙ ap (text a.data_type) (sym is))) c.push_object.ensures.ok }
 
-pub push_values-push_value-requires : goal.push_values-push_value-requires
-push_values-push_value-requires t c = (search rules, (omega (arith, c.requires.order, c.requires.within), (c.requires.form, c.requires.columns)))
+pub push_lists-push_list-requires : goal.push_lists-push_list-requires
+push_lists-push_list-requires t c =
+    let below : 5 * size-DataType c.args.array.now.data_type + 2 < 5 * size-DataType c.args.array.now.data_type + 3 = omega arith in
+    (search (rules, below), (omega (arith, c.requires.order, c.requires.within), (c.requires.form, c.requires.columns)))
 
-pub push_values-loop-k-preserved : goal.push_values-loop-k-preserved
-push_values-loop-k-preserved t c =
-    let slots = array_slots c.args.array.now in
-    let f = text (array_type c.args.array.now) in
+pub push_lists-loop-k-preserved : goal.push_lists-loop-k-preserved
+push_lists-loop-k-preserved t c =
+    let slots = c.args.array.now.slots in
+    let f = text c.args.array.now.data_type in
     let xs = take (c.args.end - c.args.start) (drop c.args.start slots) in
     let n = part_length slots c.args.start c.args.end c.requires.order c.requires.within in
     let within : c.loop-k.k < length xs = omega (arith, n) in
     let here = map_at f xs c.loop-k.k slot.Null within ∙ ap f (part_at slots c.args.start c.args.end c.loop-k.k slot.Null c.requires.order c.requires.within (omega arith)) in
-    joined_more c.args.out.now.items _ _ _ _ (map f xs) c.loop-k.k (omega (arith, map_length f xs, within)) here c.loop-k.invariant c.in_ok-push_comma.ensures.ok c.in_ok-push_value.ensures.ok
+    joined_more c.args.out.now.items _ _ _ _ (map f xs) c.loop-k.k (omega (arith, map_length f xs, within)) here c.loop-k.invariant c.in_ok-push_comma.ensures.ok c.in_ok-push_list.ensures.ok
+
+pub push_large_lists-push_large_list-requires : goal.push_large_lists-push_large_list-requires
+push_large_lists-push_large_list-requires t c =
+    let below : 5 * size-DataType c.args.array.now.data_type + 2 < 5 * size-DataType c.args.array.now.data_type + 3 = omega arith in
+    (search (rules, below), (omega (arith, c.requires.order, c.requires.within), (c.requires.form, c.requires.columns)))
+
+pub push_large_lists-loop-k-preserved : goal.push_large_lists-loop-k-preserved
+push_large_lists-loop-k-preserved t c =
+    let slots = c.args.array.now.slots in
+    let f = text c.args.array.now.data_type in
+    let xs = take (c.args.end - c.args.start) (drop c.args.start slots) in
+    let n = part_length slots c.args.start c.args.end c.requires.order c.requires.within in
+    let within : c.loop-k.k < length xs = omega (arith, n) in
+    let here = map_at f xs c.loop-k.k slot.Null within ∙ ap f (part_at slots c.args.start c.args.end c.loop-k.k slot.Null c.requires.order c.requires.within (omega arith)) in
+    joined_more c.args.out.now.items _ _ _ _ (map f xs) c.loop-k.k (omega (arith, map_length f xs, within)) here c.loop-k.invariant c.in_ok-push_comma.ensures.ok c.in_ok-push_large_list.ensures.ok
+
+pub push_fixed_size_lists-push_fixed_size_list-requires : goal.push_fixed_size_lists-push_fixed_size_list-requires
+push_fixed_size_lists-push_fixed_size_list-requires t c =
+    let below : 5 * size-DataType c.args.array.now.data_type + 2 < 5 * size-DataType c.args.array.now.data_type + 3 = omega arith in
+    (search (rules, below), (omega (arith, c.requires.order, c.requires.within), (c.requires.form, c.requires.columns)))
+
+pub push_fixed_size_lists-loop-k-preserved : goal.push_fixed_size_lists-loop-k-preserved
+push_fixed_size_lists-loop-k-preserved t c =
+    let slots = c.args.array.now.slots in
+    let f = text c.args.array.now.data_type in
+    let xs = take (c.args.end - c.args.start) (drop c.args.start slots) in
+    let n = part_length slots c.args.start c.args.end c.requires.order c.requires.within in
+    let within : c.loop-k.k < length xs = omega (arith, n) in
+    let here = map_at f xs c.loop-k.k slot.Null within ∙ ap f (part_at slots c.args.start c.args.end c.loop-k.k slot.Null c.requires.order c.requires.within (omega arith)) in
+    joined_more c.args.out.now.items _ _ _ _ (map f xs) c.loop-k.k (omega (arith, map_length f xs, within)) here c.loop-k.invariant c.in_ok-push_comma.ensures.ok c.in_ok-push_fixed_size_list.ensures.ok
+
+pub push_dictionaries-push_dictionary-requires : goal.push_dictionaries-push_dictionary-requires
+push_dictionaries-push_dictionary-requires t c =
+    let below : 5 * size-DataType c.args.array.now.data_type + 2 < 5 * size-DataType c.args.array.now.data_type + 3 = omega arith in
+    (search (rules, below), (omega (arith, c.requires.order, c.requires.within), (c.requires.form, c.requires.columns)))
+
+pub push_dictionaries-loop-k-preserved : goal.push_dictionaries-loop-k-preserved
+push_dictionaries-loop-k-preserved t c =
+    let slots = c.args.array.now.slots in
+    let f = text c.args.array.now.data_type in
+    let xs = take (c.args.end - c.args.start) (drop c.args.start slots) in
+    let n = part_length slots c.args.start c.args.end c.requires.order c.requires.within in
+    let within : c.loop-k.k < length xs = omega (arith, n) in
+    let here = map_at f xs c.loop-k.k slot.Null within ∙ ap f (part_at slots c.args.start c.args.end c.loop-k.k slot.Null c.requires.order c.requires.within (omega arith)) in
+    joined_more c.args.out.now.items _ _ _ _ (map f xs) c.loop-k.k (omega (arith, map_length f xs, within)) here c.loop-k.invariant c.in_ok-push_comma.ensures.ok c.in_ok-push_dictionary.ensures.ok
+
+pub push_items-push_lists-requires : goal.push_items-push_lists-requires
+push_items-push_lists-requires t c =
+    let same : size-DataType c.in-List.array.data_type ≡ size-DataType (array_type c.args.array.now) = rw c.in-List.is refl in
+    let below : 5 * size-DataType c.in-List.array.data_type + 3 < 5 * size-DataType (array_type c.args.array.now) + 5 = omega (arith, same) in
+    (search (rules, below), (c.requires.order, (rw c.in-List.is at c.requires.within, (rw c.in-List.is at c.requires.form, rw c.in-List.is at c.requires.columns))))
+
+pub push_items-push_large_lists-requires : goal.push_items-push_large_lists-requires
+push_items-push_large_lists-requires t c =
+    let same : size-DataType c.in-LargeList.array.data_type ≡ size-DataType (array_type c.args.array.now) = rw c.in-LargeList.is refl in
+    let below : 5 * size-DataType c.in-LargeList.array.data_type + 3 < 5 * size-DataType (array_type c.args.array.now) + 5 = omega (arith, same) in
+    (search (rules, below), (c.requires.order, (rw c.in-LargeList.is at c.requires.within, (rw c.in-LargeList.is at c.requires.form, rw c.in-LargeList.is at c.requires.columns))))
+
+pub push_items-push_fixed_size_lists-requires : goal.push_items-push_fixed_size_lists-requires
+push_items-push_fixed_size_lists-requires t c =
+    let same : size-DataType c.in-FixedSizeList.array.data_type ≡ size-DataType (array_type c.args.array.now) = rw c.in-FixedSizeList.is refl in
+    let below : 5 * size-DataType c.in-FixedSizeList.array.data_type + 3 < 5 * size-DataType (array_type c.args.array.now) + 5 = omega (arith, same) in
+    (search (rules, below), (c.requires.order, (rw c.in-FixedSizeList.is at c.requires.within, (rw c.in-FixedSizeList.is at c.requires.form, rw c.in-FixedSizeList.is at c.requires.columns))))
+
+pub push_items-push_dictionaries-requires : goal.push_items-push_dictionaries-requires
+push_items-push_dictionaries-requires t c =
+    let same : size-DataType c.in-Dictionary.array.data_type ≡ size-DataType (array_type c.args.array.now) = rw c.in-Dictionary.is refl in
+    let below : 5 * size-DataType c.in-Dictionary.array.data_type + 3 < 5 * size-DataType (array_type c.args.array.now) + 5 = omega (arith, same) in
+    (search (rules, below), (c.requires.order, (rw c.in-Dictionary.is at c.requires.within, (rw c.in-Dictionary.is at c.requires.form, rw c.in-Dictionary.is at c.requires.columns))))
+
+pub push_part-returns-then-part : goal.push_part-returns-then-part
+push_part-returns-then-part t c =
+    let part = c.args.part.now in
+    let f = text (array_type part.array.now) in
+    record { ok = on_ok_weaker c.push.result (λ e. rw c.if-not-is_valid.false (e ∙ ap (λ z. c.args.out.now.items ++ array (map f z)) (sym (empty_part (array_slots part.array.now) part.start part.end c.if-part.true)))) c.push.ensures.ok }
 
 pub push_items-push_structs-requires : goal.push_items-push_structs-requires
 push_items-push_structs-requires t c =

@@ -1,14 +1,23 @@
 -- What has been added of items or members, and how deep the types beneath are.
 use Rattle.std.proofs.Common.{◌≡◌, ◌+◌, ◌-◌, ◌*◌, ◌++◌, map, take, drop}
 use Rattle.arrow_types.specs.declared.types.DataType.{size-DataType}
-use Rattle.arrow_array.specs.Arrays.{array_type, array_slots}
+use Rattle.arrow_array.specs.Arrays.{array_type}
 use Rattle.arrow_array.specs.Depths.{children_depth}
 use Rattle.json_text.specs.Columns.{AreColumns, columns_text}
 use Rattle.json_text.specs.JsonText.{text, joined}
 use Rattle.json_text.proofs.slots.+slots.Given as goal
 
-abbrev pub invariant-push_values-loop-k : goal.invariant-push_values-loop-k
-invariant-push_values-loop-k l = l.out.items ≡ l.fn.out.items ++ joined (take l.k (map (text (array_type l.array)) (take (l.end - l.start) (drop l.start (array_slots l.array)))))
+abbrev pub invariant-push_lists-loop-k : goal.invariant-push_lists-loop-k
+invariant-push_lists-loop-k l = l.out.items ≡ l.fn.out.items ++ joined (take l.k (map (text l.array.data_type) (take (l.end - l.start) (drop l.start l.array.slots))))
+
+abbrev pub invariant-push_large_lists-loop-k : goal.invariant-push_large_lists-loop-k
+invariant-push_large_lists-loop-k l = l.out.items ≡ l.fn.out.items ++ joined (take l.k (map (text l.array.data_type) (take (l.end - l.start) (drop l.start l.array.slots))))
+
+abbrev pub invariant-push_fixed_size_lists-loop-k : goal.invariant-push_fixed_size_lists-loop-k
+invariant-push_fixed_size_lists-loop-k l = l.out.items ≡ l.fn.out.items ++ joined (take l.k (map (text l.array.data_type) (take (l.end - l.start) (drop l.start l.array.slots))))
+
+abbrev pub invariant-push_dictionaries-loop-k : goal.invariant-push_dictionaries-loop-k
+invariant-push_dictionaries-loop-k l = l.out.items ≡ l.fn.out.items ++ joined (take l.k (map (text l.array.data_type) (take (l.end - l.start) (drop l.start l.array.slots))))
 
 abbrev pub invariant-push_structs-loop-k : goal.invariant-push_structs-loop-k
 invariant-push_structs-loop-k l = l.out.items ≡ l.fn.out.items ++ joined (take l.k (map (text l.array.data_type) (take (l.end - l.start) (drop l.start l.array.slots))))
@@ -43,8 +52,17 @@ decreases-push_part l = 5 * size-DataType (array_type l.part.now.array.now) + 6
 abbrev pub decreases-push_items : goal.decreases-push_items
 decreases-push_items l = 5 * size-DataType (array_type l.array.now) + 5
 
-abbrev pub decreases-push_values : goal.decreases-push_values
-decreases-push_values l = 5 * size-DataType (array_type l.array.now) + 4
+abbrev pub decreases-push_lists : goal.decreases-push_lists
+decreases-push_lists l = 5 * size-DataType l.array.now.data_type + 3
+
+abbrev pub decreases-push_large_lists : goal.decreases-push_large_lists
+decreases-push_large_lists l = 5 * size-DataType l.array.now.data_type + 3
+
+abbrev pub decreases-push_fixed_size_lists : goal.decreases-push_fixed_size_lists
+decreases-push_fixed_size_lists l = 5 * size-DataType l.array.now.data_type + 3
+
+abbrev pub decreases-push_dictionaries : goal.decreases-push_dictionaries
+decreases-push_dictionaries l = 5 * size-DataType l.array.now.data_type + 3
 
 abbrev pub decreases-push_structs : goal.decreases-push_structs
 decreases-push_structs l = 5 * size-DataType l.array.now.data_type + 3

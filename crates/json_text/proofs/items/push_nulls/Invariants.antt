@@ -1,0 +1,7 @@
+-- The items before this one have been added.
+use Rattle.std.proofs.Common.{◌≡◌, ◌-◌, ◌++◌, map, take, drop}
+use Rattle.json_text.specs.JsonText.{text, joined}
+use Rattle.json_text.proofs.items.push_nulls.Given as goal
+
+abbrev pub invariant-loop-k : goal.invariant-loop-k
+invariant-loop-k l = l.out.items ≡ l.fn.out.items ++ joined (take l.k (map (text l.array.data_type) (take (l.end - l.start) (drop l.start l.array.slots))))
