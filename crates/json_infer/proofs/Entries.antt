@@ -1,5 +1,5 @@
 -- The entries of a map of sets, seen as columns.
-use Rattle.std.proofs.Common.{◌≡◌, refl, sym, ap, subst, ◌∙◌, ℕ, length, List, [], ◌∷◌, map, Bool, true, false, cond, Option, Some, None, is_some, position, arith}
+use Rattle.std.proofs.Common.{◌≡◌, refl, sym, ap, ◌∙◌, ℕ, length, List, [], ◌∷◌, map, Bool, true, false, cond, Option, Some, None, is_some, position, arith}
 use Rattle.std.specs.Map.{keys_of, lookup}
 use Rattle.std.specs.Str.{bytes_eq}
 use Rattle.indexmap.specs.IndexMap.{insert_entry, set_value_at}
@@ -7,15 +7,25 @@ use Rattle.indexmap.proofs.MapLemmas.{Found-position, insert_entry-first}
 use Rattle.arrow_types.specs.declared.types.DataType.{DataType}
 use Rattle.json_infer.specs.Lists.{with_one}
 use Rattle.json_infer.specs.Parts.{same}
-use Rattle.json_infer.specs.Columns.{Column, with_type}
+use Rattle.json_infer.specs.Columns.{Column, types_named, with_type}
 
 module _ {S : Type 0} (keys : S → List DataType) where
   abbrev pub seen_columns : List (List ℕ × S) → List Column
   seen_columns es = map (λ e. (e.0, keys e.1)) es
 
-  abbrev types_or_none : Option S → List DataType
+  abbrev pub types_or_none : Option S → List DataType
   types_or_none None = []
   types_or_none (Some s) = keys s
+
+  -- a name's types, as they are looked up
+  pub named : (es : List (List ℕ × S)) (name : List ℕ) → types_named name (seen_columns es) ≡ types_or_none (lookup (bytes_eq name) es)
+  named [] name = refl
+  named (e ∷ es) name = by_first (bytes_eq name e.0) (named es name)
+    where
+      by_first : (b : Bool) → types_named name (seen_columns es) ≡ types_or_none (lookup (bytes_eq name) es)
+          → cond b (keys e.1) (types_named name (seen_columns es)) ≡ types_or_none (cond b (Some e.1) (lookup (bytes_eq name) es))
+      by_first true rest = refl
+      by_first false rest = rest
 
   -- a name's types, with one more
   inserted : (es : List (List ℕ × S)) (name : List ℕ) (w : S) (t : DataType) → keys w ≡ with_one same (types_or_none (lookup (bytes_eq name) es)) t → seen_columns (insert_entry bytes_eq es name w) ≡ with_type (seen_columns es) name t

@@ -1,6 +1,6 @@
--- The distinct types of each name. Contracts of private functions alone cite this file: nobody has to read it to believe a public
--- contract.
-use Rattle.std.specs.Prelude.{ℕ, ◌+◌, List, [], ◌∷◌, map, if◌then◌else◌}
+-- The distinct types of each name. Contracts of private functions, of `Columns` and of what lends it cite this file: nobody has to
+-- read it to believe another public contract.
+use Rattle.std.specs.Prelude.{ℕ, List, [], ◌∷◌, map, if◌then◌else◌}
 use Rattle.std.specs.Str.{bytes_eq}
 use Rattle.arrow_types.specs.declared.types.DataType.{DataType}
 use Rattle.arrow_types.specs.declared.types.Field.{Field}
@@ -21,6 +21,11 @@ with_type (c ∷ cs) name t = if bytes_eq name c.0 then (c.0, with_one same c.1 
 abbrev pub with_fields : List Column → List Field → List Column
 with_fields cs [] = cs
 with_fields cs (field ∷ fields) = with_fields (with_type cs field.name field.data_type) fields
+
+-- the types of a name, none where the name isn't there
+abbrev pub types_named : List ℕ → List Column → List DataType
+types_named name [] = []
+types_named name (c ∷ cs) = if bytes_eq name c.0 then c.1 else types_named name cs
 
 -- a field for each name
 abbrev pub coerced_columns : List Column → List Field

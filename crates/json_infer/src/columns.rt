@@ -1,7 +1,7 @@
 //! The distinct types of each member of several Structs.
-ghost use Rattle.std.specs.Prelude.{◌≡◌, ◌<◌, [], length, IfOk, OnOk, Some, slice_get};
+ghost use Rattle.std.specs.Prelude.{◌≡◌, ◌<◌, [], length, IfOk, IfSome, OnOk, Some, slice_get};
 ghost use Rattle.arrow_core.specs.Errors.{OnlyOutOfMemory};
-ghost use Rattle.json_infer.specs.Columns.{with_fields, with_type};
+ghost use Rattle.json_infer.specs.Columns.{types_named, with_fields, with_type};
 ghost use Rattle.json_infer.specs.Lists.{with_one};
 ghost use Rattle.json_infer.specs.Parts.{same};
 
@@ -11,10 +11,13 @@ use indexmap::{IndexMap, IndexSet};
 use std::alloc::Global;
 use std::marker::Model;
 
+/// How many names `types_near` compares.
+const COMPARED_NAMES: usize = 64;
+
 /// The names of members, in order of first appearance, and the types of each: each type once, in
 /// order of first appearance.
 #[derive(Drop)]
-pub(crate) struct Columns {
+pub struct Columns {
     types: IndexMap<Text, IndexSet<DataType>>,
 }
 
@@ -94,5 +97,38 @@ impl Columns {
     {
         let (name, types) = self.types.get_index(index).unwrap();
         (name, types.as_slice())
+    }
+
+    // The types of a name, where it stands at this index.
+    #[inline(always)]
+    fn types_at(&self, index: usize, name: &str) -> Option<&[DataType]>
+        ensures { IfSome result (λ types. types.now ≡ types_named name.now self.now) }
+    {
+        let (other, types) = self.types.get_index(index)?;
+        if other.as_str() != name {
+            return None;
+        }
+        Some(types.as_slice())
+    }
+
+    /// The types of a name, where it is one of the 64 names from `place` on, after the last of
+    /// which the first follows. Then `place` is set behind it, where the name of an object's next
+    /// member mostly stands.
+    pub fn types_near(&self, place: &mut usize, name: &str) -> Option<&[DataType]>
+        ensures { IfSome result (λ types. types.now ≡ types_named name.now self.now) }
+    {
+        let mut index = *place;
+        for _ in 0..self.len().min(COMPARED_NAMES) {
+            if index >= self.len() {
+                index = 0;
+            }
+            let types = self.types_at(index, name);
+            index = index.wrapping_add(1);
+            if types.is_some() {
+                *place = index;
+                return types;
+            }
+        }
+        None
     }
 }

@@ -10,6 +10,7 @@ mod row_types;
 mod seen;
 
 pub use coercion::coerce_data_type;
+pub use columns::Columns;
 pub use infer_schema::{infer, infer_records_schema};
 pub use laws::{any_order, coercion_rules, one_at_a_time, rows_in_any_order};
 pub use row_types::RowTypes;

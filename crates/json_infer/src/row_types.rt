@@ -1,11 +1,13 @@
 //! The type of rows that come one at a time.
-ghost use Rattle.std.specs.Prelude.{◌≡◌, [], ◌∷◌, ◌++◌, List, IfOk, OnOk};
+ghost use Rattle.std.specs.Prelude.{◌≡◌, [], ◌∷◌, ◌++◌, List, IfOk, IfSome, OnOk};
 ghost use Rattle.arrow_core.specs.Errors.{OnlyOutOfMemory};
 ghost use Rattle.json_tree.specs.declared.value.Value as value;
 ghost use Rattle.json_infer.specs.Inferred.{type_of_rows};
 ghost use Rattle.json_infer.specs.RowsSeen.{StandsFor};
+ghost use Rattle.json_infer.specs.declared.seen.Seen.TheVariants as seen;
 
 use crate::coercion::coerced;
+use crate::columns::Columns;
 use crate::infer_schema::{add_kept, infer};
 use crate::seen::Seen;
 use arrow_core::Result;
@@ -55,6 +57,27 @@ impl RowTypes {
     {
         let data_type = infer(self.alloc, json)?;
         add_kept(self.alloc, &mut self.seen, &data_type)
+    }
+
+    /// The one type of the rows so far that isn't Null. `None` where there are more or none.
+    pub fn only_type(&self) -> Option<&DataType>
+        ensures { IfSome result (λ t. self.now ≡ seen.One t.now) }
+    {
+        match &self.seen {
+            Seen::One(data_type) => Some(data_type),
+            _ => None,
+        }
+    }
+
+    /// The names and types of the members so far, where two distinct types came or more, all of
+    /// them Structs. A Struct of such members adds nothing.
+    pub fn columns(&self) -> Option<&Columns>
+        ensures { IfSome result (λ columns. self.now ≡ seen.Structs columns.now) }
+    {
+        match &self.seen {
+            Seen::Structs(columns) => Some(columns),
+            _ => None,
+        }
     }
 
     /// The type of the rows so far: the coercion of their distinct types that aren't Null, in order

@@ -3,7 +3,10 @@ pub mod Complete
 pub mod Continuing
 pub mod GivenLemmas
 pub mod LineLists
+pub mod MemberLaws
+pub mod ObjectTypes
 pub mod Parsing
 pub mod RowLemmas
 pub mod Steps
+pub mod TypeLaws
 pub mod Values

@@ -1,3 +1,4 @@
+pub mod Compared
 pub mod GivenRows
 pub mod Inference
 pub mod Laws

@@ -1,8 +1,10 @@
 //! The type of JSON lines.
 #![tactic(auto)]
 
+mod comparison;
 mod laws;
 mod lines;
+mod repeated;
 mod rows;
 
 pub use laws::lines_in_any_order;

@@ -42,9 +42,9 @@ fn add_row<S: Source>(
     reader.advance()?;
     match reader.get() {
         Some([row, ..]) => {
-            let bytes = row.as_str().as_bytes();
-            add_text(alloc, types, bytes)?;
-            Ok(ends_in_feed(bytes))
+            let text = row.as_str();
+            add_text(alloc, types, text)?;
+            Ok(ends_in_feed(text.as_bytes()))
         }
         _ => Ok(false),
     }

@@ -7,6 +7,7 @@ ghost use Rattle.std.specs.Iterator.{IsFinite};
 ghost use Rattle.ndjson_infer.specs.Inference.{NoValue};
 ghost use Rattle.ndjson_infer.specs.GivenRows.{InfersAll, StandsForAll, FailsAt};
 
+use crate::repeated::adds_nothing;
 use arrow_base::{DataType, Error, Result};
 use json_infer::RowTypes;
 use json_tree::{Value, parse};
@@ -23,13 +24,16 @@ fn value_of(alloc: Global, row: &[u8]) -> Result<Value>
     }
 }
 
-// Adds the type of a row, of which nothing else is kept.
-pub(crate) fn add_text(alloc: Global, types: &mut RowTypes, row: &[u8]) -> Result<()>
+// Adds the type of a row, of which nothing else is kept. Most rows add nothing.
+pub(crate) fn add_text(alloc: Global, types: &mut RowTypes, row: &str) -> Result<()>
     ensures added { IfOk result (λ _. (v : value.Value) × IsJson v row.now × ((rows : List value.Value)
         → StandsFor types.old rows → StandsFor types.new (rows ++ v ∷ []))) }
     ensures err { IfErr result (NoValue row.now) }
 {
-    let value = value_of(alloc, row)?;
+    if adds_nothing(alloc, types, row) {
+        return Ok(());
+    }
+    let value = value_of(alloc, row.as_bytes())?;
     types.add(&value)
 }
 
@@ -46,7 +50,7 @@ fn add_texts<'a, I: Iterator<Item = &'a str> + Drop>(
     ensures err { IfErr result (FailsAt I.next_gives rows) }
 {
     for row in rows {
-        add_text(alloc, types, row.as_bytes())?;
+        add_text(alloc, types, row)?;
     }
     Ok(())
 }

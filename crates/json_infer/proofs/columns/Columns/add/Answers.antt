@@ -1,4 +1,4 @@
-use Rattle.std.proofs.Common.{◌≡◌, sym, ◌∙◌}
+use Rattle.std.proofs.Common.{sym, ◌∙◌}
 use Rattle.std.proofs.lemmas.Result.{on_ok_weaker}
 use Rattle.json_infer.proofs.Entries.{written, added_name}
 use Rattle.json_infer.proofs.columns.Columns.add.Goals as goal
