@@ -1,13 +1,15 @@
 -- Names and their indices, and what one more member changes.
-use Rattle.std.proofs.Common.{◌≡◌, ℕ, zero, suc, ◌<◌, ◌≤◌, Bool, true, false, not, cond, ◌||◌, List, [], ◌∷◌, length, set, get_or, refl, sym, ap, subst, ◌∙◌, arith}
+use Rattle.std.proofs.Common.{◌≡◌, ℕ, zero, suc, ◌+◌, ◌<◌, ◌≤◌, Bool, true, false, eqb, not, cond, ◌||◌, List, [], ◌∷◌, length, set, get_or, refl, sym, ap, subst, ◌∙◌, arith}
 use Rattle.std.specs.Prelude.{Option, Some, None, MatchOption}
 use Rattle.std.proofs.lemmas.Bool.{and_parts, true≢false}
+use Rattle.std.proofs.lemmas.Bool.Decides.{nat_tests}
+use Rattle.std.proofs.lemmas.List.{get_or_default}
 use Rattle.std.proofs.lemmas.Slice.Eq.{bytes_eq-Decides}
 use Rattle.std.specs.Str.{bytes_eq}
 use Rattle.json_tree.specs.Tree.{Json, null}
 use Rattle.json_tree.specs.Keys.{value_of}
 use Rattle.json_tree.specs.Layout.{put, meets, distinct, key_index}
-use Rattle.json_lend.specs.Fields.{or_null, value_named, values_of, IsIndex}
+use Rattle.json_lend.specs.Fields.{or_null, value_named, values_of, AreOthers, IsIndex}
 
 not-true : (b : Bool) → not b ≡ true → b ≡ false
 not-true true e = sym e
@@ -54,6 +56,33 @@ key_index-guess (k' ∷ ks) (suc i) x k d l e h = at (bytes_eq k' k) refl (λ m.
         let m : meets k' ks ≡ true = subst (λ y. meets y ks ≡ true) same (meets-at ks i x (omega (arith, l)) e) in
         absurd (true≢false (sym m ∙ not-true (meets k' ks) parts.0))
     at false q r = ap suc (r parts.1)
+
+-- a name more that is another
+pub others-more : (names : List (List ℕ)) (from i : ℕ) (x key : List ℕ) → i < length names → x ≡ get_or names i x → bytes_eq x key ≡ false → AreOthers names from i key → AreOthers names from (i + 1) key
+others-more names from i x key l is other before k name ge lt = at k lt (eqb k i) refl (before k name ge)
+  where
+    at : (k : ℕ) → k < i + 1 → (t : Bool) → eqb k i ≡ t → (k < i → bytes_eq (get_or names k name) key ≡ false) → bytes_eq (get_or names k name) key ≡ false
+    at k lt true q h =
+        let same : k ≡ i = grind (arith, nat_tests) in
+        let there : get_or names k name ≡ x = ap (λ n. get_or names n name) same ∙ (get_or_default names i name x l ∙ sym is) in
+        ap (λ y. bytes_eq y key) there ∙ other
+    at k lt false q h = h (grind (arith, nat_tests))
+
+none-beside : (ks : List (List ℕ)) (m : ℕ) (k : List ℕ) → AreOthers ks m (length ks) k → AreOthers ks 0 m k → length ks ≤ key_index k ks
+none-beside [] m k a b = omega arith
+none-beside (x ∷ ks) zero k a b =
+    let here : bytes_eq x k ≡ false = a 0 x (omega arith) (omega arith) in
+    let rest : length ks ≤ key_index k ks = none-beside ks 0 k (λ i n l h. a (suc i) n (omega arith) (omega (arith, h))) (λ i n l h. absurd (omega (arith, h))) in
+    rw here (omega (arith, rest))
+none-beside (x ∷ ks) (suc m) k a b =
+    let here : bytes_eq x k ≡ false = b 0 x (omega arith) (omega arith) in
+    let rest : length ks ≤ key_index k ks = none-beside ks m k (λ i n l h. a (suc i) n (omega (arith, l)) (omega (arith, h))) (λ i n l h. b (suc i) n (omega arith) (omega (arith, h))) in
+    rw here (omega (arith, rest))
+
+-- no name from an index on is the key, and this is known of those before
+pub looked-up : (names : List (List ℕ)) (m : ℕ) (key : List ℕ) (at : Option ℕ) → AreOthers names m (length names) key → MatchOption at (AreOthers names 0 m key) (λ i. (i ≡ key_index key names) × (i < length names)) → IsIndex names key at
+looked-up names m key None a b = none-beside names m key a b
+looked-up names m key (Some i) a b = b
 
 key_index-none : (ks : List (List ℕ)) (k : List ℕ) → meets k ks ≡ false → length ks ≤ key_index k ks
 key_index-none [] k h = omega arith

@@ -1,5 +1,6 @@
 -- The values of an object's members, name by name (RFC 8259, section 4).
-use Rattle.std.specs.Prelude.{◌≡◌, ℕ, List, [], map, Option, Some, None, length, ◌≤◌, ◌<◌, MatchOption, Result, Ok, Err, Bool, true, false, set}
+use Rattle.std.specs.Prelude.{◌≡◌, ℕ, List, [], map, Option, Some, None, length, ◌≤◌, ◌<◌, MatchOption, Result, Ok, Err, Bool, true, false, set, get_or}
+use Rattle.std.specs.Str.{bytes_eq}
 use Rattle.json_tree.specs.Tree.{Json, null, object}
 use Rattle.json_tree.specs.Keys.{value_of}
 use Rattle.json_tree.specs.Layout.{key_index}
@@ -29,6 +30,10 @@ IsObject value = (members : List (List ℕ × Json)) × (value ≡ object member
 -- the index of the key among the names, where it is one of them
 abbrev pub IsIndex : List (List ℕ) → List ℕ → Option ℕ → Type 0
 IsIndex names key at = MatchOption at (length names ≤ key_index key names) (λ i. (i ≡ key_index key names) × (i < length names))
+
+-- no name from the one index to before the other is the key
+abbrev pub AreOthers : List (List ℕ) → ℕ → ℕ → List ℕ → Type 0
+AreOthers names from to key = (i : ℕ) (name : List ℕ) → from ≤ i → i < to → bytes_eq (get_or names i name) key ≡ false
 
 -- a key was read, and its index among the names is told
 abbrev pub ReadsIndex : List (List ℕ) → Result (Option ℕ) JsonFault → List ℕ → Outcome (List ℕ) → Type 0

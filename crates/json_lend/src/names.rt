@@ -1,9 +1,9 @@
 //! Names of fields, among which keys are looked up.
-ghost use Rattle.std.specs.Prelude.{◌≡◌, ◌≢◌, ◌≤◌, length, true, IfErr};
+ghost use Rattle.std.specs.Prelude.{◌≡◌, ◌≢◌, ◌<◌, ◌≤◌, length, true, IfErr, MatchOption};
 ghost use Rattle.std.specs.Str.{bytes_eq};
-ghost use Rattle.json_tree.specs.Layout.{meets, distinct};
+ghost use Rattle.json_tree.specs.Layout.{key_index as key_index_of, meets, distinct};
 ghost use Rattle.json_tree.specs.Reading.{string_at};
-ghost use Rattle.json_lend.specs.Fields.{IsIndex, ReadsIndex};
+ghost use Rattle.json_lend.specs.Fields.{AreOthers, IsIndex, ReadsIndex};
 
 use crate::lent::EscapedString;
 use crate::strings::skip_escaped;
@@ -18,19 +18,35 @@ fn are_same(one: &str, other: &str) -> bool
     one == other
 }
 
-// The index of a key among the names.
-#[inline(never)]
-fn scan(names: &[Text], key: &str) -> Option<usize>
-    ensures { IsIndex names.now key.now result }
+// The index of a key among the names from `from` to before `to`.
+fn scan(names: &[Text], from: usize, to: usize, key: &str) -> Option<usize>
+    requires distinct { distinct names.now ≡ true }
+    requires within { to ≤ length names.now }
+    ensures { MatchOption result (AreOthers names.now from to key.now)
+        (λ i. (i ≡ key_index_of key.now names.now) × (i < length names.now)) }
 {
-    let mut i = 0;
-    while i < names.len() {
+    let mut i = from;
+    while i < to {
         if are_same(names[i].as_str(), key) {
             return Some(i);
         }
         i += 1;
     }
     None
+}
+
+// The index of a key among the names. It is looked for from `guess` on, and then before: where some
+// keys of an ordered row are missing, the next one is near.
+#[inline(never)]
+fn look_up(names: &[Text], guess: usize, key: &str) -> Option<usize>
+    requires { distinct names.now ≡ true }
+    ensures { IsIndex names.now key.now result }
+{
+    let from = guess.min(names.len());
+    match scan(names, from, names.len(), key) {
+        Some(i) => Some(i),
+        None => scan(names, 0, from, key),
+    }
 }
 
 // The index of a key among the names, which is first looked for at `guess`.
@@ -42,7 +58,7 @@ fn find(names: &[Text], guess: usize, key: &str) -> Option<usize>
     if guess < names.len() && are_same(names[guess].as_str(), key) {
         return Some(guess);
     }
-    scan(names, key)
+    look_up(names, guess, key)
 }
 
 // Whether a key that has escapes is the name.

@@ -1,0 +1,5 @@
+pub mod Meanings
+pub mod Rows
+pub mod Batches
+pub mod Kept
+pub mod Integers

@@ -1,0 +1,174 @@
+//! Builders that are kept from lines to lines.
+ghost use Rattle.std.specs.Prelude.{◌≡◌, [], true, false, List, map, All, IfOk, MatchOption};
+ghost use Rattle.arrow_types.specs.declared.types.Field.{Field};
+ghost use Rattle.arrow_array.specs.Arrays.{array_slots, array_type};
+ghost use Rattle.arrow_builders.specs.MutableArrays.{builder_slots, builder_type};
+ghost use Rattle.arrow_core.specs.Errors.{OnlyOutOfMemory};
+ghost use Rattle.json_line.specs.Lines.{are_line_fields as are_line_fields_of, have_line_readings, names_of as names_of_fields, types_of, AreColumnsOf, AreLineBuilders};
+
+use crate::given_up::GivenUp;
+use crate::line::push_lines;
+use crate::made::make_builder;
+use crate::types::has_line_reading;
+use arrow_array::Array;
+use arrow_builders::MutableArray;
+use arrow_core::{Result, Text};
+use arrow_types::Field;
+use json_lend::are_distinct;
+use std::alloc::Global;
+use std::marker::Model;
+
+/// Builders of the columns that lines are read into. Contracts see the fields of the columns.
+#[derive(Drop)]
+pub struct LineBuilders {
+    alloc: Global,
+    fields: Vec<Field>,
+    names: Vec<Text>,
+    builders: Vec<MutableArray>,
+}
+
+impl Model for LineBuilders {
+    ghost use Rattle.std.specs.Prelude.{List};
+    ghost use Rattle.std.specs.Coded.{coded_list};
+    ghost use Rattle.arrow_types.specs.declared.types.Field.{Field};
+    ghost use Rattle.arrow_types.specs.contracts.types.Field as the_fields;
+    ghost use Rattle.json_line.specs.Lines.{AreLineBuilders};
+
+    ghost Value = { List Field };
+
+    ghost coded = { coded_list the_fields.the_row.coded };
+
+    ghost view = { λ b. b.fields.items };
+
+    ghost invariant = { λ b. AreLineBuilders b.fields.items b.names.items b.builders.items };
+}
+
+/// Whether lines are read into columns of each field's type.
+fn have_readings(fields: &[Field]) -> bool
+    ensures { result ≡ have_line_readings fields.now }
+{
+    for field in fields {
+        if !has_line_reading(&field.data_type) {
+            return false;
+        }
+    }
+    true
+}
+
+/// Whether no two fields have the same name, and lines are read into columns of each type. The names
+/// are those of the fields.
+fn are_line_fields(names: &[Text], fields: &[Field]) -> bool
+    requires { names.now ≡ names_of_fields fields.now }
+    ensures { result ≡ are_line_fields_of fields.now }
+{
+    are_distinct(names) && have_readings(fields)
+}
+
+/// The fields' names.
+fn names_of(alloc: Global, fields: &[Field]) -> Result<Vec<Text>>
+    ensures names { IfOk result (λ names. names.items ≡ names_of_fields fields.now) }
+    ensures memory { OnlyOutOfMemory result }
+{
+    let mut names = Vec::with_capacity(alloc, fields.len())?;
+    for field in fields {
+        let name = field.name.try_clone(alloc)?;
+        names.push(name)?;
+    }
+    Ok(names)
+}
+
+/// A builder for each field.
+fn make_builders(alloc: Global, fields: &[Field]) -> Result<Vec<MutableArray>>
+    requires { have_line_readings fields.now ≡ true }
+    ensures types { IfOk result (λ builders. map builder_type builders.items ≡ types_of fields.now) }
+    ensures memory { OnlyOutOfMemory result }
+{
+    let mut builders = Vec::with_capacity(alloc, fields.len())?;
+    for field in fields {
+        let builder = make_builder(alloc, &field.data_type)?;
+        builders.push(builder)?;
+    }
+    Ok(builders)
+}
+
+/// Drops the slots of each builder.
+fn clear_all(builders: &mut [MutableArray])
+    ensures types { map builder_type builders.new ≡ map builder_type builders.old }
+    ensures slots { All (λ b. builder_slots b ≡ []) builders.new }
+{
+    for i in 0..builders.len() {
+        builders[i].clear();
+    }
+}
+
+/// The arrays of the builders' slots.
+fn box_all(alloc: Global, builders: &mut [MutableArray]) -> std::result::Result<Vec<Array>, GivenUp>
+    ensures types { map builder_type builders.new ≡ map builder_type builders.old }
+    ensures array_types { IfOk result
+        (λ arrays. map array_type arrays.items ≡ map builder_type builders.old) }
+    ensures array_slots { IfOk result
+        (λ arrays. map array_slots arrays.items ≡ map builder_slots builders.old) }
+{
+    let mut arrays = Vec::with_capacity(alloc, builders.len())?;
+    for i in 0..builders.len() {
+        let array = builders[i].as_box()?;
+        arrays.push(array)?;
+    }
+    Ok(arrays)
+}
+
+/// The columns of the lines' members, by the names and the builders of their fields.
+fn read_all(
+    alloc: Global,
+    lines: &[Text],
+    names: &[Text],
+    builders: &mut [MutableArray],
+) -> std::result::Result<Vec<Array>, GivenUp>
+    requires { (fields : List Field) × AreLineBuilders fields names.now builders.old }
+    ensures types { map builder_type builders.new ≡ map builder_type builders.old }
+    ensures ok { (fields : List Field) → AreLineBuilders fields names.now builders.old
+        → IfOk result (λ columns. AreColumnsOf fields lines.now columns.items) }
+{
+    clear_all(builders);
+    push_lines(alloc, lines, names, builders)?;
+    let columns = box_all(alloc, builders)?;
+    Ok(columns)
+}
+
+impl LineBuilders {
+    /// Builders of the columns of these fields. `None` exactly where two fields have the same name,
+    /// or lines aren't read into columns of one of the types. `OutOfMemory` alone.
+    pub fn new(alloc: Global, fields: Vec<Field>) -> Result<Option<LineBuilders>>
+        ensures ok { IfOk result (λ made. MatchOption made (are_line_fields_of fields.items ≡ false)
+            (λ builders. (builders ≡ fields.items) × (are_line_fields_of fields.items ≡ true))) }
+        ensures memory { OnlyOutOfMemory result }
+    {
+        let names = names_of(alloc, fields.as_slice())?;
+        if !are_line_fields(names.as_slice(), fields.as_slice()) {
+            return Ok(None);
+        }
+        let builders = make_builders(alloc, fields.as_slice())?;
+        Ok(Some(LineBuilders {
+            alloc,
+            fields,
+            names,
+            builders,
+        }))
+    }
+
+    /// The columns of the lines' members, one for each field: each line is an object (RFC 8259), and
+    /// the slot of a column is the one that the member of the field's name means under its type, a
+    /// missing one as null, and the last one where several have the name. A member that no field
+    /// names is passed over.
+    ///
+    /// `GivenUp` may come at any time. The builders are then fit for other lines all the same.
+    pub fn read_lines(&mut self, lines: &[Text]) -> std::result::Result<Vec<Array>, GivenUp>
+        ensures ok { IfOk result
+            (λ columns. AreColumnsOf self.old lines.now columns.items) }
+        ensures same { self.new ≡ self.old }
+    {
+        let names = self.names.as_slice();
+        let columns = read_all(self.alloc, lines, names, &mut self.builders)?;
+        Ok(columns)
+    }
+}

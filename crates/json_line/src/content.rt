@@ -1,0 +1,129 @@
+//! Strings and bytes that are lent.
+ghost use Rattle.std.specs.Prelude.{◌≡◌, ◌++◌, ◌∷◌, [], cond, OnOk};
+ghost use Rattle.arrow_types.specs.declared.slot.Slot.TheVariants.{Binary as BinarySlot, Null as NullSlot, String as StringSlot};
+ghost use Rattle.json_tree.specs.Grammar.{text_false, text_true};
+ghost use Rattle.json_flat.specs.Meaning.{bytes_in, text_in};
+ghost use Rattle.json_flat.specs.Columns.{Pushes};
+ghost use Rattle.json_lend.specs.Standing.{lent_value};
+
+use crate::given_up::GivenUp;
+use arrow_builders::{Content, MutableBinaryArray, MutableContentArray, MutableUtf8Array};
+use arrow_types::Offset;
+use json_lend::{EscapedString, Lent};
+use std::alloc::Global;
+
+#[inline(always)]
+fn push_str<O: Offset>(builder: &mut MutableUtf8Array<O>, value: &str) -> Result<(), GivenUp>
+    ensures data_type { builder.new.data_type ≡ builder.old.data_type }
+    ensures ok { OnOk result
+        (builder.new.slots ≡ builder.old.slots ++ StringSlot value.now ∷ []) }
+{
+    builder.push(Some(value))?;
+    Ok(())
+}
+
+// A string that has escapes, after a call, since few have.
+#[inline(never)]
+fn push_escaped<'a, O: Offset>(
+    alloc: Global,
+    builder: &mut MutableUtf8Array<O>,
+    string: &EscapedString<'a>,
+) -> Result<(), GivenUp>
+    ensures data_type { builder.new.data_type ≡ builder.old.data_type }
+    ensures ok { OnOk result
+        (builder.new.slots ≡ builder.old.slots ++ StringSlot string.now ∷ []) }
+{
+    match string.to_text(alloc) {
+        Ok(text) => push_str(builder, text.as_str()),
+        Err(_) => Err(GivenUp),
+    }
+}
+
+// A null.
+#[inline(always)]
+fn push_missing<C: Content, O: Offset>(
+    builder: &mut MutableContentArray<C, O>,
+) -> Result<(), GivenUp>
+    ensures data_type { builder.new.data_type ≡ builder.old.data_type }
+    ensures ok { OnOk result (builder.new.slots ≡ builder.old.slots ++ NullSlot ∷ []) }
+{
+    builder.push_null()?;
+    Ok(())
+}
+
+fn boolean_text(boolean: bool) -> &'static str
+    ensures { result.now ≡ cond boolean text_true text_false }
+{
+    if boolean { "true" } else { "false" }
+}
+
+/// Appends a string, the text of a number without an exponent, or `true` or `false`; and a null for
+/// null, an array and an object. A number with an exponent is given up.
+#[inline(always)]
+pub(crate) fn push_text<'a, O: Offset>(
+    alloc: Global,
+    builder: &mut MutableUtf8Array<O>,
+    lent: &Lent<'a>,
+) -> Result<(), GivenUp>
+    ensures data_type { builder.new.data_type ≡ builder.old.data_type }
+    ensures ok { OnOk result
+        (Pushes text_in (lent_value lent.now) builder.old.slots builder.new.slots) }
+{
+    match lent {
+        Lent::String(text) => push_str(builder, text),
+        Lent::Escaped(string) => push_escaped(alloc, builder, string),
+        Lent::Number(mantissa, exponent) => {
+            if exponent.is_empty() {
+                return push_str(builder, mantissa);
+            }
+            Err(GivenUp)
+        }
+        Lent::Bool(boolean) => push_str(builder, boolean_text(*boolean)),
+        _ => push_missing(builder),
+    }
+}
+
+#[inline(always)]
+fn push_slice<O: Offset>(builder: &mut MutableBinaryArray<O>, value: &[u8]) -> Result<(), GivenUp>
+    ensures data_type { builder.new.data_type ≡ builder.old.data_type }
+    ensures ok { OnOk result
+        (builder.new.slots ≡ builder.old.slots ++ BinarySlot value.now ∷ []) }
+{
+    builder.push(Some(value))?;
+    Ok(())
+}
+
+// The bytes of a string that has escapes, after a call, since few have.
+#[inline(never)]
+fn push_escaped_bytes<'a, O: Offset>(
+    alloc: Global,
+    builder: &mut MutableBinaryArray<O>,
+    string: &EscapedString<'a>,
+) -> Result<(), GivenUp>
+    ensures data_type { builder.new.data_type ≡ builder.old.data_type }
+    ensures ok { OnOk result
+        (builder.new.slots ≡ builder.old.slots ++ BinarySlot string.now ∷ []) }
+{
+    match string.to_text(alloc) {
+        Ok(text) => push_slice(builder, text.as_str().as_bytes()),
+        Err(_) => Err(GivenUp),
+    }
+}
+
+/// Appends the bytes of a string, and a null for any other value.
+#[inline(always)]
+pub(crate) fn push_bytes<'a, O: Offset>(
+    alloc: Global,
+    builder: &mut MutableBinaryArray<O>,
+    lent: &Lent<'a>,
+) -> Result<(), GivenUp>
+    ensures data_type { builder.new.data_type ≡ builder.old.data_type }
+    ensures ok { OnOk result
+        (Pushes bytes_in (lent_value lent.now) builder.old.slots builder.new.slots) }
+{
+    match lent {
+        Lent::String(text) => push_slice(builder, text.as_bytes()),
+        Lent::Escaped(string) => push_escaped_bytes(alloc, builder, string),
+        _ => push_missing(builder),
+    }
+}

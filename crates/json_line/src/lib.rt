@@ -1,0 +1,18 @@
+//! Lines of JSON read into columns, without a tree.
+//!
+//! This is the fast way: it takes what most lines are, and gives any other lines up, which are then
+//! to be read as trees. The trees alone decide what is refused, and why.
+#![tactic(auto)]
+
+mod builders;
+mod content;
+mod given_up;
+mod integer;
+mod line;
+mod made;
+mod plain;
+mod push;
+mod types;
+
+pub use builders::LineBuilders;
+pub use given_up::GivenUp;
