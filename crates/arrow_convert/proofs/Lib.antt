@@ -1,9 +1,11 @@
 pub mod ByParts
 pub mod Files
+pub mod Fitting
 pub mod Forms
 pub mod LinesBack
 pub mod Numbers
 pub mod OneError
+pub mod ReadNumbers
 pub mod Readable
 pub mod RewrittenAgain
 pub mod SmallForms

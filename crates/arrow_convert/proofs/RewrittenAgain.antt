@@ -1,5 +1,5 @@
 -- A file that was rewritten, rewritten again, is the same file.
-use Rattle.std.proofs.Common.{◌≡◌, ◌∙◌, ℕ, suc, ◌+◌, ◌<◌, ◌≤◌, true, inl, List, [], ◌∷◌, length, map, All, Option, Some, None, refl, sym, ap, subst, arith}
+use Rattle.std.proofs.Common.{◌≡◌, ◌∙◌, ℕ, suc, ◌+◌, ◌<◌, ◌≤◌, true, inl, List, [], ◌∷◌, length, map, All, Option, Some, refl, sym, ap, subst, arith}
 use Rattle.std.specs.Prelude.{sum_by}
 use Rattle.std.specs.List.{AllByRecursion, AllZip}
 use Rattle.std.specs.Io.KnownBytes.{Appends}
@@ -7,11 +7,9 @@ use Rattle.std.proofs.lemmas.List.Elements.{All-tail}
 use Rattle.std.proofs.lemmas.List.Sums.{sum_by-cons}
 use Rattle.std.proofs.lemmas.Option.{same_Some}
 use Rattle.arrow_types.specs.declared.slot.Slot.{Slot}
-use Rattle.arrow_types.specs.declared.types.DataType.{DataType}
 use Rattle.arrow_types.specs.declared.types.Field.{Field}
 use Rattle.avro_schema.specs.declared.schema.AvroField.{AvroField}
 use Rattle.avro_schema.specs.declared.schema.Record.{out-Record}
-use Rattle.avro_schema.specs.declared.schema.Schema.{Schema}
 use Rattle.avro_grammar.specs.AndThen.{◌>>=◌}
 use Rattle.avro_grammar.specs.Carried.{Carried, CarriedList}
 use Rattle.avro_grammar.specs.Inferred.{column_field, columns_of, inferred, own_doc}
@@ -37,14 +35,11 @@ use Rattle.arrow_convert.specs.Laws.{with_rows}
 use Rattle.arrow_convert.specs.ReadAgain.{AreShort, IsRewrittenFile, RewrittenDoesNotFail, RewrittenIsFile, RewrittenIsSame, blocks_of}
 use Rattle.arrow_convert.proofs.Files.{AreFilled, all_taken, got_is, is_avro_file}
 use Rattle.arrow_convert.proofs.Forms.{of_rows, one_canonical_form}
+use Rattle.arrow_convert.proofs.ReadNumbers.{column_type}
 use Rattle.arrow_convert.proofs.SmallForms.{record_same}
 use Rattle.arrow_convert.proofs.Targets.{AreTargets, are_targets}
 
 -- ---- columns that were made from a schema can be serialized, where they have a record
-
-column_type : (name : List ℕ) (doc : Option (List ℕ)) (s : Schema) (t : DataType) → (column_field name doc s t).data_type ≡ t
-column_type name None s t = refl
-column_type name (Some doc) s t = refl
 
 no_float_tail : (a : AvroField) (avros : List AvroField) → KeepNoFloat (a ∷ avros) (all_kept (a ∷ avros)) → KeepNoFloat avros (all_kept avros)
 no_float_tail a avros h k d l = h (suc k) d (omega (arith, l))

@@ -107,6 +107,13 @@ pub record IsRewrittenFile (name marker bytes : List ℕ) (count : ℕ) : Type 0
   pub got : Got sink bytes
   pub can_be_read : CanBeRead rewrites.rewrites.target marker bytes
 
+-- the record of a rewritten file, too, can be read back where its text is UTF-8, as it is where the names are, and nests at most 128 deep
+abbrev pub RewrittenIsWritable : Type 0
+RewrittenIsWritable =
+    (name marker : List ℕ) (limit : ℕ) (source sink : Change) (count : ℕ) (r : Rewrites name marker limit source sink count)
+    → IsUtf8 (schema_text_of (schema.Record r.rewrites.target)) → (HoldsTooMany (schema_text_of (schema.Record r.rewrites.target)) → ⊥)
+    → IsWritable (schema.Record r.rewrites.target)
+
 -- its blocks: the canonical ones of those that have a row
 abbrev pub blocks_of : {name marker bytes : List ℕ} {count : ℕ} → IsRewrittenFile name marker bytes count → List FileBlock
 blocks_of f = table_blocks (out-Record f.rewrites.rewrites.target).fields f.rewrites.rewrites.form.tables

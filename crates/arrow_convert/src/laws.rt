@@ -1,6 +1,6 @@
 //! Laws of two calls: of files that were rewritten, and of files that were written and are read again.
 ghost use Rattle.arrow_convert.specs.Laws.{FilesTellRows, OneCanonicalForm, OneErrorComes};
-ghost use Rattle.arrow_convert.specs.ReadAgain.{LinesAreFile, LinesComeBack, LinesDoNotFail, RecordsAreWritable, RewrittenDoesNotFail, RewrittenIsFile, RewrittenIsSame};
+ghost use Rattle.arrow_convert.specs.ReadAgain.{LinesAreFile, LinesComeBack, LinesDoNotFail, RecordsAreWritable, RewrittenDoesNotFail, RewrittenIsFile, RewrittenIsSame, RewrittenIsWritable};
 
 /// Of what `avro_rewrite` answers in two calls. A file has one canonical form under a name and a
 /// marker. Under one record and one marker two canonical files are equal exactly where their rows
@@ -30,13 +30,14 @@ pub fn lines_and_back()
     ensures writable { RecordsAreWritable }
 {}
 
-/// What `avro_rewrite` wrote is an Avro file: its record can be read back (`IsWritable`: the schema
-/// text is UTF-8 and nests at most 128 deep, and sizes and decimals are those that a text may give),
-/// the sync marker has sixteen bytes, and the file fewer than 2^63.
+/// What `avro_rewrite` wrote is an Avro file. The record can be read back (`IsWritable`: its schema
+/// text is UTF-8, as it is where the names are, and nests at most 128 deep), the sync marker has
+/// sixteen bytes, and the file fewer than 2^63.
 ///
 /// The function does nothing: its contract is the law.
 pub fn rewritten_file()
     ensures file { RewrittenIsFile }
+    ensures writable { RewrittenIsWritable }
 {}
 
 /// Such a file, each block of which has at most 2147483647 bytes, is its own canonical form: under
