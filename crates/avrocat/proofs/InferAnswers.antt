@@ -1,22 +1,17 @@
 -- What `infer` answers, by the type that the lines have and by what was written.
-use Rattle.std.proofs.Common.{◌≡◌, ◌∙◌, ◌⊎◌, inl, inr, ℕ, ◌<◌, ◌≤◌, List, length, Option, None, Result, Ok, Err, IfErr, OnOk, OnErr, sym, ap, subst, arith}
+use Rattle.std.proofs.Common.{◌≡◌, ◌∙◌, ◌⊎◌, inl, inr, ℕ, ◌<◌, ◌≤◌, List, Option, None, Result, Ok, Err, IfErr, OnOk, OnErr, sym, subst, arith}
 use Rattle.std.proofs.lemmas.Bool.{cases_lt}
 use Rattle.std.specs.Io.KnownBytes.{Appends}
 use Rattle.arrow_base.specs.Outside.{AppendsPrefix, last_count}
 use Rattle.arrow_core.specs.declared.error.Error.{Error}
 use Rattle.arrow_core.specs.declared.error.Error.TheVariants.{WriteFault, OutOfMemory}
 use Rattle.arrow_types.specs.declared.types.DataType.{DataType}
-use Rattle.ndjson_read.specs.Lines.{lines}
 use Rattle.ndjson_infer.specs.Inference.{IsComplete, NoType}
-use Rattle.ndjson_infer.specs.Needed.{size_of_lines}
-use Rattle.ndjson_infer.proofs.LineLists.{joined, size_joined}
 use Rattle.avro_blocks.specs.Changes.{Change, Failed, change_of}
 use Rattle.avrocat.specs.Infer.{before, after, HasRowsOf, InferDone, InferFails, HasType, type_line}
 use Rattle.avrocat.specs.Input.{byte_limit}
 use Rattle.avrocat.proofs.Endings.{keeps_same}
-
-lines_size : (bytes : List ℕ) → size_of_lines (lines bytes) ≡ length bytes
-lines_size bytes = sym (size_joined (lines bytes)) ∙ ap length (joined bytes)
+use Rattle.avrocat.proofs.InferEndings.{lines_size, same_error}
 
 -- a count that neither rose nor stands at its last value
 steady_count : (source : Change) → (Failed source → ⊥) → source.faults ≤ source.faults_after → source.faults_after ≡ source.faults
@@ -32,10 +27,6 @@ below_last source steady bound = from (cases_lt source.faults_after last_count)
     from : (source.faults_after < last_count) ⊎ (last_count ≤ source.faults_after) → source.faults_after < last_count
     from (inl below) = below
     from (inr full) = absurd (steady (inr (omega (arith, full, bound))))
-
-same_error : {T : Type 0} (answer : Result T Error) (e : Error) (right : T) → answer ≡ Err e → (answer ≡ Ok right) ⊎ (answer ≡ Err OutOfMemory) → e ≡ OutOfMemory
-same_error answer e right is (inl ok) = let other : Err e ≡ Ok right = sym is ∙ ok in absurd cc
-same_error answer e right is (inr err) = let same : Err e ≡ Err OutOfMemory = sym is ∙ err in cc
 
 -- where there is a type, it is answered, or there is no memory
 pub only_memory : (source : Change) (answer : Result DataType Error) (e : Error) → answer ≡ Err e → IsComplete None byte_limit (before source) (after source) answer

@@ -1,10 +1,9 @@
 -- What `infer` tells of JSON lines: the type of all of them.
-use Rattle.std.specs.Prelude.{ℕ, ◌<◌, List, [], ◌++◌, length, codes, None, All, IsUtf8}
+use Rattle.std.specs.Prelude.{◌≡◌, ◌≢◌, ℕ, ◌<◌, List, ◌++◌, length, codes, Some, None, All, IsUtf8}
 use Rattle.std.specs.Io.KnownBytes.{Appends, Keeps}
 use Rattle.arrow_base.specs.Outside.{AppendsPrefix}
 use Rattle.arrow_core.specs.declared.error.Error.{Error}
-use Rattle.arrow_core.specs.declared.error.Error.TheVariants.{ExternalFormat, WriteFault, OutOfMemory}
-use Rattle.arrow_core.specs.declared.error.Reason.TheVariants.{EmptyInput}
+use Rattle.arrow_core.specs.declared.error.Error.TheVariants.{WriteFault, OutOfMemory}
 use Rattle.arrow_types.specs.declared.types.DataType.{DataType}
 use Rattle.json_tree.specs.declared.value.Value.{Value}
 use Rattle.ndjson_read.specs.Lines.{lines, rows_of}
@@ -45,7 +44,16 @@ InferFails source sink WriteFault =
 InferFails source sink OutOfMemory = Keeps sink.bytes sink.bytes_after
 InferFails source sink e = Keeps sink.bytes sink.bytes_after × NoType None byte_limit (before source) (after source) e × (HasType source → ⊥)
 
--- the source tells that it has no byte
-abbrev pub InferDue : Change → Error → Type 0
-InferDue source (ExternalFormat EmptyInput) = Tells source []
-InferDue source _ = ⊥
+-- a source that tells these bytes
+abbrev pub telling : List ℕ → Told
+telling bytes = record { left = Some bytes; faults = 0 }
+
+-- The source tells its bytes, and doesn't fail. A reading of these bytes, in which no read fails, ends by this error, which isn't want of
+-- memory.
+pub record InferDue (source : Change) (e : Error) : Type 0 where
+  pub bytes : List ℕ
+  pub rest : List ℕ
+  pub told : source.bytes ≡ Some bytes
+  pub steady : Failed source → ⊥
+  pub ends : NoType None byte_limit (telling bytes) (telling rest) e
+  pub other : e ≢ OutOfMemory

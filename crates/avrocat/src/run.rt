@@ -30,7 +30,7 @@ const USAGE: u8 = 1;
 /// that of the error by which it failed. Of a source that tells its bytes and doesn't fail: where
 /// the command can be done on these bytes the status is 0, unless the sink fails; a wrong block, a
 /// file whose record's fields can't be shown or rewritten, fields whose rows can't be written, and
-/// no bytes to infer a type of, have the status of their error. `ndjson`, `rewrite` and `avro` write
+/// lines that have no type, have the status of their error. `ndjson`, `rewrite` and `avro` write
 /// block by block, so 9, of a failed write, may come before a later fault. 10, out of memory, may
 /// come at any time instead. With status 1 nothing is read or written. With any status
 /// but 0 the note gets one line that names the fault; a note that fails holds a prefix of it and

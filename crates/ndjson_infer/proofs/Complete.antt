@@ -23,7 +23,7 @@ use Rattle.ndjson_infer.proofs.Continuing.{Continues, continues}
 use Rattle.ndjson_infer.proofs.Values.{as_text, same_values, stand_for-length, stands_for}
 
 -- what is left of bytes that were told
-left_of : (old new : Option (List ℕ)) (bytes taken : List ℕ) → old ≡ Some bytes → Consumes old new taken → (rest : List ℕ) × (new ≡ Some rest) × (bytes ≡ taken ++ rest)
+pub left_of : (old new : Option (List ℕ)) (bytes taken : List ℕ) → old ≡ Some bytes → Consumes old new taken → (rest : List ℕ) × (new ≡ Some rest) × (bytes ≡ taken ++ rest)
 left_of old None bytes taken told c = absurd (subst (λ (z : Option (List ℕ)). Consumes z None taken) told c)
 left_of old (Some rest) bytes taken told c = (rest, refl, subst (λ (z : Option (List ℕ)). Consumes z (Some rest) taken) told c)
 
@@ -69,7 +69,7 @@ front_needed : (number : Option ℕ) (front : List (List ℕ)) (last : List ℕ)
 front_needed number front last each k below =
     subst (IsNeeded number) (take-append-le k front (last ∷ []) (omega (arith, below))) (each k (omega (arith, below, length-append front (last ∷ []))))
 
-next_needed : (number : Option ℕ) (front : List (List ℕ)) (last : List ℕ) → EachNeeded number (front ++ last ∷ []) → IsNeeded number front
+pub next_needed : (number : Option ℕ) (front : List (List ℕ)) (last : List ℕ) → EachNeeded number (front ++ last ∷ []) → IsNeeded number front
 next_needed number front last each = subst (IsNeeded number) (take-append_seam front (last ∷ [])) (each (length front) (omega (arith, length-append front (last ∷ []))))
 
 still_due : (number : Option ℕ) (rows : ℕ) → Fewer rows number → Fewer 0 (due_after number rows)

@@ -8,5 +8,6 @@ pub mod ObjectTypes
 pub mod Parsing
 pub mod RowLemmas
 pub mod Steps
+pub mod TwoReadings
 pub mod TypeLaws
 pub mod Values

@@ -119,6 +119,11 @@ needed_none None = refl
 needed_none (Some zero) = refl
 needed_none (Some (suc number)) = refl
 
+-- lines of which each was needed are all needed
+pub all_needed : (number : Option ℕ) (all : List (List ℕ)) → EachNeeded number all → needed_lines number all ≡ all
+all_needed number all each =
+    ap (needed_lines number) (sym (append-nil all)) ∙ needed_more number all [] each ∙ ap (λ (z : List (List ℕ)). all ++ z) (needed_none (due_after number (rows_in all))) ∙ append-nil all
+
 -- one more line is needed
 pub needed_next : (number : Option ℕ) (line : List ℕ) (rest : List (List ℕ)) → Fewer 0 number → needed_lines number (line ∷ rest) ≡ line ∷ (needed_lines (due_after number (rows_in (line ∷ []))) rest)
 needed_next None line rest due = refl

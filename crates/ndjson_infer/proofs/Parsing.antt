@@ -1,6 +1,8 @@
 -- What parsing a row answers, and the type of no rows.
 use Rattle.std.proofs.Common.{◌≡◌, ◌≢◌, ℕ, ◌<◌, ◌≤◌, inl, inr, List, [], length, take, Some, Result, Ok, Err, IfOk, OnOk, refl, sym, subst, length-take, arith}
+use Rattle.std.specs.Prelude.{IsUtf8}
 use Rattle.std.specs.Io.KnownBytes.{Consumes}
+use Rattle.std.proofs.lemmas.List.Elements.{All-nil}
 use Rattle.arrow_core.specs.declared.error.Error.{Error}
 use Rattle.arrow_types.specs.declared.types.DataType as data_type
 use Rattle.json_tree.specs.declared.value.Value.{Value}
@@ -34,6 +36,7 @@ one_byte byte_limit old new n buffer consumed some few size room faults =
       takes = record { consumed = consumed; limit = omega (arith, one, room); faults = faults };
       some = omega (arith, one);
       no_more = omega (arith, one);
+      utf8 = All-nil IsUtf8;
       rows = tt;
       enough = inl (refl, inr refl);
       inferred = sym coerce_none;

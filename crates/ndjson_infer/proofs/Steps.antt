@@ -25,7 +25,7 @@ use Rattle.ndjson_read.proofs.RowLemmas.{takes_nothing, takes_more, past_more, r
 use Rattle.ndjson_infer.specs.Needed.{StandFor, Fewer, IsNeeded, EachNeeded, NoMore}
 use Rattle.ndjson_infer.specs.Inference.{Told, TakesBytes, InfersType, ReadFails, PassesLimit, LineNotUtf8, EndsAtRow, HasNoByte, NoMemory, NoType}
 use Rattle.ndjson_infer.specs.SoFar.{AddsRow, ShowsFaulty, NoRow, RowsSoFar, told, AddedSoFar}
-use Rattle.ndjson_infer.proofs.LineLists.{joined, join, rows_in, rows_in-append, rows_within}
+use Rattle.ndjson_infer.proofs.LineLists.{all_needed, joined, join, rows_in, rows_in-append, rows_within}
 use Rattle.ndjson_infer.proofs.RowLemmas.{no_lines, shown_last, last_utf8}
 use Rattle.ndjson_infer.proofs.Complete.{first_of_needed}
 use Rattle.ndjson_infer.proofs.Values.{stand_for-length, stand_for-append}
@@ -181,12 +181,16 @@ module _ (number : Option ℕ) (a b c : State) (values : List Value) (so : RowsS
           takes = all_bytes s.taken s.takes;
           some = some_bytes all_taken counted_all;
           no_more = each_no_more number all_taken some each;
+          utf8 = subst (All IsUtf8) (sym (all_needed number (lines all_taken) each)) all_utf8;
           rows = subst (λ (z : List (List ℕ)). StandFor z (values ++ more)) (sym (first_of_needed number (lines all_taken) each ∙ more_rows s.taken))
               (stand_for-append (rows_of so.taken) (rows_of s.taken) values more so.rows s.rows);
           enough = enough s.whole;
           inferred = refl;
         }
       where
+        all_utf8 : All IsUtf8 (lines all_taken)
+        all_utf8 = subst (All IsUtf8) (sym (more_lines s.taken)) (All-append IsUtf8 (lines so.taken) (lines s.taken) so.utf8 s.utf8)
+
         some_bytes : (bytes : List ℕ) → c.lines ≡ n_more 0 (length (lines bytes)) → 0 < length bytes
         some_bytes [] is = let none : c.lines ≡ 0 = grind (arith, is, ap length no_lines) in absurd (read none)
         some_bytes (byte ∷ bytes) is = omega arith

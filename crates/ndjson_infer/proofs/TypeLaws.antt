@@ -6,15 +6,15 @@ use Rattle.arrow_core.specs.EntryComparisons.{entries_eq}
 use Rattle.arrow_types.specs.declared.types.DataType.{DataType, out-DataType}
 use Rattle.arrow_types.specs.declared.types.DataType as data_type
 use Rattle.arrow_types.specs.declared.types.Field.{Field}
-use Rattle.json_tree.specs.declared.value.Value.{Value, fold-roll-Value}
+use Rattle.json_tree.specs.declared.value.Value.{fold-roll-Value}
 use Rattle.json_tree.specs.declared.value.Value.TheOpen as layer
 use Rattle.json_tree.specs.declared.value.Value.TheVariants as variant
 use Rattle.json_tree.specs.declared.value.Number.TheVariants as number_variant
-use Rattle.json_tree.specs.Tree.{Json, null, boolean, string, number, array, object, has_point}
-use Rattle.json_infer.specs.Lists.{Among, distinct, with_all}
+use Rattle.json_tree.specs.Tree.{Json, null, boolean, string, number, array, has_point}
+use Rattle.json_infer.specs.Lists.{Among, distinct}
 use Rattle.json_infer.specs.Parts.{same, list_of, item_name, nullable}
 use Rattle.json_infer.specs.Coercion.{coerce}
-use Rattle.json_infer.specs.Inferred.{kept, kept_fields, by_kind, by_members, items_type, number_type, type_of, type_of_types}
+use Rattle.json_infer.specs.Inferred.{kept, by_kind, by_members, items_type, number_type, type_of, type_of_types}
 use Rattle.json_infer.proofs.Equality.{exact}
 use Rattle.json_infer.proofs.Folding.{absorbed}
 use Rattle.json_infer.proofs.Grouping.{map_append}

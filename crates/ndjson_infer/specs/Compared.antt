@@ -1,5 +1,5 @@
 -- What comparing the types of values as they are read tells. Cited by private contracts and proofs alone.
-use Rattle.std.specs.Prelude.{◌≡◌, ◌⊎◌, ℕ, ◌+◌, ◌<◌, List, [], ◌∷◌, map, take, length, slice_get, Bool, true, false, Option, Some, None}
+use Rattle.std.specs.Prelude.{◌≡◌, ◌⊎◌, ℕ, ◌+◌, ◌<◌, List, [], ◌∷◌, map, take, length, slice_get, false, Option, Some, None}
 use Rattle.arrow_types.specs.declared.types.DataType.{DataType}
 use Rattle.arrow_types.specs.declared.types.DataType as data_type
 use Rattle.arrow_types.specs.declared.types.Field.{Field}

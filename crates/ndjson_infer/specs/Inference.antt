@@ -39,13 +39,14 @@ NoValue row _ = ⊥
 
 module _ (number : Option ℕ) (byte_limit : ℕ) (old new : Told) where
   -- The type of the first rows is answered. They are the first rows of the bytes that were taken, of which there is one at least. These
-  -- are whole lines with as many rows, or reach the end of the source; or no rows tell the type.
+  -- are whole lines with as many rows, or reach the end of the source; or no rows tell the type. The lines that are needed are UTF-8.
   pub record InfersType (data_type : DataType) : Type 0 where
     pub taken : List ℕ
     pub values : List Value
     pub takes : TakesBytes byte_limit old new taken
     pub some : 0 < length taken
     pub no_more : NoMore number taken
+    pub utf8 : All IsUtf8 (needed_lines number (lines taken))
     pub rows : StandFor (first_rows number (rows_of taken)) values
     pub enough : ((number ≡ Some (length values)) × (EndsLine taken ⊎ (number ≡ Some 0))) ⊎ IsAtEnd new.left
     pub inferred : data_type ≡ type_of_rows values

@@ -7,6 +7,6 @@ mod lines;
 mod repeated;
 mod rows;
 
-pub use laws::lines_in_any_order;
+pub use laws::{lines_in_any_order, one_answer};
 pub use lines::infer;
 pub use rows::infer_iter;

@@ -16,7 +16,7 @@ use Rattle.arrow_base.specs.Outside.{RoseOrFull, NoneGiven}
 use Rattle.arrow_core.specs.declared.error.Error.{Error}
 use Rattle.arrow_core.specs.declared.error.Error.TheVariants.{ExternalFormat, LimitExceeded, ReadFault, OutOfMemory}
 use Rattle.arrow_core.specs.declared.error.Reason.TheVariants as reason
-use Rattle.ndjson_read.specs.Lines.{lines, is_line_feed, rows_of, is_row, EndsLine, IsWanted, EachWanted}
+use Rattle.ndjson_read.specs.Lines.{lines, line_feeds, is_line_feed, rows_of, is_row, EndsLine, IsWanted, EachWanted}
 use Rattle.ndjson_read.specs.OneLine.{one_or_none, within_line, IsPart, NoBytes, PushesBytes, TakesLine, TakesWrong, FailsWithin, PassesWithin, NoMemoryWithin, NoLine, RowsSoFar}
 use Rattle.ndjson_read.specs.Reading.{State, n_more, Takes, TakesPast, ShowsRows, ReadFails, PassesLimit, LineNotUtf8, NoMemory, NoRows}
 use Rattle.ndjson_read.proofs.LineLemmas.{lines-append, lines_part, lines_one, lines_after_part, part_more, parted, one_or_none-push, line_feeds-part, EndsLine-append, rows_of_one}
@@ -92,6 +92,13 @@ whole_or_end taken left false ends = inr ends
 n_more-add : (count n m : ℕ) → n_more (n_more count n) m ≡ n_more count (n + m)
 n_more-add count n m = grind arith
 
+-- the lines that were read, with one more
+counted_after : (a b c : State) (before all : List (List ℕ)) (line : List ℕ) → b.lines ≡ n_more a.lines (length before) → c.lines ≡ n_more b.lines (length (one_or_none line)) → all ≡ before ++ one_or_none line
+    → c.lines ≡ n_more a.lines (length all)
+counted_after a b c before all line so_far now is =
+    now ∙ ap (λ (z : ℕ). n_more z (length (one_or_none line))) so_far ∙ n_more-add a.lines (length before) (length (one_or_none line))
+    ∙ ap (n_more a.lines) (sym (ap length is ∙ length-append before (one_or_none line)))
+
 is_wanted : (wanted : ℕ) (a b : State) (rows : List (List ℕ)) (more : Bool) (s : RowsSoFar wanted a b rows more) → length rows < wanted → IsWanted wanted (lines s.taken)
 is_wanted wanted a b rows more s few = record { fewer = subst (λ (z : List (List ℕ)). length z < wanted) s.shown few; utf8 = s.utf8 }
 
@@ -121,10 +128,7 @@ rows_more wanted a b c rows line more s few l utf8 =
           ∙ ap (λ (z : List (List ℕ)). rows_of s.taken ++ z) (sym (rows_of_one line))
           ∙ sym (ap (filter is_row) all ∙ filter-append is_row (lines s.taken) (one_or_none line));
       each = each_after wanted s.taken line s.whole l.one s.each (is_wanted wanted a b rows true s few);
-      counted =
-          l.counted ∙ ap (λ (z : ℕ). n_more z (length (one_or_none line))) s.counted
-          ∙ n_more-add a.lines (length (lines s.taken)) (length (one_or_none line))
-          ∙ ap (n_more a.lines) (sym (ap length all ∙ length-append (lines s.taken) (one_or_none line)));
+      counted = counted_after a b c (lines s.taken) (lines (s.taken ++ line)) line s.counted l.counted all;
     }
 
 -- ---- one line
@@ -140,12 +144,14 @@ no_line_after a b c part t p same (ReadFault (Some number)) h = record {
   is_part = part-append part h.part p h.is_part;
   cause = rose_after a.faults b.faults c.faults t.faults h.cause;
   counted = h.counted ∙ ap (λ (z : ℕ). n_more z 1) same;
+  kept = h.kept ∙ same;
 }
 no_line_after a b c part t p same LimitExceeded h = record {
   part = part ++ h.part;
   byte = h.byte;
   takes = past_more a b c part h.part h.byte t h.takes;
   is_part = part-append part h.part p h.is_part;
+  kept = h.kept ∙ same;
 }
 no_line_after a b c part t p same OutOfMemory h = record {
   part = part ++ h.part;
@@ -192,6 +198,10 @@ line_at_end a b c part line t p same u ends same_too is = record {
 
 -- ---- why there are no rows
 
+-- the lines that were read, where a part of another one follows
+read_before : (a b c : State) (taken part : List ℕ) → b.lines ≡ n_more a.lines (length (lines taken)) → c.lines ≡ b.lines → EndsLine taken → IsPart part → c.lines ≡ n_more a.lines (line_feeds (taken ++ part))
+read_before a b c taken part counted kept whole is_part = kept ∙ counted ∙ ap (n_more a.lines) (sym (line_feeds-part taken part whole is_part))
+
 fails_after : (wanted : ℕ) (a b c : State) (rows : List (List ℕ)) (number : ℕ) → RowsSoFar wanted a b rows true → length rows < wanted → FailsWithin b c number → ReadFails wanted a c number
 fails_after wanted a b c rows number s few f = record {
   taken = s.taken ++ f.part;
@@ -201,6 +211,7 @@ fails_after wanted a b c rows number s few f = record {
   counted =
       f.counted ∙ ap (λ (z : ℕ). n_more z 1) s.counted ∙ n_more-add a.lines (length (lines s.taken)) 1
       ∙ ap (λ (z : ℕ). n_more a.lines (z + 1)) (sym (line_feeds-part s.taken f.part s.whole f.is_part));
+  read = read_before a b c s.taken f.part s.counted f.kept s.whole f.is_part;
 }
 
 passes_after : (wanted : ℕ) (a b c : State) (rows : List (List ℕ)) → RowsSoFar wanted a b rows true → length rows < wanted → PassesWithin b c → PassesLimit wanted a c
@@ -209,6 +220,7 @@ passes_after wanted a b c rows s few p = record {
   byte = p.byte;
   takes = past_more a b c s.taken p.part p.byte s.takes p.takes;
   each = each_byte wanted s.taken p.part p.byte s.whole p.is_part s.each (is_wanted wanted a b rows true s few);
+  read = read_before a b c s.taken p.part s.counted p.kept s.whole p.is_part;
 }
 
 wrong_after : (wanted : ℕ) (a b c : State) (rows : List (List ℕ)) → RowsSoFar wanted a b rows true → length rows < wanted → TakesWrong b c → LineNotUtf8 wanted a c
@@ -221,6 +233,7 @@ wrong_after wanted a b c rows s few w =
       whole = whole_or_end (s.taken ++ w.line) c.left w.more (whole_after s.taken w.line c.left w.more s.whole l.whole);
       each = each_after wanted s.taken w.line s.whole l.one s.each (is_wanted wanted a b rows true s few);
       wrong = λ utf8. wrong_one (lines s.taken) w.line w.wrong (subst (All IsUtf8) all utf8);
+      read = counted_after a b c (lines s.taken) (lines (s.taken ++ w.line)) w.line s.counted l.counted all;
     }
 
 no_memory_after : (wanted : ℕ) (a b c : State) (rows : List (List ℕ)) → RowsSoFar wanted a b rows true → length rows < wanted → NoMemoryWithin b c → NoMemory wanted a c
@@ -278,14 +291,15 @@ module _ (a c : State) (bytes : List ℕ) (consumed : Consumes a.left c.left byt
       }
 
   -- one past it
-  pub past_limit : length bytes ≡ a.limit + 1 → PassesWithin a c
-  past_limit long =
+  pub past_limit : length bytes ≡ a.limit + 1 → c.lines ≡ a.lines → PassesWithin a c
+  past_limit long kept =
       let q = parted bytes stops (omega (arith, long)) in
       record {
         part = q.part;
         byte = q.last;
         takes = record { consumed = subst (Consumes a.left c.left) q.split consumed; limit = omega (arith, long, ap length q.split, length-append q.part (q.last ∷ [])); faults = faults };
         is_part = q.is_part;
+        kept = kept;
       }
 
 kept_nothing : (a c : State) → Keeps a.left c.left → c.limit ≡ a.limit → a.faults ≤ c.faults → Takes a c []
@@ -307,8 +321,8 @@ last_pushed a c before line result pushed is =
     pushed_if (Some byte) h = pushed byte h
 
 -- why none came, with the number of the line
-pub none_pushed : (a c : State) (e : Error) → Keeps a.left c.left → c.limit ≡ a.limit → a.faults ≤ c.faults → NoneGiven a.faults c.faults e → NoBytes a c (within_line e (n_more a.lines 1))
+pub none_pushed : (a c : State) (e : Error) → Keeps a.left c.left → c.limit ≡ a.limit → c.lines ≡ a.lines → a.faults ≤ c.faults → NoneGiven a.faults c.faults e → NoBytes a c (within_line e (n_more a.lines 1))
 unfolding lines
-none_pushed a c (ReadFault None) kept limit faults h = record { part = []; takes = kept_nothing a c kept limit faults; is_part = refl; cause = h; counted = refl }
-none_pushed a c OutOfMemory kept limit faults h = record { part = []; takes = kept_nothing a c kept limit faults; one = refl }
-none_pushed a c e kept limit faults h = absurd h
+none_pushed a c (ReadFault None) kept limit same faults h = record { part = []; takes = kept_nothing a c kept limit faults; is_part = refl; cause = h; counted = refl; kept = same }
+none_pushed a c OutOfMemory kept limit same faults h = record { part = []; takes = kept_nothing a c kept limit faults; one = refl }
+none_pushed a c e kept limit same faults h = absurd h

@@ -57,6 +57,7 @@ pub record FailsWithin (old new : State) (number : ℕ) : Type 0 where
   pub is_part : IsPart part
   pub cause : RoseOrFull old.faults new.faults
   pub counted : number ≡ n_more old.lines 1
+  pub kept : new.lines ≡ old.lines
 
 -- a part of a line was taken, and then one byte more than the limit
 pub record PassesWithin (old new : State) : Type 0 where
@@ -64,6 +65,7 @@ pub record PassesWithin (old new : State) : Type 0 where
   pub byte : ℕ
   pub takes : TakesPast old new part byte
   pub is_part : IsPart part
+  pub kept : new.lines ≡ old.lines
 
 -- a line or a part of one was taken, and there was no memory
 pub record NoMemoryWithin (old new : State) : Type 0 where

@@ -48,29 +48,32 @@ pub record ShowsRows (wanted : ℕ) (old new : State) (shown : List (List ℕ)) 
   pub counted : new.lines ≡ n_more old.lines (length (lines taken))
 
 -- a read failed within the line of this number, counted from 1, or before its first byte; each line was wanted, and so
--- was that of the next byte, whichever it is
+-- was that of the next byte, whichever it is; the lines before that line were read
 pub record ReadFails (wanted : ℕ) (old new : State) (number : ℕ) : Type 0 where
   pub taken : List ℕ
   pub takes : Takes old new taken
   pub each : (byte : ℕ) → EachWanted wanted (lines (taken ++ byte ∷ []))
   pub cause : RoseOrFull old.faults new.faults
   pub counted : number ≡ n_more old.lines (line_feeds taken + 1)
+  pub read : new.lines ≡ n_more old.lines (line_feeds taken)
 
--- one byte more than the limit was taken; each line was wanted
+-- one byte more than the limit was taken; each line was wanted; the lines before that of this byte were read
 pub record PassesLimit (wanted : ℕ) (old new : State) : Type 0 where
   pub taken : List ℕ
   pub byte : ℕ
   pub takes : TakesPast old new taken byte
   pub each : EachWanted wanted (lines (taken ++ byte ∷ []))
+  pub read : new.lines ≡ n_more old.lines (line_feeds taken)
 
 -- whole lines were taken, or lines to the end of the source, of which one isn't UTF-8. As each line was wanted after
--- those before it, that one is the last.
+-- those before it, that one is the last; it was read, as they were.
 pub record LineNotUtf8 (wanted : ℕ) (old new : State) : Type 0 where
   pub taken : List ℕ
   pub takes : Takes old new taken
   pub whole : EndsLine taken ⊎ IsAtEnd new.left
   pub each : EachWanted wanted (lines taken)
   pub wrong : All IsUtf8 (lines taken) → ⊥
+  pub read : new.lines ≡ n_more old.lines (length (lines taken))
 
 -- there was no memory; each line was wanted
 pub record NoMemory (wanted : ℕ) (old new : State) : Type 0 where

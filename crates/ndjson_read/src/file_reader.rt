@@ -155,7 +155,9 @@ impl<S: Source> FileReader<S> {
         Some(&self.rows[..self.shown])
     }
 
-    /// How many lines were read so far, as far as 64 bits count them. It takes no memory.
+    /// How many lines were read so far, as far as 64 bits count them: after `ReadFault` and
+    /// `LimitExceeded` without the line in which they came, after `ExternalFormat(Utf8Line)` with
+    /// it. It takes no memory.
     pub fn lines(&self) -> u64
         ensures { result ≡ lines_of self.now }
     {

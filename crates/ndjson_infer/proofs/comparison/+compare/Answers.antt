@@ -1,4 +1,4 @@
-use Rattle.std.proofs.Common.{◌≡◌, ◌∙◌, ◌++◌, ◌∷◌, ◌≤◌, ◌-◌, [], Some, inl, inr, rules, sym, ap, subst, suc, length, refl, option_map, arith}
+use Rattle.std.proofs.Common.{◌≡◌, ◌∙◌, ◌++◌, ◌∷◌, ◌-◌, [], Some, rules, sym, ap, subst, suc, refl, option_map, arith}
 use Rattle.json_tree.specs.Tree.{array, object}
 use Rattle.json_tree.specs.Layout.{put}
 use Rattle.json_tree.specs.Reading.{string_at, value_at, put_together}

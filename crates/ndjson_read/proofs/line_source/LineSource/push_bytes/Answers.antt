@@ -8,7 +8,7 @@ pub returns-then-taken-self-clause-err : goal.returns-then-taken-self-clause-err
 returns-then-taken-self-clause-err g c =
     let given = c.in-Ok.ensures.given in
     let long : length given.bytes ≡ c.args.self.now.limit + 1 = omega (arith, given.counted, given.came.fits, c.if-taken-self.true, c.saturating_add-most.ensures) in
-    past_limit _ _ given.bytes given.came.consumed c.in-Ok.ensures.never_falls given.came.stops long
+    past_limit _ _ given.bytes given.came.consumed c.in-Ok.ensures.never_falls given.came.stops long refl
 
 pub returns-else-taken-self-clause-bytes : goal.returns-else-taken-self-clause-bytes
 returns-else-taken-self-clause-bytes g c =
@@ -23,4 +23,4 @@ returns-in-Err-clause-err g c =
     let error = c.in-Err.error in
     let number : c.saturating_add.result ≡ n_more c.args.self.now.lines 1 = search rules in
     subst (NoBytes _ _) (sym (c.within_line.ensures ∙ ap (within_line error) number))
-    (none_pushed (state_of g.S.Source.left g.S.Source.faults c.args.self.now) _ error c.in-Err.ensures.unchanged refl c.in-Err.ensures.never_falls c.in-Err.ensures.err)
+    (none_pushed (state_of g.S.Source.left g.S.Source.faults c.args.self.now) _ error c.in-Err.ensures.unchanged refl refl c.in-Err.ensures.never_falls c.in-Err.ensures.err)
