@@ -1,5 +1,5 @@
 -- The definitions at lists and structs, in terms of the fields that code sees.
-use Rattle.std.proofs.Common.{◌≡◌, ◌∙◌, ◌⊎◌, ℕ, suc, Bool, true, false, not, ◌&&◌, eqb, List, [], ◌∷◌, length, refl, sym, ap, subst, arith, Result, IfOk, IfErr}
+use Rattle.std.proofs.Common.{◌≡◌, ◌∙◌, ◌⊎◌, ℕ, zero, suc, ◌<◌, Bool, true, false, not, ◌&&◌, eqb, List, [], ◌∷◌, length, refl, sym, ap, subst, arith, Result, Ok, Err, IfOk, IfErr}
 use Rattle.std.proofs.lemmas.Result.{IfErr-weaker}
 use Rattle.arrow_array.specs.Arrays.{array_slots}
 use Rattle.arrow_array.specs.declared.array.Array.{Array}
@@ -7,15 +7,18 @@ use Rattle.arrow_core.specs.declared.error.Error.{Error}
 use Rattle.std.proofs.lemmas.Bool.Decides.{nat_tests}
 use Rattle.arrow_types.specs.declared.types.Field.{Field}
 use Rattle.arrow_types.specs.declared.types.DataType.{DataType}
+use Rattle.arrow_types.specs.declared.types.IntegerType.{IntegerType}
 use Rattle.arrow_types.specs.declared.types.DataType.TheVariants as types
-use Rattle.arrow_types.specs.declared.types.DataType.TheBlock.{shape-the_row-Field-0, hidden-the_row-Field-0, shape-the_row-Field-1, hidden-the_row-Field-1}
+use Rattle.arrow_types.specs.declared.types.DataType.TheBlock.{shape-the_row-Field-0, hidden-the_row-Field-0, shape-the_row-Field-1, hidden-the_row-Field-1, hidden-the_row-DataType-2}
 use Rattle.json_tree.specs.Tree.{Json}
 use Rattle.json_tree.specs.Keys.{value_of}
 use Rattle.json_flat.specs.Meaning.{Meaning, Layer}
 use Rattle.json_flat.specs.Columns.{AreSlotsOf, IsColumnFault, means}
-use Rattle.json_columns.specs.Faults.{IsFault, IsListFault, IsStructFault, TooMany, TooManyFields, TooManyListed, TooManyMembers}
+use Rattle.arrow_array.specs.Dictionaries.{IsDictionaryOf}
+use Rattle.json_columns.specs.Dictionaries.{HasFirstItems, TooManyDistinct}
+use Rattle.json_columns.specs.Faults.{IsFault, IsListFault, IsSizedFault, IsStructFault, TooMany, TooManyFields, TooManyListed, TooManyMembers}
 use Rattle.json_columns.specs.Gathered.{all_have_reading, field_meanings, members_named, struct_has_reading}
-use Rattle.json_columns.specs.Reading.{has_field, has_reading, have_reading, list_in, member_meanings, or_null, reading, struct_in}
+use Rattle.json_columns.specs.Reading.{has_field, has_reading, have_reading, is_value_type, list_in, member_meanings, or_null, reading, sized_list_in, struct_in}
 
 -- ---- lists
 
@@ -128,3 +131,84 @@ large_list_item_readable t f e h = sym (ap has_reading e ∙ large_list_readable
 
 pub struct_fields_readable : (t : DataType) (fs : List Field) → t ≡ types.Struct fs → has_reading t ≡ true → struct_has_reading fs ≡ true
 struct_fields_readable t fs e h = sym (ap has_reading e ∙ struct_readable fs) ∙ h
+
+-- ---- fixed-size lists
+
+pub sized_reading : (f : Field) (n : ℕ) → reading (types.FixedSizeList f n) ≡ sized_list_in n (means (reading f.data_type))
+unfolding shape-the_row-Field-0 hidden-the_row-Field-0 denote.Hole.Carrier.hidden
+sized_reading f n = refl
+
+pub sized_readable : (f : Field) (n : ℕ) → has_reading (types.FixedSizeList f n) ≡ (not (eqb n 0) && has_reading f.data_type)
+unfolding shape-the_row-Field-0 hidden-the_row-Field-0 denote.Hole.Carrier.hidden
+sized_readable f n = ap (λ b. not (eqb n 0) && b) (and_true (has_reading f.data_type))
+
+sized_fault_is : (f : Field) (n : ℕ) (vs : List Json) (e : Error) → IsSizedFault n f vs e → IsFault (types.FixedSizeList f n) vs e
+unfolding shape-the_row-Field-0 hidden-the_row-Field-0 denote.Hole.Carrier.hidden
+sized_fault_is f n vs e h = h
+
+both : (a b : Bool) → (a && b) ≡ true → (a ≡ true) × (b ≡ true)
+both true b e = (refl, e)
+both false b e = absurd cc
+
+filled : (n : ℕ) → not (eqb n 0) ≡ true → 0 < n
+filled zero e = absurd cc
+filled (suc n) e = omega arith
+
+module _ (t : DataType) (f : Field) (n : ℕ) (e : t ≡ types.FixedSizeList f n) where
+  pub sized_item : has_reading t ≡ true → (0 < n) × (has_reading f.data_type ≡ true)
+  sized_item h =
+      let p = both (not (eqb n 0)) (has_reading f.data_type) (sym (ap has_reading e ∙ sized_readable f n) ∙ h) in
+      (filled n p.0, p.1)
+
+  pub sized_err : (vs : List Json) (r : Result Array Error) → IfErr r (IsSizedFault n f vs) → IfErr r (IsFault t vs)
+  sized_err vs r h = subst (λ z. IfErr r (IsFault z vs)) (sym e) (IfErr-weaker r (IsSizedFault n f vs) (IsFault (types.FixedSizeList f n) vs) (sized_fault_is f n vs) h)
+
+  pub sized_ok : (vs : List Json) (r : Result Array Error) → IfOk r (λ a. AreSlotsOf (sized_list_in n (means (reading f.data_type))) vs (array_slots a)) → IfOk r (λ a. AreSlotsOf (reading t) vs (array_slots a))
+  sized_ok vs r h = subst (λ (q : Layer → Meaning). IfOk r (λ a. AreSlotsOf q vs (array_slots a))) (sym (ap reading e ∙ sized_reading f n)) h
+
+pub sized_list_items : (t : DataType) (f : Field) (n : ℕ) → t ≡ types.FixedSizeList f n → (r : Result Array Error) → IfOk r (HasFirstItems t)
+unfolding shape-the_row-Field-0 hidden-the_row-Field-0 denote.Hole.Carrier.hidden
+sized_list_items t f n e (Ok a) = subst (λ z. HasFirstItems z a) (sym e) tt
+sized_list_items t f n e (Err x) = tt
+
+-- ---- dictionaries
+
+pub dictionary_reading : (key : IntegerType) (t : DataType) (b : Bool) → reading (types.Dictionary key t b) ≡ reading t
+unfolding hidden-the_row-DataType-2 denote.Hole.Carrier.hidden
+dictionary_reading key t b = refl
+
+pub dictionary_readable : (key : IntegerType) (t : DataType) (b : Bool) → has_reading (types.Dictionary key t b) ≡ is_value_type t
+unfolding hidden-the_row-DataType-2 denote.Hole.Carrier.hidden
+dictionary_readable key t b = refl
+
+dictionary_fault_is : (key : IntegerType) (t : DataType) (b : Bool) (vs : List Json) (e : Error) → IsColumnFault (reading t) (TooManyDistinct key t vs) vs e → IsFault (types.Dictionary key t b) vs e
+unfolding hidden-the_row-DataType-2 denote.Hole.Carrier.hidden
+dictionary_fault_is key t b vs e h = h
+
+module _ (d t : DataType) (key : IntegerType) (h : IsDictionaryOf key d t) where
+  pub dictionary_item : has_reading d ≡ true → is_value_type t ≡ true
+  dictionary_item r = sym (ap has_reading h.1 ∙ dictionary_readable key t h.0) ∙ r
+
+  pub dictionary_err : (vs : List Json) (r : Result Array Error) → IfErr r (IsColumnFault (reading t) (TooManyDistinct key t vs) vs) → IfErr r (IsFault d vs)
+  dictionary_err vs r k =
+      subst (λ z. IfErr r (IsFault z vs)) (sym h.1) (IfErr-weaker r (IsColumnFault (reading t) (TooManyDistinct key t vs) vs) (IsFault (types.Dictionary key t h.0) vs) (dictionary_fault_is key t h.0 vs) k)
+
+  pub dictionary_ok : (vs : List Json) (r : Result Array Error) → IfOk r (λ a. AreSlotsOf (reading t) vs (array_slots a)) → IfOk r (λ a. AreSlotsOf (reading d) vs (array_slots a))
+  dictionary_ok vs r k = subst (λ (q : Layer → Meaning). IfOk r (λ a. AreSlotsOf q vs (array_slots a))) (sym (ap reading h.1 ∙ dictionary_reading key t h.0)) k
+
+-- ---- types that aren't a dictionary's
+
+pub list_items : (t : DataType) (f : Field) → t ≡ types.List f → (r : Result Array Error) → IfOk r (HasFirstItems t)
+unfolding shape-the_row-Field-0 hidden-the_row-Field-0 denote.Hole.Carrier.hidden
+list_items t f e (Ok a) = subst (λ z. HasFirstItems z a) (sym e) tt
+list_items t f e (Err x) = tt
+
+pub large_list_items : (t : DataType) (f : Field) → t ≡ types.LargeList f → (r : Result Array Error) → IfOk r (HasFirstItems t)
+unfolding shape-the_row-Field-0 hidden-the_row-Field-0 denote.Hole.Carrier.hidden
+large_list_items t f e (Ok a) = subst (λ z. HasFirstItems z a) (sym e) tt
+large_list_items t f e (Err x) = tt
+
+pub struct_items : (t : DataType) (fs : List Field) → t ≡ types.Struct fs → (r : Result Array Error) → IfOk r (HasFirstItems t)
+unfolding shape-the_row-Field-1 hidden-the_row-Field-1 denote.Hole.Carrier.hidden
+struct_items t fs e (Ok a) = subst (λ z. HasFirstItems z a) (sym e) tt
+struct_items t fs e (Err x) = tt

@@ -1,5 +1,6 @@
 pub mod Anywhere
 pub mod ByFields
+pub mod DictionaryColumns
 pub mod FieldColumns
 pub mod Gathering
 pub mod Layers
@@ -10,5 +11,6 @@ pub mod Nulls
 pub mod RecordLaws
 pub mod Refusing
 pub mod Rows
+pub mod SizedLists
 pub mod TextLaws
 pub mod Together

@@ -24,7 +24,7 @@ use Rattle.json_columns.proofs.Gathering.{counted}
 use Rattle.json_columns.proofs.Together.{made, made_text, made_none}
 
 -- two runs of one list
-cut : {A B C : Type 0} (f : A → C) (g : B → C) (xs more : List A) (ys : List B) → map f (xs ++ more) ≡ map g ys
+pub cut : {A B C : Type 0} (f : A → C) (g : B → C) (xs more : List A) (ys : List B) → map f (xs ++ more) ≡ map g ys
     → (map f xs ≡ map g (take (length xs) ys)) × (map f more ≡ map g (drop (length xs) ys)) × (length xs ≤ length ys)
 cut f g [] more ys e = (refl, e, omega arith)
 cut f g (x ∷ xs) more [] e = absurd cc
@@ -42,7 +42,7 @@ nil_drop (x ∷ xs) n l = absurd (omega (arith, l))
 empty_drop : {A : Type 0} (xs : List A) (s n : ℕ) → length xs ≤ 0 → drop n (drop s xs) ≡ drop (s + n) xs
 empty_drop xs s n l = ap (λ ys. drop n ys) (nil_drop xs s l) ∙ nil_drop xs n l ∙ sym (nil_drop xs (s + n) l)
 
-drop_drop : {A : Type 0} (s n : ℕ) (xs : List A) → drop n (drop s xs) ≡ drop (s + n) xs
+pub drop_drop : {A : Type 0} (s n : ℕ) (xs : List A) → drop n (drop s xs) ≡ drop (s + n) xs
 drop_drop zero n xs = let e : n ≡ zero + n = omega arith in ap (λ k. drop k xs) e
 drop_drop (suc s) n [] = empty_drop [] (suc s) n (omega arith)
 drop_drop (suc s) n (x ∷ xs) = let e : suc (s + n) ≡ suc s + n = omega arith in drop_drop s n xs ∙ ap (λ k. drop k (x ∷ xs)) e

@@ -1,17 +1,16 @@
 -- Rows, their columns, and what is refused.
-use Rattle.std.proofs.Common.{◌≡◌, ◌⊎◌, inl, inr, ℕ, zero, suc, ◌<◌, Bool, true, false, ◌&&◌, not, cond, List, [], ◌∷◌, length, map, slice_index_or, Option, Some, None, refl, sym, ap, ◌∙◌, subst, arith, Result, Ok, Err, IfOk, IfErr}
+use Rattle.std.proofs.Common.{◌≡◌, inl, inr, ℕ, zero, suc, ◌<◌, Bool, true, false, ◌&&◌, not, cond, List, [], ◌∷◌, length, slice_index_or, Some, None, refl, sym, ap, ◌∙◌, subst, arith, Result, Ok, Err, IfOk, IfErr}
 use Rattle.std.proofs.lemmas.List.{length-map}
 use Rattle.arrow_array.specs.Arrays.{array_slots}
 use Rattle.arrow_array.specs.Chunks.{AreSameLength}
 use Rattle.arrow_array.specs.declared.array.Array.{Array}
 use Rattle.arrow_core.specs.declared.error.Error.{Error}
-use Rattle.arrow_core.specs.declared.error.Error.TheVariants.{ExternalFormat, InvalidArgumentError, NotYetImplemented, Overflow}
+use Rattle.arrow_core.specs.declared.error.Error.TheVariants.{InvalidArgumentError, NotYetImplemented, Overflow}
 use Rattle.arrow_core.specs.declared.error.Reason.TheVariants as reason
-use Rattle.arrow_types.specs.declared.types.DataType.{DataType}
 use Rattle.arrow_types.specs.declared.types.DataType.TheVariants as types
 use Rattle.arrow_types.specs.declared.types.DataType.TheBlock.{shape-the_row-Field-0, hidden-the_row-Field-0}
 use Rattle.arrow_types.specs.declared.types.Field.{Field}
-use Rattle.json_tree.specs.Tree.{Json, array}
+use Rattle.json_tree.specs.Tree.{Json}
 use Rattle.json_tree.specs.declared.value.Value.{out-Value}
 use Rattle.json_tree.specs.declared.value.Value.TheVariants as variant
 use Rattle.json_tree.specs.declared.value.Object.{Object}
@@ -20,7 +19,7 @@ use Rattle.json_flat.specs.Columns.{Has, means}
 use Rattle.json_columns.specs.Faults.{AreMemberColumns, IsFieldsFault, IsStructFault}
 use Rattle.json_columns.specs.Gathered.{all_have_reading, field_meanings, members_named, member_in}
 use Rattle.json_columns.specs.Reading.{has_reading, reading, struct_in}
-use Rattle.json_columns.specs.Records.{are_known, are_of_record, are_there, AreRecordFields, first_fault, holds_more, is_of_record, IsFieldsRefusal, IsRecordsRefusal, IsRowsRefusal, IsTableOf, row_fault}
+use Rattle.json_columns.specs.Records.{are_known, are_of_record, are_there, AreRecordFields, first_fault, holds_more, is_of_record, IsRecordsRefusal, IsRowsRefusal, IsTableOf, row_fault}
 use Rattle.json_columns.proofs.FieldColumns.{members_fault}
 use Rattle.json_columns.proofs.Layers.{no_object, object_layer}
 use Rattle.json_columns.proofs.Refusing.{some_unfit}

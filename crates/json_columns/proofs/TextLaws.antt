@@ -1,7 +1,8 @@
 -- Texts under timestamps, by the code's match on types and values.
-use Rattle.std.proofs.Common.{◌≡◌, ℕ, ℤ, Bool, true, false, ◌||◌, List, [], ◌∷◌, map, pos, negsuc, Option, Some, None, refl, sym, ap, ◌∙◌}
+use Rattle.std.proofs.Common.{◌≡◌, ℕ, ℤ, Bool, true, false, cond, eqb, ◌&&◌, ◌||◌, List, [], ◌∷◌, length, map, pos, negsuc, Option, Some, None, refl, sym, ap, ◌∙◌}
 use Rattle.std.specs.List.{list_any}
 use Rattle.arrow_types.specs.declared.slot.Slot.{Slot}
+use Rattle.arrow_types.specs.declared.slot.Slot.TheVariants as slot
 use Rattle.arrow_types.specs.declared.types.Field.{Field}
 use Rattle.arrow_types.specs.declared.types.DataType.{DataType, Null, Boolean, Int8, Int16, Int32, Int64, UInt8, UInt16, UInt32, UInt64, Float16, Float32, Float64, Timestamp, Date32, Date64, Time32, Time64, Duration, Interval, Binary, FixedSizeBinary, LargeBinary, Utf8, LargeUtf8, List', FixedSizeList', LargeList', Struct', Map', Union', Dictionary', Decimal, Decimal256, Extension'}
 use Rattle.json_tree.specs.Keys.{value_of}
@@ -14,7 +15,7 @@ use Rattle.json_flat.specs.Whole.{number_value, within}
 use Rattle.json_flat.specs.Meaning.{Layer, Meaning, slot_of, text_timestamp, unfit, fitted, whole_in, moment_in, text_in, bytes_in, truth_in}
 use Rattle.json_flat.specs.Columns.{means}
 use Rattle.json_columns.specs.Gathered.{HasNoFields, field_meanings}
-use Rattle.json_columns.specs.Reading.{Together, all_slots, some_text, some_unfit, beside, together, made_of, list_in, struct_in, reading, or_null}
+use Rattle.json_columns.specs.Reading.{Together, all_slots, some_text, some_unfit, beside, together, made_of, list_in, sized_list_in, struct_in, reading, or_null}
 use Rattle.json_columns.specs.Texts.{IsNoTimestamp, is_text, item_is_text, member_is_text}
 use Rattle.json_columns.proofs.Layers.{array_layer, object_layer, no_array, no_object}
 use Rattle.json_columns.proofs.Nulls.{null_means}
@@ -84,12 +85,12 @@ flat_text LargeBinary h k l = bytes_text l
 flat_text Utf8 h k l = string_text l
 flat_text LargeUtf8 h k l = string_text l
 flat_text (List' shape item) h k l = absurd h
-flat_text (FixedSizeList' shape item size) h k l = refl
+flat_text (FixedSizeList' shape item size) h k l = absurd h
 flat_text (LargeList' shape item) h k l = absurd h
 flat_text (Struct' shape fields) h k l = absurd h
 flat_text (Map' shape entries is_sorted) h k l = refl
 flat_text (Union' shape fields ids mode) h k l = refl
-flat_text (Dictionary' key shape value is_sorted) h k l = refl
+flat_text (Dictionary' key shape value is_sorted) h k l = absurd h
 flat_text (Decimal precision scale) h k l = refl
 flat_text (Decimal256 precision scale) h k l = refl
 flat_text (Extension' name shape inner metadata) h k l = refl
@@ -142,6 +143,17 @@ list_text r v items e =
 
 pub no_list_text : (r : Layer → Meaning) (v : Json) → ((items : List Json) → v ≡ variant.Array items → ⊥) → false ≡ is_text (means (list_in (means r)) v)
 no_list_text r v other = sym (no_array (λ l. is_text (list_in (means r) l)) false refl (λ b. refl) (λ n. refl) (λ t. refl) (λ o. refl) v other)
+
+-- where there are so many items
+by_size : (r : Layer → Meaning) (b : Bool) (items : List Json) → is_text (cond b (made_of slot.List (together (map (means r) items))) (slot_of slot.Null)) ≡ (b && item_is_text r items)
+by_size r true items = made_text slot.List (together (map (means r) items)) ∙ together_text (means r) items
+by_size r false items = refl
+
+pub sized_text : (r : Layer → Meaning) (size : ℕ) (v : Json) (items : List Json) → v ≡ variant.Array items → (eqb (length items) size && item_is_text r items) ≡ is_text (means (sized_list_in size (means r)) v)
+sized_text r size v items e = sym (ap (λ (l : Layer). is_text (sized_list_in size (means r) l)) (array_layer v items e) ∙ by_size r (eqb (length items) size) items)
+
+pub no_sized_text : (r : Layer → Meaning) (size : ℕ) (v : Json) → ((items : List Json) → v ≡ variant.Array items → ⊥) → false ≡ is_text (means (sized_list_in size (means r)) v)
+no_sized_text r size v other = sym (no_array (λ l. is_text (sized_list_in size (means r) l)) false refl (λ b. refl) (λ n. refl) (λ t. refl) (λ o. refl) v other)
 
 pub struct_text : (fs : List Field) (v : Json) (o : Object) → v ≡ variant.Object o → member_is_text fs o.members ≡ is_text (means (struct_in (field_meanings fs)) v)
 struct_text fs v o e =

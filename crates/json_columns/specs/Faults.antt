@@ -6,19 +6,26 @@ use Rattle.arrow_array.specs.Arrays.{array_slots, array_type}
 use Rattle.arrow_core.specs.declared.error.Error.{Error}
 use Rattle.arrow_core.specs.declared.error.Error.TheVariants.{OutOfMemory, Overflow}
 use Rattle.arrow_types.specs.Numbers.{greatest_offset}
-use Rattle.arrow_types.specs.declared.types.DataType.{DataType, Row_of-Field, end_of-Field, more_of-Field}
+use Rattle.arrow_types.specs.declared.types.DataType.{DataType, Row_of-Field, end_of-Field, more_of-Field, Row_of-DataType, end_of-DataType, more_of-DataType}
 use Rattle.arrow_types.specs.declared.types.DataType as types
 use Rattle.arrow_types.specs.declared.types.Field.{Field}
+use Rattle.arrow_types.specs.declared.types.IntegerType.{IntegerType}
 use Rattle.arrow_types.specs.declared.slot.Slot.{Slot}
 use Rattle.json_tree.specs.Tree.{Json}
 use Rattle.json_flat.specs.Meaning.{text_in, bytes_in}
 use Rattle.json_flat.specs.Columns.{AreSlotsOf, IsColumnFault, IsTooLong, means}
-use Rattle.json_columns.specs.Gathered.{all_items, field_meanings, members_named}
-use Rattle.json_columns.specs.Reading.{list_in, reading, struct_in}
+use Rattle.json_columns.specs.Dictionaries.{TooManyDistinct}
+use Rattle.json_columns.specs.Gathered.{all_items, all_sized, field_meanings, members_named}
+use Rattle.json_columns.specs.Reading.{list_in, reading, sized_list_in, struct_in}
+
+-- the distinct slots of a dictionary, by the one type of its values
+abbrev pub TooManyInner : {m : _} → IntegerType → Row_of-DataType m → List Json → Type 0
+TooManyInner key end_of-DataType values = ⊥
+TooManyInner key (more_of-DataType t rest) values = TooManyDistinct key t values
 
 abbrev mutual
   -- Somewhere beneath the type the items of lists, or the bytes of strings or of binary values, are more together than the greatest
-  -- offset, 2^31 - 1 or of large types 2^63 - 1.
+  -- offset, 2^31 - 1 or of large types 2^63 - 1, or the distinct slots of a dictionary are more than its keys number.
   pub TooMany : DataType → List Json → Type 0
   TooMany types.Utf8 values = IsTooLong (greatest_offset false) text_in values
   TooMany types.LargeUtf8 values = IsTooLong (greatest_offset true) text_in values
@@ -26,7 +33,9 @@ abbrev mutual
   TooMany types.LargeBinary values = IsTooLong (greatest_offset true) bytes_in values
   TooMany (types.List' shape item) values = (greatest_offset false < length (all_items values)) ⊎ TooManyItems item (all_items values)
   TooMany (types.LargeList' shape item) values = (greatest_offset true < length (all_items values)) ⊎ TooManyItems item (all_items values)
+  TooMany (types.FixedSizeList' shape item size) values = TooManyItems item (all_sized size values)
   TooMany (types.Struct' shape fields) values = TooManyMembers fields values
+  TooMany (types.Dictionary' key shape value is_sorted) values = TooManyInner key value values
   TooMany _ values = ⊥
 
   -- by the one field of a type of lists
@@ -69,6 +78,10 @@ IsCountFault greatest n e = (e ≡ OutOfMemory) ⊎ ((e ≡ Overflow) × (greate
 -- why there are no lists of this field
 abbrev pub IsListFault : Bool → Field → List Json → Error → Type 0
 IsListFault is_large item values = IsColumnFault (list_in (means (reading item.data_type))) (TooManyListed is_large item values) values
+
+-- why there are no lists of so many items of this field
+abbrev pub IsSizedFault : ℕ → Field → List Json → Error → Type 0
+IsSizedFault size item values = IsColumnFault (sized_list_in size (means (reading item.data_type))) (TooMany item.data_type (all_sized size values)) values
 
 -- why there are no structs of these fields
 abbrev pub IsStructFault : List Field → List Json → Error → Type 0

@@ -1,7 +1,7 @@
 -- The values beneath several values, in order.
-use Rattle.std.specs.Prelude.{ℕ, Bool, true, false, ◌&&◌, not, ◌==◌, Option, Some, None, List, [], ◌∷◌, ◌++◌, length, map}
+use Rattle.std.specs.Prelude.{ℕ, zero, suc, cond, Bool, true, false, ◌&&◌, not, ◌==◌, Option, Some, None, List, [], ◌∷◌, ◌++◌, length, map}
 use Rattle.std.specs.List.{list_all}
-use Rattle.arrow_types.specs.declared.types.DataType.{DataType, List', LargeList', Struct'}
+use Rattle.arrow_types.specs.declared.types.DataType.{DataType, List', LargeList', FixedSizeList', Struct', Dictionary'}
 use Rattle.arrow_types.specs.declared.types.Field.{Field}
 use Rattle.json_tree.specs.Keys.{value_of}
 use Rattle.json_tree.specs.Tree.{Json, null}
@@ -20,6 +20,21 @@ items_in _ = []
 abbrev pub all_items : List Json → List Json
 all_items [] = []
 all_items (value ∷ values) = items_in (out-Value value) ++ all_items values
+
+-- so many nulls
+abbrev pub nulls : ℕ → List Json
+nulls zero = []
+nulls (suc n) = null ∷ nulls n
+
+-- the items of an array of so many, and as many nulls of another value
+abbrev pub sized_items : ℕ → Layer → List Json
+sized_items size (layer.Array items) = cond (length items == size) items (nulls size)
+sized_items size _ = nulls size
+
+-- the same of each value, one after another
+abbrev pub all_sized : ℕ → List Json → List Json
+all_sized size [] = []
+all_sized size (value ∷ values) = sized_items size (out-Value value) ++ all_sized size values
 
 -- the member of this name; null where there is none
 abbrev pub member_in : List ℕ → Layer → Json
@@ -44,6 +59,14 @@ len_in _ = None
 abbrev pub list_lens : List Json → List (Option ℕ)
 list_lens values = map (λ value. len_in (out-Value value)) values
 
+-- whether a value is an array of so many items
+abbrev pub is_sized : ℕ → Layer → Bool
+is_sized size (layer.Array items) = length items == size
+is_sized size _ = false
+
+abbrev pub are_sized : ℕ → List Json → List Bool
+are_sized size values = map (λ value. is_sized size (out-Value value)) values
+
 -- whether a value is an object
 abbrev pub is_object : Layer → Bool
 is_object (layer.Object object) = true
@@ -56,8 +79,14 @@ are_objects values = map (λ value. is_object (out-Value value)) values
 abbrev pub HasNoFields : DataType → Type 0
 HasNoFields (List' shape item) = ⊥
 HasNoFields (LargeList' shape item) = ⊥
+HasNoFields (FixedSizeList' shape item size) = ⊥
 HasNoFields (Struct' shape fields) = ⊥
+HasNoFields (Dictionary' key shape value is_sorted) = ⊥
 HasNoFields _ = Unit {0}
+
+-- lists have items, and values are read under the type of these
+abbrev pub sized_list_has_reading : ℕ → Field → Bool
+sized_list_has_reading size item = not (size == 0) && has_reading item.data_type
 
 -- values are read under the type of each field
 abbrev pub all_have_reading : List Field → Bool

@@ -1,4 +1,5 @@
 pub mod Reading
+pub mod Dictionaries
 pub mod Gathered
 pub mod Faults
 pub mod Names

@@ -1,8 +1,8 @@
 -- The slot that a JSON value (RFC 8259, section 3) means under a data type, of the types that have a reading.
-use Rattle.std.specs.Prelude.{ℕ, pos, negsuc, Bool, true, false, ◌&&◌, List, [], ◌∷◌, map, Option, Some, None}
+use Rattle.std.specs.Prelude.{ℕ, pos, negsuc, Bool, true, false, not, ◌&&◌, ◌==◌, cond, length, List, [], ◌∷◌, map, Option, Some, None}
 use Rattle.arrow_types.specs.declared.slot.Slot.{Slot}
 use Rattle.arrow_types.specs.declared.slot.Slot.TheVariants as slot
-use Rattle.arrow_types.specs.declared.types.DataType.{DataType, Row_of-Field, end_of-Field, more_of-Field}
+use Rattle.arrow_types.specs.declared.types.DataType.{DataType, Row_of-Field, end_of-Field, more_of-Field, Row_of-DataType, end_of-DataType, more_of-DataType}
 use Rattle.arrow_types.specs.declared.types.DataType as types
 use Rattle.arrow_types.specs.declared.types.IntervalUnit.TheVariants as interval
 use Rattle.json_tree.specs.Keys.{value_of}
@@ -46,6 +46,11 @@ abbrev pub list_in : (Json → Meaning) → Layer → Meaning
 list_in item (layer.Array items) = made_of slot.List (together (map item items))
 list_in item _ = slot_of slot.Null
 
+-- the list of an array's items, where there are so many; else null
+abbrev pub sized_list_in : ℕ → (Json → Meaning) → Layer → Meaning
+sized_list_in size item (layer.Array items) = cond (length items == size) (made_of slot.List (together (map item items))) (slot_of slot.Null)
+sized_list_in size item _ = slot_of slot.Null
+
 -- the struct of an object's members, one for each field; else null
 abbrev pub struct_in : (List (List ℕ × Json) → List Meaning) → Layer → Meaning
 struct_in members (layer.Object object) = made_of slot.Struct (together (members object.members))
@@ -88,7 +93,9 @@ abbrev mutual
   reading types.LargeBinary = bytes_in
   reading (types.List' shape item) = list_in (item_meaning item)
   reading (types.LargeList' shape item) = list_in (item_meaning item)
+  reading (types.FixedSizeList' shape item size) = sized_list_in size (item_meaning item)
   reading (types.Struct' shape fields) = struct_in (member_meanings fields)
+  reading (types.Dictionary' key shape value is_sorted) = inner_reading value
   reading _ = null_in
 
   -- an item, by the one field of a type of lists
@@ -101,9 +108,28 @@ abbrev mutual
   member_meanings end_of-Field members = []
   member_meanings (more_of-Field name t is_nullable metadata rest) members = reading t (out-Value (or_null (value_of name members))) ∷ member_meanings rest members
 
+  -- by the one type of a dictionary's values
+  pub inner_reading : {m : _} → Row_of-DataType m → Layer → Meaning
+  inner_reading end_of-DataType = null_in
+  inner_reading (more_of-DataType t rest) = reading t
+
 abbrev pub has_field : {m : _} → Row_of-Field m → Bool
 has_field end_of-Field = false
 has_field (more_of-Field name t is_nullable metadata rest) = true
+
+-- the types of a dictionary's values under which values are read
+abbrev pub is_value_type : DataType → Bool
+is_value_type types.Utf8 = true
+is_value_type types.LargeUtf8 = true
+is_value_type types.Int8 = true
+is_value_type types.Int16 = true
+is_value_type types.Int32 = true
+is_value_type types.Int64 = true
+is_value_type _ = false
+
+abbrev pub inner_is_value_type : {m : _} → Row_of-DataType m → Bool
+inner_is_value_type end_of-DataType = false
+inner_is_value_type (more_of-DataType t rest) = is_value_type t
 
 abbrev mutual
   -- whether values are read under a type
@@ -131,7 +157,9 @@ abbrev mutual
   has_reading types.LargeBinary = true
   has_reading (types.List' shape item) = have_reading item
   has_reading (types.LargeList' shape item) = have_reading item
+  has_reading (types.FixedSizeList' shape item size) = not (size == 0) && have_reading item
   has_reading (types.Struct' shape fields) = has_field fields && have_reading fields
+  has_reading (types.Dictionary' key shape value is_sorted) = inner_is_value_type value
   has_reading _ = false
 
   -- whether they are under the type of each field

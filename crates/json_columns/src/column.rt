@@ -1,19 +1,21 @@
 //! Columns of any type, a column at a time.
-ghost use Rattle.std.specs.Prelude.{◌≡◌, false, true, IfOk, IfErr};
+ghost use Rattle.std.specs.Prelude.{◌≡◌, ◌<◌, false, true, IfOk, IfErr};
 ghost use Rattle.arrow_array.specs.Arrays.{array_slots, array_type};
-ghost use Rattle.arrow_types.specs.declared.types.DataType.TheVariants.{LargeList as LargeListType, List as ListType, Struct as StructType};
+ghost use Rattle.arrow_types.specs.declared.types.DataType.TheVariants.{FixedSizeList as FixedSizeListType, LargeList as LargeListType, List as ListType, Struct as StructType};
 ghost use Rattle.json_tree.specs.Tree.{null as null_value};
 ghost use Rattle.json_flat.specs.Columns.{AreSlotsOf, lent, means};
-ghost use Rattle.json_columns.specs.Faults.{AreMemberColumns, IsFault, IsFieldsFault, IsListFault, IsMemberColumn, IsMemberFault, IsStructFault};
+ghost use Rattle.json_columns.specs.Dictionaries.{HasFirstItems};
+ghost use Rattle.json_columns.specs.Faults.{AreMemberColumns, IsFault, IsFieldsFault, IsListFault, IsMemberColumn, IsMemberFault, IsSizedFault, IsStructFault};
 ghost use Rattle.json_columns.specs.Gathered.{all_have_reading, field_meanings, struct_has_reading};
-ghost use Rattle.json_columns.specs.Reading.{has_reading, list_in, reading, struct_in};
+ghost use Rattle.json_columns.specs.Reading.{has_reading, list_in, reading, sized_list_in, struct_in};
 
+use crate::dictionary::read_dictionary;
 use crate::flat::read_flat;
-use crate::gather::{fill_lists, members_named, object_marks};
-use crate::parts::{large_list_array, list_array, struct_array};
+use crate::gather::{fill_lists, fill_sized, members_named, object_marks};
+use crate::parts::{fixed_list_array, large_list_array, list_array, struct_array};
 use arrow_array::Array;
 use arrow_core::Result;
-use arrow_flat::MutableLists;
+use arrow_flat::{MutableLists, MutableMarks};
 use arrow_types::{DataType, Field};
 use json_tree::Value;
 use std::alloc::Global;
@@ -35,13 +37,20 @@ pub(crate) fn read_column<'a>(
     ensures data_type { IfOk result (λ a. array_type a ≡ data_type.now) }
     ensures slots { IfOk result
         (λ a. AreSlotsOf (reading data_type.now) (lent values.now) (array_slots a)) }
+    ensures items { IfOk result (HasFirstItems data_type.now) }
     ensures err { IfErr result (IsFault data_type.now (lent values.now)) }
 {
     match data_type {
         DataType::List(item) => read_lists(alloc, item.get(), data_type, values, null),
         DataType::LargeList(item) => read_large_lists(alloc, item.get(), data_type, values, null),
+        DataType::FixedSizeList(item, size) => {
+            read_sized_lists(alloc, item.get(), *size, data_type, values, null)
+        }
         DataType::Struct(fields) => {
             read_structs(alloc, fields.as_slice(), data_type, values, null)
+        }
+        DataType::Dictionary(key, value_type, _) => {
+            read_dictionary(alloc, *key, value_type.get(), data_type, values)
         }
         _ => read_flat(alloc, data_type, values),
     }
@@ -93,6 +102,33 @@ fn read_large_lists<'a>(
     fill_lists(&mut lists, &mut items, values)?;
     let column = read_column(alloc, &item.data_type, items.as_slice(), null)?;
     large_list_array(alloc, &mut lists, column)
+}
+
+/// The column of lists of so many items of this field.
+#[cycle(columns)]
+fn read_sized_lists<'a>(
+    alloc: Global,
+    item: &Field,
+    size: usize,
+    data_type: &DataType,
+    values: &[&'a Value],
+    null: &'a Value,
+) -> Result<Array>
+    requires kind { data_type.now ≡ FixedSizeListType item.now size }
+    requires filled { 0 < size }
+    requires readable { has_reading item.now.data_type ≡ true }
+    requires null { null.now ≡ null_value }
+    ensures data_type { IfOk result (λ a. array_type a ≡ data_type.now) }
+    ensures slots { IfOk result
+        (λ a. AreSlotsOf (sized_list_in size (means (reading item.now.data_type)))
+        (lent values.now) (array_slots a)) }
+    ensures err { IfErr result (IsSizedFault size item.now (lent values.now)) }
+{
+    let mut marks = MutableMarks::new(alloc, data_type.try_clone(alloc)?);
+    let mut items = Vec::new(alloc);
+    fill_sized(&mut marks, &mut items, size, values, null)?;
+    let column = read_column(alloc, &item.data_type, items.as_slice(), null)?;
+    fixed_list_array(alloc, &mut marks, column)
 }
 
 /// The column of structs of these fields.

@@ -5,6 +5,7 @@ ghost use Rattle.arrow_array.specs.Parts.{IsPlain};
 ghost use Rattle.arrow_types.specs.declared.physical.PrimitiveType.TheVariants.{Int32 as Int32Layout, Int64 as Int64Layout};
 ghost use Rattle.json_flat.specs.Columns.{AreSlotsOf, IsColumnFault, lent};
 ghost use Rattle.json_flat.specs.Meaning.{int64_in};
+ghost use Rattle.json_columns.specs.Dictionaries.{HasFirstItems};
 ghost use Rattle.json_columns.specs.Faults.{IsFault};
 ghost use Rattle.json_columns.specs.Gathered.{HasNoFields};
 ghost use Rattle.json_columns.specs.Reading.{has_reading, int32_in, reading};
@@ -47,6 +48,7 @@ pub(crate) fn read_flat(alloc: Global, data_type: &DataType, values: &[&Value]) 
     ensures data_type { IfOk result (λ a. array_type a ≡ data_type.now) }
     ensures slots { IfOk result
         (λ a. AreSlotsOf (reading data_type.now) (lent values.now) (array_slots a)) }
+    ensures items { IfOk result (HasFirstItems data_type.now) }
     ensures err { IfErr result (IsFault data_type.now (lent values.now)) }
 {
     match data_type {

@@ -1,5 +1,5 @@
 //! Gathers the values beneath several values, and what they say of the slots above.
-ghost use Rattle.std.specs.Prelude.{◌≡◌, ◌++◌, ◌∷◌, [], ◌+◌, length, IfOk, IfErr, OnOk};
+ghost use Rattle.std.specs.Prelude.{◌≡◌, ◌++◌, ◌∷◌, [], ◌+◌, length, true, false, IfOk, IfErr, OnOk, MatchOption};
 ghost use Rattle.arrow_core.specs.Errors.{OnlyOutOfMemory};
 ghost use Rattle.arrow_flat.specs.Nested.{items_of};
 ghost use Rattle.arrow_types.specs.Numbers.{greatest_offset};
@@ -7,7 +7,7 @@ ghost use Rattle.json_tree.specs.Tree.{null as null_value};
 ghost use Rattle.json_tree.specs.declared.value.Value.{out-Value};
 ghost use Rattle.json_flat.specs.Columns.{lent};
 ghost use Rattle.json_columns.specs.Faults.{IsCountFault};
-ghost use Rattle.json_columns.specs.Gathered.{all_items, are_objects, is_object as is_object_of, items_in, len_in, list_lens, member_in, members_named as members_named_of};
+ghost use Rattle.json_columns.specs.Gathered.{all_items, all_sized, are_objects, are_sized, is_object as is_object_of, is_sized, items_in, len_in, list_lens, member_in, members_named as members_named_of, nulls, sized_items as sized_items_of};
 
 use arrow_core::Result;
 use arrow_flat::{MutableLists, MutableMarks};
@@ -68,6 +68,93 @@ pub(crate) fn fill_lists<'a, O: Offset>(
 {
     for value in values {
         push_list(lists, items, value)?;
+    }
+    Ok(())
+}
+
+/// Appends so many references to `null`.
+fn lend_nulls<'a>(lent_values: &mut Vec<&'a Value>, count: usize, null: &'a Value) -> Result<()>
+    requires null { null.now ≡ null_value }
+    ensures ok { OnOk result
+        (lent lent_values.new.items ≡ lent lent_values.old.items ++ nulls count) }
+    ensures memory { OnlyOutOfMemory result }
+{
+    lent_values.reserve(count)?;
+    for _ in 0..count {
+        lent_values.push(null)?;
+    }
+    Ok(())
+}
+
+/// The items of an array, where there are so many.
+fn sized_items(value: &Value, size: usize) -> Option<&[Value]>
+    ensures { MatchOption result
+        ((is_sized size (out-Value value.now) ≡ false)
+        × (sized_items_of size (out-Value value.now) ≡ nulls size))
+        (λ items. (is_sized size (out-Value value.now) ≡ true)
+        × (sized_items_of size (out-Value value.now) ≡ items.now)) }
+{
+    match value {
+        Value::Array(array) => {
+            let items = array.as_slice();
+            if items.len() == size {
+                Some(items)
+            } else {
+                None
+            }
+        }
+        _ => None,
+    }
+}
+
+/// Appends the items of an array, as one more list, where there are so many; any other value is a
+/// null, with as many null items.
+fn push_sized<'a>(
+    marks: &mut MutableMarks,
+    items: &mut Vec<&'a Value>,
+    size: usize,
+    value: &'a Value,
+    null: &'a Value,
+) -> Result<()>
+    requires null { null.now ≡ null_value }
+    ensures data_type { marks.new.data_type ≡ marks.old.data_type }
+    ensures booleans { OnOk result
+        (marks.new.booleans ≡ marks.old.booleans ++ is_sized size (out-Value value.now) ∷ []) }
+    ensures items { OnOk result (lent items.new.items
+        ≡ lent items.old.items ++ sized_items_of size (out-Value value.now)) }
+    ensures memory { OnlyOutOfMemory result }
+{
+    match sized_items(value, size) {
+        Some(list) => {
+            lend_all(items, list)?;
+            marks.push(true)
+        }
+        None => {
+            lend_nulls(items, size, null)?;
+            marks.push(false)
+        }
+    }
+}
+
+/// Appends the items of each array of so many, and each value as a list: such an array's items, and
+/// any other value as a null, with as many null items.
+pub(crate) fn fill_sized<'a>(
+    marks: &mut MutableMarks,
+    items: &mut Vec<&'a Value>,
+    size: usize,
+    values: &[&'a Value],
+    null: &'a Value,
+) -> Result<()>
+    requires null { null.now ≡ null_value }
+    requires no_list { marks.old.booleans ≡ [] }
+    requires no_item { items.old.items ≡ [] }
+    ensures data_type { marks.new.data_type ≡ marks.old.data_type }
+    ensures booleans { OnOk result (marks.new.booleans ≡ are_sized size (lent values.now)) }
+    ensures items { OnOk result (lent items.new.items ≡ all_sized size (lent values.now)) }
+    ensures memory { OnlyOutOfMemory result }
+{
+    for value in values {
+        push_sized(marks, items, size, value, null)?;
     }
     Ok(())
 }

@@ -2,6 +2,7 @@
 #![tactic(auto)]
 
 mod column;
+mod dictionary;
 mod flat;
 mod gather;
 mod names;

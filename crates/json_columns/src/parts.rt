@@ -1,15 +1,21 @@
-//! Arrays of lists and of structs, whose parts fit together.
-ghost use Rattle.std.specs.Prelude.{◌≡◌, ◌≤◌, ◌<◌, false, true, length, map, IfOk};
+//! Arrays of lists, of structs and of dictionaries, whose parts fit together.
+ghost use Rattle.std.specs.Prelude.{◌≡◌, ◌*◌, ◌≤◌, ◌<◌, false, true, length, map, IfOk};
 ghost use Rattle.arrow_array.specs.Arrays.{array_slots, array_type};
+ghost use Rattle.arrow_array.specs.declared.array.Array.TheVariants.{Dictionary as DictionaryOf};
+ghost use Rattle.arrow_array.specs.Dictionaries.{DictionaryColumn, DictionaryFits, keys_slots, keys_type, looked_up};
+ghost use Rattle.arrow_array.specs.FixedLists.{fixed_list_at, IsFixedListOf, list_size};
 ghost use Rattle.arrow_array.specs.Lists.{IsListOf};
 ghost use Rattle.arrow_array.specs.Structs.{IsStructOf, record_at};
 ghost use Rattle.arrow_core.specs.Errors.{OnlyOutOfMemory};
 ghost use Rattle.arrow_flat.specs.Builders.{slots_where};
 ghost use Rattle.arrow_flat.specs.Nested.{items_of, lists_from};
 
-use arrow_array::{Array, LargeListArray, ListArray, StructArray};
+use arrow_array::{
+    Array, DictionaryArray, FixedSizeListArray, Keys, LargeListArray, ListArray, StructArray,
+};
 use arrow_core::Result;
 use arrow_flat::{MutableLists, MutableMarks};
+use arrow_types::DataType;
 use std::alloc::Global;
 
 /// The array of the lists, each of which has the child's slots from the end of the one before.
@@ -48,6 +54,27 @@ pub(crate) fn large_list_array(
     Ok(Array::LargeList(array))
 }
 
+/// The array of the lists of neighbouring slots of the child, which are valid where the marks say so.
+pub(crate) fn fixed_list_array(
+    alloc: Global,
+    marks: &mut MutableMarks,
+    items: Array,
+) -> Result<Array>
+    requires filled { 0 < list_size marks.old.data_type }
+    requires kind { IsFixedListOf marks.old.data_type (array_type items) }
+    requires whole { length (array_slots items)
+        ≡ length marks.old.booleans * list_size marks.old.data_type }
+    ensures data_type { IfOk result (λ a. array_type a ≡ marks.old.data_type) }
+    ensures slots { IfOk result (λ a. array_slots a
+        ≡ slots_where marks.old.booleans
+        (fixed_list_at (list_size marks.old.data_type) (array_slots items))) }
+    ensures memory { OnlyOutOfMemory result }
+{
+    let (data_type, validity) = marks.take()?;
+    let array = FixedSizeListArray::try_new(alloc, data_type, items, Some(validity))?;
+    Ok(Array::FixedSizeList(array))
+}
+
 /// The array of the structs of the columns' slots, which are valid where the marks say so.
 pub(crate) fn struct_array(
     alloc: Global,
@@ -64,4 +91,25 @@ pub(crate) fn struct_array(
     let (data_type, validity) = marks.take()?;
     let array = StructArray::try_new(alloc, data_type, columns, Some(validity))?;
     Ok(Array::Struct(array))
+}
+
+/// The array of the dictionary of the items at the keys.
+pub(crate) fn dictionary_array(
+    alloc: Global,
+    data_type: DataType,
+    keys: Keys,
+    items: Array,
+) -> Result<Array>
+    requires fits { DictionaryFits data_type (keys_type keys) (keys_slots keys)
+        (array_type items) (length (array_slots items)) }
+    ensures data_type { IfOk result (λ a. array_type a ≡ data_type) }
+    ensures slots { IfOk result
+        (λ a. array_slots a ≡ map (looked_up (array_slots items)) (keys_slots keys)) }
+    ensures items { IfOk result
+        (λ a. (d : DictionaryColumn) × (a ≡ DictionaryOf d) × (d.slots ≡ array_slots a)
+        × (d.items ≡ array_slots items)) }
+    ensures memory { OnlyOutOfMemory result }
+{
+    let array = DictionaryArray::try_new(alloc, data_type, keys, items)?;
+    Ok(Array::Dictionary(array))
 }

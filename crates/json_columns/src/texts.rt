@@ -3,7 +3,7 @@ ghost use Rattle.std.specs.Prelude.{◌≡◌, MatchBool};
 ghost use Rattle.json_flat.specs.Columns.{Has, means};
 ghost use Rattle.json_flat.specs.Meaning.{moment_in, text_timestamp};
 ghost use Rattle.json_columns.specs.Gathered.{HasNoFields, field_meanings};
-ghost use Rattle.json_columns.specs.Reading.{list_in, or_null, reading, struct_in};
+ghost use Rattle.json_columns.specs.Reading.{list_in, or_null, reading, sized_list_in, struct_in};
 ghost use Rattle.json_columns.specs.Texts.{IsNoTimestamp, is_text, item_is_text, member_is_text};
 ghost use Rattle.json_tree.specs.Keys.{value_of};
 
@@ -34,7 +34,9 @@ pub(crate) fn has_text(data_type: &DataType, value: &Value) -> bool
         DataType::Timestamp(_, _) => is_string(value),
         DataType::List(item) => list_has_text(item.get(), value),
         DataType::LargeList(item) => list_has_text(item.get(), value),
+        DataType::FixedSizeList(item, size) => sized_list_has_text(item.get(), *size, value),
         DataType::Struct(fields) => struct_has_text(fields.as_slice(), value),
+        DataType::Dictionary(_, inner, _) => has_text(inner.get(), value),
         _ => has_no_text(data_type, value),
     }
 }
@@ -46,6 +48,21 @@ fn list_has_text(item: &Field, value: &Value) -> bool
 {
     match value {
         Value::Array(items) => items_have_text(item, items.as_slice()),
+        _ => false,
+    }
+}
+
+/// Whether a list of so many items of this field does.
+#[cycle(texts)]
+fn sized_list_has_text(item: &Field, size: usize, value: &Value) -> bool
+    ensures { result
+        ≡ is_text (means (sized_list_in size (means (reading item.now.data_type))) value.now) }
+{
+    match value {
+        Value::Array(array) => {
+            let items = array.as_slice();
+            items.len() == size && items_have_text(item, items)
+        }
         _ => false,
     }
 }

@@ -1,13 +1,30 @@
 //! Which types JSON values are read under.
 ghost use Rattle.std.specs.Prelude.{◌≡◌};
-ghost use Rattle.json_columns.specs.Gathered.{all_have_reading as all_have_reading_of, struct_has_reading as struct_has_reading_of};
-ghost use Rattle.json_columns.specs.Reading.{has_reading};
+ghost use Rattle.json_columns.specs.Gathered.{all_have_reading as all_have_reading_of, sized_list_has_reading as sized_list_has_reading_of, struct_has_reading as struct_has_reading_of};
+ghost use Rattle.json_columns.specs.Reading.{has_reading, is_value_type as is_value_type_of};
 
 use arrow_types::{DataType, Field, IntervalUnit};
 
+/// Whether values are read under a dictionary over this type.
+fn is_value_type(data_type: &DataType) -> bool
+    ensures { result ≡ is_value_type_of data_type.now }
+{
+    matches!(
+        data_type,
+        DataType::Utf8
+            | DataType::LargeUtf8
+            | DataType::Int8
+            | DataType::Int16
+            | DataType::Int32
+            | DataType::Int64
+    )
+}
+
 /// Whether JSON values are read under this type: Null, Boolean, integers of 8 to 64 bits, dates,
 /// times, timestamps, durations, intervals of months, Utf8, Binary and their large forms, List and
-/// LargeList of these, and Struct of at least one field, each of these. It takes no memory.
+/// LargeList of these, FixedSizeList of at least one of these, Struct of at least one field, each
+/// of these, and Dictionary over Utf8, LargeUtf8 or signed integers of 8 to 64 bits. It takes no
+/// memory.
 #[cycle(readable)]
 pub fn has_json_reading(data_type: &DataType) -> bool
     ensures { result ≡ has_reading data_type.now }
@@ -36,9 +53,19 @@ pub fn has_json_reading(data_type: &DataType) -> bool
         | DataType::LargeBinary => true,
         DataType::List(item) => has_json_reading(&item.get().data_type),
         DataType::LargeList(item) => has_json_reading(&item.get().data_type),
+        DataType::FixedSizeList(item, size) => sized_list_has_reading(item.get(), *size),
         DataType::Struct(fields) => struct_has_reading(fields.as_slice()),
+        DataType::Dictionary(_, value, _) => is_value_type(value.get()),
         _ => false,
     }
+}
+
+/// Whether lists have items, and values are read under their type.
+#[cycle(readable)]
+fn sized_list_has_reading(item: &Field, size: usize) -> bool
+    ensures { result ≡ sized_list_has_reading_of size item.now }
+{
+    size != 0 && has_json_reading(&item.data_type)
 }
 
 /// Whether there are fields, and values are read under the type of each.

@@ -2,6 +2,7 @@
 ghost use Rattle.std.specs.Prelude.{◌≡◌, true, false, IfOk, IfErr, OnOk};
 ghost use Rattle.arrow_array.specs.Arrays.{array_slots, array_type};
 ghost use Rattle.json_flat.specs.Columns.{AreSlotsOf};
+ghost use Rattle.json_columns.specs.Dictionaries.{HasFirstItems, HasFirstItemsUnder};
 ghost use Rattle.json_columns.specs.Names.{names_twice as names_twice_of};
 ghost use Rattle.json_columns.specs.Reading.{has_reading, reading};
 ghost use Rattle.json_columns.specs.Refusals.{IsColumnOf, IsListRefusal, IsRefusal, IsTypeRefusal};
@@ -41,6 +42,7 @@ fn read_all(alloc: Global, values: &[Value], data_type: &DataType) -> Result<Arr
     ensures data_type { IfOk result (λ a. array_type a ≡ data_type.now) }
     ensures slots { IfOk result
         (λ a. AreSlotsOf (reading data_type.now) values.now (array_slots a)) }
+    ensures items { IfOk result (HasFirstItems data_type.now) }
     ensures err { IfErr result (IsFault data_type.now values.now) }
 {
     let null = Value::Null;
@@ -55,13 +57,15 @@ fn read_all(alloc: Global, values: &[Value], data_type: &DataType) -> Result<Arr
 /// The first of these that applies: `InvalidArgumentError(DuplicateName)` where a Struct at any
 /// depth names a field twice, `NotYetImplemented(NoJsonReading)` where a type has no reading,
 /// `NotYetImplemented(TextTimestamp)` where a text stands under a timestamp, and `Overflow` where a
-/// number doesn't fit its type, or the items of lists or the bytes of strings or of binary values
-/// are more together than the greatest offset, 2^31 - 1 or 2^63 - 1. `OutOfMemory` may come in
-/// place of any answer.
+/// number doesn't fit its type, the items of lists or the bytes of strings or of binary values are
+/// more together than the greatest offset, 2^31 - 1 or 2^63 - 1, or the distinct slots of a
+/// dictionary are more than its keys have numbers from 0 on. `OutOfMemory` may come in place of any
+/// answer.
 pub fn read_values(alloc: Global, values: &[Value], data_type: &DataType) -> Result<Array>
     ensures data_type { IfOk result (λ a. array_type a ≡ data_type.now) }
     ensures slots { IfOk result
         (λ a. AreSlotsOf (reading data_type.now) values.now (array_slots a)) }
+    ensures items { IfOk result (HasFirstItems data_type.now) }
     ensures distinct { OnOk result (names_twice_of data_type.now ≡ false) }
     ensures readable { OnOk result (has_reading data_type.now ≡ true) }
     ensures err { IfErr result (IsRefusal data_type.now values.now) }
@@ -108,6 +112,7 @@ fn overflow(data_type: &DataType, values: &[Value]) -> Error
 pub fn deserialize(alloc: Global, json: &Value, data_type: DataType) -> Result<Array>
     ensures column { IfOk result
         (λ a. IsColumnOf json.now data_type (array_type a) (array_slots a)) }
+    ensures items { IfOk result (HasFirstItemsUnder data_type) }
     ensures err { IfErr result (IsListRefusal json.now data_type) }
 {
     match json {
@@ -120,6 +125,7 @@ pub fn deserialize(alloc: Global, json: &Value, data_type: DataType) -> Result<A
 fn read_items(alloc: Global, items: &[Value], data_type: &DataType) -> Result<Array>
     ensures column { IfOk result
         (λ a. IsColumnOf (array items.now) data_type.now (array_type a) (array_slots a)) }
+    ensures items { IfOk result (HasFirstItemsUnder data_type.now) }
     ensures err { IfErr result (IsListRefusal (array items.now) data_type.now) }
 {
     match data_type {

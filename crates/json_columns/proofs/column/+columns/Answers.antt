@@ -2,17 +2,21 @@
 use Rattle.std.proofs.Common.{ap, sym, ◌∙◌, false, true, rules}
 use Rattle.std.proofs.lemmas.Result.{err_from_is_err_and}
 use Rattle.arrow_array.specs.Arrays.{array_slots}
+use Rattle.arrow_array.specs.Dictionaries.{IsDictionaryOf}
 use Rattle.arrow_types.proofs.types.DataType.TheLaws.{the_size}
 use Rattle.arrow_types.proofs.types.Field.TheLaws.{the_size as field_size}
 use Rattle.arrow_types.specs.declared.types.DataType.TheVariants as types
 use Rattle.arrow_types.specs.declared.types.DataType.TheViews.{the_lemmas}
 use Rattle.json_flat.specs.Columns.{lent, means}
 use Rattle.json_columns.specs.Faults.{TooManyListed}
-use Rattle.json_columns.specs.Reading.{list_in, reading}
-use Rattle.json_columns.proofs.ByFields.{list_ok, list_err, large_list_ok, large_list_err, struct_ok, struct_err, list_item_readable, large_list_item_readable, struct_fields_readable}
+use Rattle.json_columns.specs.Reading.{list_in, reading, sized_list_in}
+use Rattle.json_columns.proofs.ByFields.{list_ok, list_err, large_list_ok, large_list_err, struct_ok, struct_err, list_item_readable, large_list_item_readable, struct_fields_readable, dictionary_err, dictionary_item, dictionary_ok, list_items, large_list_items, sized_list_items, struct_items, sized_err, sized_item, sized_ok}
 use Rattle.json_columns.proofs.FieldColumns.{one_column, struct_children, some_column, field_fault, members_fault}
 use Rattle.json_columns.proofs.ListColumns.{items_enough, lists_column, gathered_fault, count_fault, memory_fault}
 use Rattle.json_columns.proofs.Rows.{structs_column}
+use Rattle.json_columns.specs.Faults.{TooMany}
+use Rattle.json_columns.specs.Gathered.{all_sized}
+use Rattle.json_columns.proofs.SizedLists as sized
 use Rattle.json_columns.proofs.column.+columns.Goals as goal
 
 pub read_column-read_lists-requires : goal.read_column-read_lists-requires
@@ -130,3 +134,69 @@ read_structs-struct_array-requires-clause-kind t c =
 pub read_structs-returns-clause-slots : goal.read_structs-returns-clause-slots
 read_structs-returns-clause-slots t c =
     structs_column c.args.fields.now (lent c.args.values.now) c.in_ok-columns.columns.items _ c.struct_array.result c.in_ok-columns.ensures.columns c.in_ok-marks.ensures.booleans c.struct_array.ensures.slots
+
+pub read_column-read_sized_lists-requires : goal.read_column-read_sized_lists-requires
+read_column-read_sized_lists-requires t c =
+    let kind = c.in-FixedSizeList.is ∙ ap (λ f. types.FixedSizeList f c.in-FixedSizeList.size) (sym c.get-in-FixedSizeList.ensures) in
+    let p = sized_item c.args.data_type.now c.get-in-FixedSizeList.result.now c.in-FixedSizeList.size kind c.requires.readable in
+    (let e = ap the_size c.in-FixedSizeList.is in let a = ap field_size c.get-in-FixedSizeList.ensures in let d = c.decreases in search (rules, the_lemmas), (kind, (p.0, (p.1, c.requires.null))))
+
+pub read_column-returns-in-FixedSizeList-clause-slots : goal.read_column-returns-in-FixedSizeList-clause-slots
+read_column-returns-in-FixedSizeList-clause-slots t c =
+    sized_ok c.args.data_type.now c.get-in-FixedSizeList.result.now c.in-FixedSizeList.size (c.in-FixedSizeList.is ∙ ap (λ f. types.FixedSizeList f c.in-FixedSizeList.size) (sym c.get-in-FixedSizeList.ensures)) (lent c.args.values.now) c.read_sized_lists.result c.read_sized_lists.ensures.slots
+
+pub read_column-returns-in-FixedSizeList-clause-err : goal.read_column-returns-in-FixedSizeList-clause-err
+read_column-returns-in-FixedSizeList-clause-err t c =
+    sized_err c.args.data_type.now c.get-in-FixedSizeList.result.now c.in-FixedSizeList.size (c.in-FixedSizeList.is ∙ ap (λ f. types.FixedSizeList f c.in-FixedSizeList.size) (sym c.get-in-FixedSizeList.ensures)) (lent c.args.values.now) c.read_sized_lists.result c.read_sized_lists.ensures.err
+
+pub read_sized_lists-returns-in_err-column-clause-err : goal.read_sized_lists-returns-in_err-column-clause-err
+read_sized_lists-returns-in_err-column-clause-err t c =
+    let p = err_from_is_err_and c.from_residual-in_err-column.result c.from_residual-in_err-column.ensures.1 in
+    rw (p.1, p.2) (sized.item_fault c.args.size c.args.item.now (lent c.args.values.now) (lent c.as_slice.result.now) _ (ap lent c.as_slice.ensures.value ∙ c.in_ok-fill_sized.ensures.items) c.in_err-column.ensures.err)
+
+pub read_sized_lists-fixed_list_array-requires-clause-filled : goal.read_sized_lists-fixed_list_array-requires-clause-filled
+read_sized_lists-fixed_list_array-requires-clause-filled t c = sized.filled_is _ c.args.item.now c.args.size (c.fill_sized.ensures.data_type ∙ c.new-marks.ensures.data_type ∙ c.in_ok-try_clone.ensures.copy ∙ c.requires.kind) c.requires.filled
+
+pub read_sized_lists-fixed_list_array-requires-clause-kind : goal.read_sized_lists-fixed_list_array-requires-clause-kind
+read_sized_lists-fixed_list_array-requires-clause-kind t c = sized.kind_is _ c.args.item.now c.args.size (c.fill_sized.ensures.data_type ∙ c.new-marks.ensures.data_type ∙ c.in_ok-try_clone.ensures.copy ∙ c.requires.kind) _ c.in_ok-column.ensures.data_type
+
+pub read_sized_lists-fixed_list_array-requires-clause-whole : goal.read_sized_lists-fixed_list_array-requires-clause-whole
+read_sized_lists-fixed_list_array-requires-clause-whole t c =
+    sized.whole_is _ c.args.item.now c.args.size (c.fill_sized.ensures.data_type ∙ c.new-marks.ensures.data_type ∙ c.in_ok-try_clone.ensures.copy ∙ c.requires.kind) _ _
+    (sized.items_enough (reading c.args.item.now.data_type) c.args.size (lent c.args.values.now) (lent c.as_slice.result.now) _ (array_slots c.in_ok-column.column) c.in_ok-fill_sized.ensures.booleans (ap lent c.as_slice.ensures.value ∙ c.in_ok-fill_sized.ensures.items) c.in_ok-column.ensures.slots)
+
+pub read_sized_lists-returns-clause-slots : goal.read_sized_lists-returns-clause-slots
+read_sized_lists-returns-clause-slots t c =
+    sized.lists_column (reading c.args.item.now.data_type) c.args.size (lent c.args.values.now) (lent c.as_slice.result.now) _ (array_slots c.in_ok-column.column) c.fixed_list_array.result c.in_ok-fill_sized.ensures.booleans (ap lent c.as_slice.ensures.value ∙ c.in_ok-fill_sized.ensures.items) c.in_ok-column.ensures.slots
+    (sized.slots_are _ c.args.item.now c.args.size (c.fill_sized.ensures.data_type ∙ c.new-marks.ensures.data_type ∙ c.in_ok-try_clone.ensures.copy ∙ c.requires.kind) _ (array_slots c.in_ok-column.column) c.fixed_list_array.result c.fixed_list_array.ensures.slots)
+
+pub read_sized_lists-returns-clause-err : goal.read_sized_lists-returns-clause-err
+read_sized_lists-returns-clause-err t c =
+    memory_fault (sized_list_in c.args.size (means (reading c.args.item.now.data_type))) (TooMany c.args.item.now.data_type (all_sized c.args.size (lent c.args.values.now))) (lent c.args.values.now) c.fixed_list_array.result c.fixed_list_array.ensures.memory
+
+pub read_column-returns-in-List-clause-items : goal.read_column-returns-in-List-clause-items
+read_column-returns-in-List-clause-items t c = list_items c.args.data_type.now c.in-List.item c.in-List.is c.read_lists.result
+
+pub read_column-returns-in-LargeList-clause-items : goal.read_column-returns-in-LargeList-clause-items
+read_column-returns-in-LargeList-clause-items t c = large_list_items c.args.data_type.now c.in-LargeList.item c.in-LargeList.is c.read_large_lists.result
+
+pub read_column-returns-in-FixedSizeList-clause-items : goal.read_column-returns-in-FixedSizeList-clause-items
+read_column-returns-in-FixedSizeList-clause-items t c = sized_list_items c.args.data_type.now c.in-FixedSizeList.item c.in-FixedSizeList.size c.in-FixedSizeList.is c.read_sized_lists.result
+
+pub read_column-returns-in-Struct-clause-items : goal.read_column-returns-in-Struct-clause-items
+read_column-returns-in-Struct-clause-items t c = struct_items c.args.data_type.now c.in-Struct.fields c.in-Struct.is c.read_structs.result
+
+pub read_column-read_dictionary-requires : goal.read_column-read_dictionary-requires
+read_column-read_dictionary-requires t c =
+    let kind : IsDictionaryOf c.in-Dictionary.key c.args.data_type.now c.get-in-Dictionary.result.now = (c.in-Dictionary.field-2, c.in-Dictionary.is ∙ ap (λ v. types.Dictionary c.in-Dictionary.key v c.in-Dictionary.field-2) (sym c.get-in-Dictionary.ensures)) in
+    record { kind = kind; value_type = dictionary_item c.args.data_type.now c.get-in-Dictionary.result.now c.in-Dictionary.key kind c.requires.readable }
+
+pub read_column-returns-in-Dictionary-clause-slots : goal.read_column-returns-in-Dictionary-clause-slots
+read_column-returns-in-Dictionary-clause-slots t c =
+    let kind : IsDictionaryOf c.in-Dictionary.key c.args.data_type.now c.get-in-Dictionary.result.now = (c.in-Dictionary.field-2, c.in-Dictionary.is ∙ ap (λ v. types.Dictionary c.in-Dictionary.key v c.in-Dictionary.field-2) (sym c.get-in-Dictionary.ensures)) in
+    dictionary_ok c.args.data_type.now c.get-in-Dictionary.result.now c.in-Dictionary.key kind (lent c.args.values.now) c.read_dictionary.result c.read_dictionary.ensures.slots
+
+pub read_column-returns-in-Dictionary-clause-err : goal.read_column-returns-in-Dictionary-clause-err
+read_column-returns-in-Dictionary-clause-err t c =
+    let kind : IsDictionaryOf c.in-Dictionary.key c.args.data_type.now c.get-in-Dictionary.result.now = (c.in-Dictionary.field-2, c.in-Dictionary.is ∙ ap (λ v. types.Dictionary c.in-Dictionary.key v c.in-Dictionary.field-2) (sym c.get-in-Dictionary.ensures)) in
+    dictionary_err c.args.data_type.now c.get-in-Dictionary.result.now c.in-Dictionary.key kind (lent c.args.values.now) c.read_dictionary.result c.read_dictionary.ensures.err
