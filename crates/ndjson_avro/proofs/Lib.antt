@@ -5,6 +5,7 @@ pub mod Nexts
 pub mod NullTypes
 pub mod Parsing
 pub mod PartOf
+pub mod Straight
 pub mod Reasons
 pub mod Refused
 pub mod Roots

@@ -1,6 +1,5 @@
 -- One batch that is written, and why one isn't.
 use Rattle.std.proofs.Common.{◌≡◌, ◌∙◌, inl, inr, ℕ, ◌<◌, ◌≤◌, List, [], ◌∷◌, length, Option, refl, sym, ap, subst, arith}
-use Rattle.std.specs.List.{AllZip}
 use Rattle.std.specs.Io.KnownBytes.{Appends}
 use Rattle.std.proofs.KnownBytes.{Appends-nil}
 use Rattle.std.proofs.lemmas.List.{append-nil}
@@ -12,35 +11,32 @@ use Rattle.arrow_types.specs.declared.types.DataType.{DataType}
 use Rattle.avro_container.specs.Canonical.{canonical_block, canonical_blocks}
 use Rattle.avro_container.specs.File.{FileBlock, the_block}
 use Rattle.avro_schema.specs.declared.schema.Schema.{Schema}
-use Rattle.json_tree.specs.Meaning.{IsJson}
-use Rattle.json_tree.specs.Tree.{Json}
 use Rattle.ndjson_read.specs.Reading.{State}
 use Rattle.ndjson_read.proofs.RowLemmas.{rose_after}
 use Rattle.avro_blocks.specs.Changes.{change_of}
 use Rattle.ndjson_avro.specs.Batches.{BatchFails, StopsAtBatch}
 use Rattle.ndjson_avro.specs.Rows.{AreRows, rows_block, rows_blocks}
-use Rattle.ndjson_avro.specs.Steps.{EncodesValues, NextWritten, WrittenSoFar, as_batch}
-use Rattle.ndjson_avro.specs.BatchSteps.{TakesBatch}
-use Rattle.ndjson_avro.proofs.Batching.{no_rows, slots_length, zip_length}
+use Rattle.ndjson_avro.specs.Steps.{EncodesRows, NextWritten, WrittenSoFar, as_batch}
+use Rattle.ndjson_avro.specs.BatchSteps.{TakesSome}
+use Rattle.ndjson_avro.proofs.Batching.{no_rows, rows_length}
 
-none_left : (values : List Json) (texts : List (List ℕ)) → length values ≡ 0 → AllZip IsJson values texts → texts ≡ []
-none_left [] [] e h = refl
-none_left [] (t ∷ texts) e h = absurd h
-none_left (v ∷ values) texts e h = absurd (omega (arith, e))
+none_left : (texts : List (List ℕ)) → length texts ≡ 0 → texts ≡ []
+none_left [] e = refl
+none_left (t ∷ texts) e = absurd (omega (arith, e))
 
 one_block : (root : Schema) (marker : List ℕ) (held after : Option (List ℕ)) (slots : List Slot) (block : FileBlock) → 0 < length slots → block ≡ rows_block root slots → Appends held after (canonical_block marker block) → Appends held after (canonical_blocks marker (rows_blocks root (as_batch slots)))
 one_block root marker held after [] block some is h = absurd (omega (arith, some))
 one_block root marker held after (x ∷ slots) block some is h =
     subst (Appends held after) (ap (canonical_block marker) is ∙ sym (append-nil (canonical_block marker (rows_block root (x ∷ slots))))) h
 
--- a block states as many rows as there are values
-pub block_count : (t : DataType) (root : Schema) (values : List Json) (rows : ℕ) (bytes : List ℕ) → EncodesValues t root values (the_block rows bytes) → rows ≡ length values
-block_count t root values rows bytes e = ap (λ (b : FileBlock). b.rows) e.is ∙ slots_length t values e.slots e.meant
+-- a block states as many rows as there are texts
+pub block_count : (t : DataType) (root : Schema) (texts : List (List ℕ)) (rows : ℕ) (bytes : List ℕ) → EncodesRows t root texts (the_block rows bytes) → rows ≡ length texts
+block_count t root texts rows bytes e = ap (λ (b : FileBlock). b.rows) e.is ∙ rows_length t root texts e.slots e.rows
 
 module _ (t : DataType) (root : Schema) (marker : List ℕ) (n : ℕ) (old new : State) where
-  pub none_written_next : (held : Option (List ℕ)) (values given : List Json) → given ≡ values → length given ≡ 0 → TakesBatch n old new values → NextWritten t root marker n old new held held 0
-  none_written_next held values given same e (texts, takes, have) =
-      let none = none_left values texts (ap length (sym same) ∙ e) have in
+  pub none_written_next : (held : Option (List ℕ)) (texts given : List (List ℕ)) → given ≡ texts → length given ≡ 0 → TakesSome n old new texts → NextWritten t root marker n old new held held 0
+  none_written_next held texts given same e takes =
+      let none = none_left texts (ap length (sym same) ∙ e) in
       record {
         texts = texts;
         takes = takes;
@@ -50,30 +46,27 @@ module _ (t : DataType) (root : Schema) (marker : List ℕ) (n : ℕ) (old new :
         counted = sym (ap length none);
       }
 
-  rows_of_values : (values : List Json) (texts : List (List ℕ)) (block : FileBlock) → AllZip IsJson values texts → (e : EncodesValues t root values block) → AreRows t root texts e.slots
-  rows_of_values values texts block have e = record { values = values; have = have; objects = e.objects; meant = e.meant; complete = e.complete; paired = e.paired }
-
-  pub written_next : (held after : Option (List ℕ)) (values given : List Json) (block : FileBlock) (count : ℕ) → given ≡ values → count ≡ length given → 0 < count → TakesBatch n old new values → EncodesValues t root given block → Appends held after (canonical_block marker block) → NextWritten t root marker n old new held after count
-  written_next held after values given block count same is some (texts, takes, have) e appended = record {
+  pub written_next : (held after : Option (List ℕ)) (texts given : List (List ℕ)) (block : FileBlock) (count : ℕ) → given ≡ texts → count ≡ length given → 0 < count → TakesSome n old new texts → EncodesRows t root given block → Appends held after (canonical_block marker block) → NextWritten t root marker n old new held after count
+  written_next held after texts given block count same is some takes e appended = record {
     texts = texts;
     takes = takes;
     slots = e.slots;
-    rows = rows_of_values given texts block (subst (λ (vs : List Json). AllZip IsJson vs texts) (sym same) have) e;
-    written = one_block root marker held after e.slots block (omega (arith, slots_length t given e.slots e.meant, is, some)) e.is appended;
-    counted = is ∙ ap length same ∙ zip_length IsJson values texts have;
+    rows = subst (λ (z : List (List ℕ)). AreRows t root z e.slots) same e.rows;
+    written = one_block root marker held after e.slots block (omega (arith, rows_length t root given e.slots e.rows, is, some)) e.is appended;
+    counted = is ∙ ap length same;
   }
 
-  pub breaks_off : (held after : Option (List ℕ)) (faults faults_after : ℕ) (values given : List Json) (block : FileBlock) (e : Error) → given ≡ values → 0 < length given → TakesBatch n old new values → EncodesValues t root given block → e ≡ WriteFault → AppendsPrefix held after (canonical_block marker block) → RoseOrFull faults faults_after
+  pub breaks_off : (held after : Option (List ℕ)) (faults faults_after : ℕ) (texts given : List (List ℕ)) (block : FileBlock) (e : Error) → given ≡ texts → 0 < length given → TakesSome n old new texts → EncodesRows t root given block → e ≡ WriteFault → AppendsPrefix held after (canonical_block marker block) → RoseOrFull faults faults_after
       → BatchFails t root marker n old new (change_of held faults after faults_after) e
-  breaks_off held after faults faults_after values given block e same some (texts, takes, have) encodes is prefix cause = inr (record {
+  breaks_off held after faults faults_after texts given block e same some takes encodes is prefix cause = inr (record {
     is = is;
     texts = texts;
     takes = takes.takes;
-    some = omega (arith, some, ap length same, zip_length IsJson values texts have);
+    some = omega (arith, some, ap length same);
     most = takes.most;
     fewer = takes.fewer;
     slots = encodes.slots;
-    rows = rows_of_values given texts block (subst (λ (vs : List Json). AllZip IsJson vs texts) (sym same) have) encodes;
+    rows = subst (λ (z : List (List ℕ)). AreRows t root z encodes.slots) same encodes.rows;
     prefix = subst (λ (b : FileBlock). AppendsPrefix held after (canonical_block marker b)) encodes.is prefix;
     failed = cause;
   })

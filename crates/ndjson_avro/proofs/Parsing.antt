@@ -1,6 +1,7 @@
--- Rows that are parsed into a batch.
-use Rattle.std.proofs.Common.{◌≡◌, ◌∙◌, ℕ, ◌+◌, ◌≤◌, List, [], ◌∷◌, ◌++◌, length, get_or, Option, Some, None, refl, sym, ap, subst, append_assoc, arith}
-use Rattle.std.proofs.lemmas.List.{length-append}
+-- Texts that are parsed, and rows that a reader shows.
+use Rattle.std.proofs.Common.{◌≡◌, ◌∙◌, ℕ, zero, suc, ◌+◌, ◌<◌, ◌≤◌, List, [], ◌∷◌, ◌++◌, length, get_or, take, drop, Option, None, refl, sym, ap, subst, arith}
+use Rattle.std.proofs.Math.Seq.{drop-cons}
+use Rattle.std.proofs.lemmas.List.{take-append-drop, take_more}
 use Rattle.std.specs.List.{AllZip}
 use Rattle.arrow_core.specs.declared.error.Error.{Error}
 use Rattle.json_tree.specs.declared.value.JsonFault.{JsonFault}
@@ -9,9 +10,7 @@ use Rattle.json_tree.specs.Meaning.{HoldsTooMany, IsErrorOf, IsJson, IsJsonText}
 use Rattle.json_tree.specs.Tree.{Json}
 use Rattle.ndjson_read.specs.FileReader.{fewer_of}
 use Rattle.ndjson_read.specs.Reading.{State, ShowsRows}
-use Rattle.ndjson_avro.specs.BatchSteps.{HoldsRows, HoldsValues}
 use Rattle.ndjson_avro.specs.Values.{FirstWithout, IsNoValue}
-use Rattle.ndjson_avro.specs.declared.batch.Batch.{Batch}
 
 -- why a row has no value, by the fault that parsing it gave
 pub no_value : (row : List ℕ) (fault : JsonFault) (e : Error) → IsErrorOf fault e → (fault ≡ Depth → HoldsTooMany row) → (fault ≡ Text → HoldsTooMany row → ⊥) → (fault ≡ Text → (value : Json) → IsJsonText value row → ⊥) → IsNoValue row e
@@ -19,7 +18,7 @@ no_value row Text e is deep not_deep text = subst (IsNoValue row) (sym is) (not_
 no_value row Depth e is deep not_deep text = subst (IsNoValue row) (sym is) (deep refl)
 no_value row Memory e is deep not_deep text = subst (IsNoValue row) (sym is) tt
 
--- ---- a row into a batch
+-- ---- the values of texts
 
 zip_push : {A B : Type 0} (R : A → B → Type 0) (xs : List A) (ys : List B) (x : A) (y : B) → AllZip R xs ys → R x y → AllZip R (xs ++ x ∷ []) (ys ++ y ∷ [])
 zip_push R [] [] x y h r = (r, tt)
@@ -27,38 +26,31 @@ zip_push R [] (v ∷ ys) x y h r = absurd h
 zip_push R (u ∷ xs) [] x y h r = absurd h
 zip_push R (u ∷ xs) (v ∷ ys) x y h r = (h.0, zip_push R xs ys x y h.1 r)
 
--- its value was pushed
-pub value_pushed : (values after : List Json) (fault : Option Error) (row : List ℕ) (value : Json) → after ≡ values ++ value ∷ [] → IsJson value row → fault ≡ None → (texts : List (List ℕ)) → AllZip IsJson values texts → HoldsValues after fault (texts ++ row ∷ [])
-value_pushed values after fault row value pushed is sound texts h =
-    subst (λ (f : Option Error). HoldsValues after f (texts ++ row ∷ [])) (sym sound)
-    (subst (λ (vs : List Json). AllZip IsJson vs (texts ++ row ∷ [])) (sym pushed) (zip_push IsJson values texts value row h is))
+-- the value of one text more
+pub value_pushed : (texts : List (List ℕ)) (i : ℕ) (text : List ℕ) (values after : List Json) (value : Json) → i < length texts → text ≡ get_or texts i text → AllZip IsJson values (take i texts) → IsJson value text → after ≡ values ++ value ∷ [] → AllZip IsJson after (take (i + 1) texts)
+value_pushed texts i text values after value l is h json pushed =
+    let more : take (i + 1) texts ≡ take i texts ++ text ∷ [] = take_more texts i text l ∙ ap (λ (z : List ℕ). take i texts ++ z ∷ []) (sym is) in
+    subst (λ (vs : List Json). AllZip IsJson vs (take (i + 1) texts)) (sym pushed) (subst (λ (ts : List (List ℕ)). AllZip IsJson (values ++ value ∷ []) ts) (sym more) (zip_push IsJson values (take i texts) value text h json))
 
-fault_stays : (texts : List (List ℕ)) (row : List ℕ) (e : Error) → FirstWithout texts e → FirstWithout (texts ++ row ∷ []) e
-fault_stays texts row e f = record {
-  before = f.before;
-  text = f.text;
-  after = f.after ++ row ∷ [];
-  split = ap (λ (z : List (List ℕ)). z ++ row ∷ []) f.split ∙ append_assoc f.before (f.text ∷ f.after) (row ∷ []);
-  values = f.values;
-  have = f.have;
-  fault = f.fault;
-}
+take_all : {A : Type 0} (xs : List A) (n : ℕ) → length xs ≤ n → take n xs ≡ xs
+take_all [] zero h = refl
+take_all [] (suc n) h = refl
+take_all (x ∷ xs) zero h = absurd (omega (arith, h))
+take_all (x ∷ xs) (suc n) h = ap (λ (ys : List _). x ∷ ys) (take_all xs n (omega (arith, h)))
 
-push_rows : (n : ℕ) (texts : List (List ℕ)) (row : List ℕ) → n ≡ length texts → n + 1 ≡ length (texts ++ row ∷ [])
-push_rows n texts row e = omega (arith, e, length-append texts (row ∷ []))
+pub all_valued : (texts : List (List ℕ)) (i : ℕ) (values : List Json) → length texts ≤ i → AllZip IsJson values (take i texts) → AllZip IsJson values texts
+all_valued texts i values l h = subst (λ (ts : List (List ℕ)). AllZip IsJson values ts) (take_all texts i l) h
 
--- one before it has none
-pub pushes_after : (before after : Batch) (row : List ℕ) (e : Error) → before.fault ≡ Some e → after.fault ≡ before.fault → after.rows ≡ before.rows + 1 → (texts : List (List ℕ)) → HoldsRows before texts → HoldsRows after (texts ++ row ∷ [])
-pushes_after before after row e fault same rows texts h = record {
-  rows = rows ∙ push_rows before.rows texts row h.rows;
-  values = subst (λ (f : Option Error). HoldsValues after.values.items f (texts ++ row ∷ [])) (sym (same ∙ fault))
-      (fault_stays texts row e (subst (λ (f : Option Error). HoldsValues before.values.items f texts) fault h.values));
-}
-
-pub holds_none : (batch : Batch) → batch.values.items ≡ [] → batch.rows ≡ 0 → batch.fault ≡ None → HoldsRows batch []
-holds_none batch values rows fault = record {
-  rows = rows;
-  values = subst (λ (f : Option Error). HoldsValues batch.values.items f []) (sym fault) (subst (λ (vs : List Json). AllZip IsJson vs []) (sym values) tt);
+-- this text has none
+pub first_without : (texts : List (List ℕ)) (i : ℕ) (text given : List ℕ) (values : List Json) (e : Error) → i < length texts → text ≡ get_or texts i text → given ≡ text → AllZip IsJson values (take i texts) → IsNoValue given e → FirstWithout texts e
+first_without texts i text given values e l is same h fault = record {
+  before = take i texts;
+  text = text;
+  after = drop (suc i) texts;
+  split = sym (take-append-drop i texts) ∙ ap (λ (ts : List (List ℕ)). take i texts ++ ts) (drop-cons texts i text l ∙ ap (λ (z : List ℕ). z ∷ drop (suc i) texts) (sym is));
+  values = values;
+  have = h;
+  fault = subst (λ (t : List ℕ). IsNoValue t e) same fault;
 }
 
 -- ---- what a reader of one row at a time shows

@@ -1,5 +1,5 @@
 -- Why a step isn't taken, by the errors of the calls that it makes.
-use Rattle.std.proofs.Common.{◌≡◌, ◌∙◌, inl, inr, ℕ, true, false, ◌||◌, List, [], ◌∷◌, Option, None, refl, sym, subst}
+use Rattle.std.proofs.Common.{◌≡◌, ◌∙◌, inl, inr, ℕ, true, false, ◌||◌, List, [], ◌∷◌, length, Option, None, refl, sym, subst}
 use Rattle.std.specs.Prelude.{All}
 use Rattle.std.specs.List.{list_any}
 use Rattle.std.proofs.lemmas.Bool.{false≢true}
@@ -16,18 +16,20 @@ use Rattle.avro_record.specs.Schemas.{NoAvroTypeWhere, record_of}
 use Rattle.avro_schema.specs.declared.schema.Schema.{Schema}
 use Rattle.avro_write.specs.declared.flaws.Flaw.TheVariants as flaw
 use Rattle.avro_write.specs.Flaws.{IsRefused, shows}
-use Rattle.json_columns.specs.Reading.{reading}
 use Rattle.json_columns.specs.Refusals.{IsRefusal}
-use Rattle.json_flat.specs.Columns.{AreSlotsOf}
+use Rattle.json_tree.specs.Meaning.{IsJson}
 use Rattle.json_tree.specs.Tree.{Json}
+use Rattle.avro_container.specs.File.{FileBlock}
+use Rattle.avro_encode.specs.Pairs.{Pairs}
 use Rattle.ndjson_read.specs.Reading.{State}
 use Rattle.avro_blocks.specs.Changes.{change_of}
 use Rattle.ndjson_avro.specs.Batches.{BatchFails}
-use Rattle.ndjson_avro.specs.Rows.{AreNotWritten}
-use Rattle.ndjson_avro.specs.Steps.{HoldOther, IsNotEncoded, IsRootOf}
+use Rattle.ndjson_avro.specs.Rows.{lacks_value, rows_block, AreNotWritten, AreRefused}
+use Rattle.ndjson_avro.specs.Steps.{AreNotEncoded, AreNotRead, AreRead, EncodesRows, HoldOther, IsNotEncoded, IsRootOf}
 use Rattle.ndjson_avro.specs.Target.{AreNamed, HasNoTarget}
-use Rattle.ndjson_avro.specs.BatchSteps.{NoBatch, TakesBatch}
+use Rattle.ndjson_avro.specs.BatchSteps.{NoRowsOf, TakesSome}
 use Rattle.ndjson_avro.specs.Values.{is_object}
+use Rattle.ndjson_avro.proofs.Batching.{slots_length, zip_length}
 
 -- ---- the record
 
@@ -64,18 +66,37 @@ not_read t root values _ is objects h = absurd h
 pub other_value : (t : DataType) (root : Schema) (values : List Json) (e : Error) → HoldOther values e → AreNotWritten t root values e
 other_value t root values e h = subst (AreNotWritten t root values) (sym h.0) h.1
 
-pub lacks_a_value : (t : DataType) (root : Schema) (values : List Json) (slots : List Slot) (e : Error) → All (λ v. is_object v ≡ true) values → AreSlotsOf (reading t) values slots → IsNotEncoded root slots e → AreNotWritten t root values e
-lacks_a_value t root values slots e objects meant (inl memory) = subst (AreNotWritten t root values) (sym memory) tt
-lacks_a_value t root values slots e objects meant (inr h) = subst (AreNotWritten t root values) (sym h.0) (objects, (slots, meant, h.1))
+-- texts that aren't read aren't written
+pub not_written_rows : (t : DataType) (root : Schema) (texts : List (List ℕ)) (e : Error) → IsRootOf root t → AreNotRead t texts e → AreNotEncoded t root texts e
+not_written_rows t root texts e is (inl (inl memory)) = inl memory
+not_written_rows t root texts e is (inl (inr first)) = inr (inl first)
+not_written_rows t root texts e is (inr (values, have, inl other)) = inr (inr (values, have, other_value t root values e other))
+not_written_rows t root texts e is (inr (values, have, inr h)) = inr (inr (values, have, not_read t root values e is h.0 h.1))
+
+pub lacks_a_value : (t : DataType) (root : Schema) (texts : List (List ℕ)) (slots : List Slot) (e : Error) → AreRead t texts slots → IsNotEncoded root slots e → AreNotEncoded t root texts e
+lacks_a_value t root texts slots e read (inl memory) = inl memory
+lacks_a_value t root texts slots e read (inr h) = inr (inr (read.values, read.have, subst (AreNotWritten t root read.values) (sym h.0) (read.objects, (slots, read.meant, h.1))))
+
+-- the texts that were read and encoded are rows
+pub encoded_rows : (t : DataType) (root : Schema) (texts : List (List ℕ)) (slots : List Slot) (block : FileBlock) → AreRead t texts slots → lacks_value root slots ≡ false → All (Pairs root) slots → block ≡ rows_block root slots → EncodesRows t root texts block
+encoded_rows t root texts slots block read complete paired is = record {
+  slots = slots;
+  rows = record { values = read.values; have = read.have; objects = read.objects; meant = read.meant; complete = complete; paired = paired };
+  is = is;
+}
+
+-- as many slots as texts
+pub read_length : (t : DataType) (texts : List (List ℕ)) (slots : List Slot) → AreRead t texts slots → length slots ≡ length texts
+read_length t texts slots read = slots_length t read.values slots read.meant ∙ zip_length IsJson read.values texts read.have
 
 -- ---- a batch
 
 module _ (t : DataType) (root : Schema) (marker : List ℕ) (n : ℕ) (old new : State) (held : Option (List ℕ)) (faults : ℕ) where
-  pub no_batch : (e : Error) → NoBatch n old new e → BatchFails t root marker n old new (change_of held faults held faults) e
-  no_batch e (inl (inl memory)) = inl (Keeps-refl held, inl memory)
-  no_batch e (inl (inr h)) = inl (Keeps-refl held, inr (inl h))
-  no_batch e (inr (texts, takes, fault)) = inl (Keeps-refl held, inr (inr (record { texts = texts; takes = takes.takes; most = takes.most; fewer = takes.fewer; why = inl fault })))
+  pub no_batch : (e : Error) → NoRowsOf n old new e → BatchFails t root marker n old new (change_of held faults held faults) e
+  no_batch e (inl memory) = inl (Keeps-refl held, inl memory)
+  no_batch e (inr h) = inl (Keeps-refl held, inr (inl h))
 
-  pub not_written : (values given : List Json) (e : Error) → given ≡ values → TakesBatch n old new values → AreNotWritten t root given e → BatchFails t root marker n old new (change_of held faults held faults) e
-  not_written values given e is (texts, takes, have) h =
-      inl (Keeps-refl held, inr (inr (record { texts = texts; takes = takes.takes; most = takes.most; fewer = takes.fewer; why = inr (values, have, subst (λ (vs : List Json). AreNotWritten t root vs e) is h) })))
+  pub not_written : (texts given : List (List ℕ)) (e : Error) → given ≡ texts → TakesSome n old new texts → AreNotEncoded t root given e → BatchFails t root marker n old new (change_of held faults held faults) e
+  not_written texts given e is takes (inl memory) = inl (Keeps-refl held, inl memory)
+  not_written texts given e is takes (inr h) =
+      inl (Keeps-refl held, inr (inr (record { texts = texts; takes = takes.takes; most = takes.most; fewer = takes.fewer; why = subst (λ (z : List (List ℕ)). AreRefused t root z e) is h })))

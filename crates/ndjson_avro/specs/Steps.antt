@@ -1,6 +1,6 @@
 -- What is encoded and written of a batch, and batch after batch. Contracts of private functions alone cite this file.
-use Rattle.std.specs.Prelude.{◌≡◌, ◌⊎◌, ℕ, ◌+◌, ◌≤◌, true, false, Option, List, [], ◌∷◌, length, All}
-use Rattle.std.specs.List.{Any}
+use Rattle.std.specs.Prelude.{◌≡◌, ◌⊎◌, ℕ, ◌+◌, ◌≤◌, true, false, Option, List, [], ◌∷◌, length, All, IfSome}
+use Rattle.std.specs.List.{AllZip, Any}
 use Rattle.std.specs.Io.KnownBytes.{Appends, IsAtEnd}
 use Rattle.arrow_core.specs.declared.error.Error.{Error}
 use Rattle.arrow_core.specs.declared.error.Error.TheVariants.{ExternalFormat, InvalidArgumentError, OutOfMemory}
@@ -11,7 +11,6 @@ use Rattle.arrow_types.specs.declared.types.Field.{Field}
 use Rattle.arrow_types.specs.declared.slot.Slot.{Slot}
 use Rattle.avro_container.specs.Canonical.{canonical_blocks}
 use Rattle.avro_container.specs.File.{FileBlock}
-use Rattle.avro_encode.specs.Pairs.{Pairs}
 use Rattle.avro_encode.specs.PairTypes.{PairsType}
 use Rattle.avro_schema.specs.declared.schema.Record.{Record as TheRecord}
 use Rattle.avro_schema.specs.declared.schema.Schema.{Record, Schema}
@@ -20,14 +19,16 @@ use Rattle.avro_write.specs.Flaws.{shows}
 use Rattle.json_columns.specs.Names.{names_twice}
 use Rattle.json_columns.specs.Reading.{has_reading, reading}
 use Rattle.json_flat.specs.Columns.{AreSlotsOf}
+use Rattle.json_columns.specs.Refusals.{IsRefusal}
+use Rattle.json_tree.specs.Meaning.{IsJson}
 use Rattle.json_tree.specs.Tree.{Json}
 use Rattle.ndjson_read.specs.Reading.{State}
 use Rattle.ndjson_avro.specs.Batches.{WritesBatches}
 use Rattle.ndjson_avro.specs.BatchSteps.{TakesSome}
-use Rattle.ndjson_avro.specs.Rows.{all_rows, AreBatches, AreRows, lacks_value, rows_block, rows_blocks}
+use Rattle.ndjson_avro.specs.Rows.{all_rows, AreBatches, AreRefused, AreRows, lacks_value, rows_block, rows_blocks}
 use Rattle.ndjson_avro.specs.Taken.{TakesRows}
 use Rattle.ndjson_avro.specs.Target.{HasTarget}
-use Rattle.ndjson_avro.specs.Values.{is_object}
+use Rattle.ndjson_avro.specs.Values.{FirstWithout, is_object}
 use Rattle.ndjson_avro.specs.declared.encoder.BlockEncoder.{BlockEncoder}
 
 -- ---- encoding
@@ -39,28 +40,53 @@ pub record IsRootOf (root : Schema) (row_type : DataType) : Type 0 where
   pub pairs : PairsType root row_type
   pub no_interval : (x : Slot) → shows flaw.Interval root x ≡ false
 
+-- the builders that lines are read into, if there are any, are those of the row type's fields
+abbrev pub AreBuildersOf : DataType → Option (List Field) → Type 0
+AreBuildersOf row_type lines = IfSome lines (λ fields. row_type ≡ types.Struct fields)
+
 -- An encoder of the rows of these fields, and the record of the file.
 pub record IsEncoderOf (fields : List Field) (name : List ℕ) (encoder : BlockEncoder) (target : TheRecord) : Type 0 where
   pub has : HasTarget fields name target
   pub row_type : encoder.row_type ≡ types.Struct fields
   pub root : encoder.root ≡ Record target
   pub is_root : IsRootOf encoder.root encoder.row_type
+  pub are_lines : AreBuildersOf encoder.row_type encoder.lines
+
+-- ---- reading
+
+-- the texts are those of objects, which mean these slots under the row type
+pub record AreRead (row_type : DataType) (texts : List (List ℕ)) (slots : List Slot) : Type 0 where
+  pub values : List Json
+  pub have : AllZip IsJson values texts
+  pub objects : All (λ value. is_object value ≡ true) values
+  pub meant : AreSlotsOf (reading row_type) values slots
+
+-- why texts have no values: this is the first without one; or out of memory
+abbrev pub AreNotParsed : List (List ℕ) → Error → Type 0
+AreNotParsed texts e = (e ≡ OutOfMemory) ⊎ FirstWithout texts e
 
 -- a value is no object
 abbrev pub HoldOther : List Json → Error → Type 0
 HoldOther values e = (e ≡ ExternalFormat reason.NotAnObject) × Any (λ value. is_object value ≡ false) values
 
+-- why texts aren't read
+abbrev pub AreNotRead : DataType → List (List ℕ) → Error → Type 0
+AreNotRead row_type texts e =
+    AreNotParsed texts e
+    ⊎ ((values : List Json) × AllZip IsJson values texts × (HoldOther values e ⊎ (All (λ value. is_object value ≡ true) values × IsRefusal row_type values e)))
+
 -- why slots aren't encoded
 abbrev pub IsNotEncoded : Schema → List Slot → Error → Type 0
 IsNotEncoded root slots e = (e ≡ OutOfMemory) ⊎ ((e ≡ InvalidArgumentError reason.NullUnderRequired) × (lacks_value root slots ≡ true))
 
--- the values are rows, and this is their block
-pub record EncodesValues (row_type : DataType) (root : Schema) (values : List Json) (block : FileBlock) : Type 0 where
-  pub objects : All (λ value. is_object value ≡ true) values
+-- why rows aren't, the first reason that applies to all of them together; or out of memory
+abbrev pub AreNotEncoded : DataType → Schema → List (List ℕ) → Error → Type 0
+AreNotEncoded row_type root texts e = (e ≡ OutOfMemory) ⊎ AreRefused row_type root texts e
+
+-- the texts are rows, and this is their block
+pub record EncodesRows (row_type : DataType) (root : Schema) (texts : List (List ℕ)) (block : FileBlock) : Type 0 where
   pub slots : List Slot
-  pub meant : AreSlotsOf (reading row_type) values slots
-  pub complete : lacks_value root slots ≡ false
-  pub paired : All (Pairs root) slots
+  pub rows : AreRows row_type root texts slots
   pub is : block ≡ rows_block root slots
 
 -- ---- writing

@@ -1,34 +1,41 @@
-//! The values of a batch of rows.
-ghost use Rattle.std.specs.Prelude.{◌≡◌, ◌<◌, ◌+◌, ◌-◌, ◌^◌, [], IfOk, IfErr, OnOk};
+//! The rows of a batch.
+ghost use Rattle.std.specs.Prelude.{◌≡◌, ◌++◌, ◌∷◌, [], IfOk, IfErr, OnOk};
 ghost use Rattle.arrow_core.specs.Errors.{OnlyOutOfMemory};
 ghost use Rattle.ndjson_read.specs.FileReader.{source_of, state_of};
-ghost use Rattle.json_tree.specs.Meaning.{IsJson};
-ghost use Rattle.ndjson_avro.specs.BatchSteps.{HoldsRows, IsOpen, NextRow, NoBatch, NoRow, NoRowsOf, PushesRow, PushesValue, TakesBatch, TakesRowsOf};
-ghost use Rattle.ndjson_avro.specs.Values.{IsNoValue};
+ghost use Rattle.ndjson_avro.specs.BatchSteps.{IsOpen, NextRow, NoRow, NoRowsOf, TakesSome};
 
-use arrow_base::{Error, Result, Source};
-use json_tree::{Value, parse};
+use arrow_base::{Result, Source, Text};
 use ndjson_read::FileReader;
 use std::alloc::Global;
+use std::mem;
 
-/// The rows of a batch: the values of all, or of those before the first that has none, and why that
-/// one has none. The memory of the values is used again from batch to batch.
+/// The rows of a batch. The memory of their texts is used again from batch to batch.
 #[derive(Drop)]
 pub(crate) struct Batch {
-    pub(crate) values: Vec<Value>,
-    pub(crate) rows: usize,
-    pub(crate) fault: Option<Error>,
+    pub(crate) rows: Vec<Text>,
+    // Texts of the batch before, whose memory isn't used again yet.
+    spare: Vec<Text>,
 }
 
-/// The value of a row's text. `ExternalFormat(Json)` where it has none, `LimitExceeded` where more
-/// than 128 brackets are open at once; `OutOfMemory`.
-fn row_value(alloc: Global, row: &[u8]) -> Result<Value>
-    ensures ok { IfOk result (λ value. IsJson value row.now) }
-    ensures err { IfErr result (IsNoValue row.now) }
+/// A copy of the row, in the memory of a text.
+fn copy_to(text: Text, row: &str) -> Result<Text>
+    ensures copy { IfOk result (λ copied. copied ≡ row.now) }
+    ensures memory { OnlyOutOfMemory result }
 {
-    match parse(alloc, row) {
-        Ok(value) => Ok(value),
-        Err(fault) => Err(Error::from(fault)),
+    let mut string = text.into_string();
+    string.clear();
+    string.push_str(row)?;
+    Ok(Text::from_string(string))
+}
+
+/// A copy of the row, in the memory of one of the spare texts, where there is one.
+fn copy_row(alloc: Global, spare: &mut Vec<Text>, row: &str) -> Result<Text>
+    ensures copy { IfOk result (λ copied. copied ≡ row.now) }
+    ensures memory { OnlyOutOfMemory result }
+{
+    match spare.pop() {
+        Some(text) => copy_to(text, row),
+        None => Text::try_from_str(alloc, row),
     }
 }
 
@@ -36,51 +43,35 @@ impl Batch {
     /// A batch of no rows.
     pub(crate) fn new(alloc: Global) -> Batch {
         Batch {
-            values: Vec::new(alloc),
-            rows: 0,
-            fault: None,
+            rows: Vec::new(alloc),
+            spare: Vec::new(alloc),
         }
     }
 
-    /// Adds a row. After a row without a value no further value is read.
-    fn push(&mut self, alloc: Global, row: &[u8]) -> Result<()>
-        requires { self.old.rows < 2 ^ 64 - 1 }
-        ensures pushed { OnOk result (PushesRow row.now self.old self.new) }
-        ensures rows { OnOk result (self.new.rows ≡ self.old.rows + 1) }
-        ensures memory { OnlyOutOfMemory result }
+    /// Drops the rows.
+    fn clear(&mut self)
+        ensures { self.new.rows.items ≡ [] }
     {
-        self.rows += 1;
-        match self.fault {
-            Some(_) => Ok(()),
-            None => self.push_value(alloc, row),
-        }
+        mem::swap(&mut self.rows, &mut self.spare);
+        self.rows.clear();
     }
 
-    /// Adds the value of a row, or why it has none, where no row before had none.
-    fn push_value(&mut self, alloc: Global, row: &[u8]) -> Result<()>
-        ensures pushed { OnOk result (PushesValue row.now self.old self.new) }
-        ensures rows { self.new.rows ≡ self.old.rows }
+    /// Adds a row.
+    fn push(&mut self, alloc: Global, row: &str) -> Result<()>
+        ensures pushed { OnOk result (self.new.rows.items ≡ self.old.rows.items ++ row.now ∷ []) }
         ensures memory { OnlyOutOfMemory result }
     {
-        match row_value(alloc, row) {
-            Ok(value) => {
-                self.values.push(value)?;
-                Ok(())
-            }
-            Err(error) => {
-                self.fault = Some(error);
-                Ok(())
-            }
-        }
+        let text = copy_row(alloc, &mut self.spare, row)?;
+        self.rows.push(text)?;
+        Ok(())
     }
 }
 
 /// Takes the next row into the batch, and says whether there is one.
 fn read_row<S: Source>(alloc: Global, reader: &mut FileReader<S>, batch: &mut Batch) -> Result<bool>
-    requires open { IsOpen reader.old }
-    requires room { batch.old.rows < 2 ^ 64 - 1 }
+    requires { IsOpen reader.old }
     ensures ok { IfOk result (NextRow (state_of S.left S.faults reader.old)
-        (state_of S.left S.faults reader.new) batch.old batch.new) }
+        (state_of S.left S.faults reader.new) batch.old.rows.items batch.new.rows.items) }
     ensures err { IfErr result (NoRow (state_of S.left S.faults reader.old)
         (state_of S.left S.faults reader.new)) }
     ensures open { OnOk result (IsOpen reader.new) }
@@ -89,15 +80,14 @@ fn read_row<S: Source>(alloc: Global, reader: &mut FileReader<S>, batch: &mut Ba
     reader.advance()?;
     match reader.get() {
         Some([row, ..]) => {
-            let bytes = row.as_str().as_bytes();
-            batch.push(alloc, bytes)?;
+            batch.push(alloc, row.as_str())?;
             Ok(true)
         }
         _ => Ok(false),
     }
 }
 
-/// Takes rows into the batch, `wanted` of them, or fewer at the end of the source.
+/// Takes rows into an empty batch, `wanted` of them, or fewer at the end of the source.
 fn read_rows<S: Source>(
     alloc: Global,
     reader: &mut FileReader<S>,
@@ -105,15 +95,15 @@ fn read_rows<S: Source>(
     wanted: usize,
 ) -> Result<()>
     requires open { IsOpen reader.old }
-    requires empty { HoldsRows batch.old [] }
-    ensures ok { OnOk result (TakesRowsOf wanted (state_of S.left S.faults reader.old)
-        (state_of S.left S.faults reader.new) batch.new) }
+    requires empty { batch.old.rows.items ≡ [] }
+    ensures ok { OnOk result (TakesSome wanted (state_of S.left S.faults reader.old)
+        (state_of S.left S.faults reader.new) batch.new.rows.items) }
     ensures err { IfErr result (NoRowsOf wanted (state_of S.left S.faults reader.old)
         (state_of S.left S.faults reader.new)) }
     ensures open { OnOk result (IsOpen reader.new) }
     ensures same { S.whose (source_of reader.new) ≡ S.whose (source_of reader.old) }
 {
-    'rows: while batch.rows < wanted {
+    'rows: while batch.rows.len() < wanted {
         let more = read_row(alloc, reader, batch)?;
         if !more {
             return Ok(());
@@ -122,11 +112,10 @@ fn read_rows<S: Source>(
     Ok(())
 }
 
-/// Takes the values of the next rows, `wanted` of them, or fewer at the end of the source.
+/// Takes the next rows into the batch, in place of those that it has: `wanted` of them, or fewer at
+/// the end of the source.
 ///
-/// The errors are first those of `FileReader::advance`, of any of these rows, and then that of the
-/// first row that has no value: `ExternalFormat(Json)`, or `LimitExceeded`. `OutOfMemory` at any
-/// time.
+/// The errors are those of `FileReader::advance`, of any of these rows. `OutOfMemory` at any time.
 pub(crate) fn read_batch<S: Source>(
     alloc: Global,
     reader: &mut FileReader<S>,
@@ -134,19 +123,13 @@ pub(crate) fn read_batch<S: Source>(
     wanted: usize,
 ) -> Result<()>
     requires open { IsOpen reader.old }
-    ensures ok { OnOk result (TakesBatch wanted (state_of S.left S.faults reader.old)
-        (state_of S.left S.faults reader.new) batch.new.values.items) }
-    ensures err { IfErr result (NoBatch wanted (state_of S.left S.faults reader.old)
+    ensures ok { OnOk result (TakesSome wanted (state_of S.left S.faults reader.old)
+        (state_of S.left S.faults reader.new) batch.new.rows.items) }
+    ensures err { IfErr result (NoRowsOf wanted (state_of S.left S.faults reader.old)
         (state_of S.left S.faults reader.new)) }
     ensures open { OnOk result (IsOpen reader.new) }
     ensures same { S.whose (source_of reader.new) ≡ S.whose (source_of reader.old) }
 {
-    batch.values.clear();
-    batch.rows = 0;
-    batch.fault = None;
-    read_rows(alloc, reader, batch, wanted)?;
-    match batch.fault {
-        Some(error) => Err(error),
-        None => Ok(()),
-    }
+    batch.clear();
+    read_rows(alloc, reader, batch, wanted)
 }

@@ -4,7 +4,7 @@ ghost use Rattle.arrow_base.specs.Outside.{last_count};
 ghost use Rattle.ndjson_read.specs.FileReader.{byte_limit_of, source_of, state_of};
 ghost use Rattle.avro_blocks.specs.Changes.{change_of};
 ghost use Rattle.ndjson_avro.specs.Batches.{BatchFails, StopsAtBatch};
-ghost use Rattle.ndjson_avro.specs.Steps.{AllWritten, IsRootOf, NextWritten};
+ghost use Rattle.ndjson_avro.specs.Steps.{AllWritten, AreBuildersOf, IsRootOf, NextWritten};
 ghost use Rattle.ndjson_avro.specs.BatchSteps.{IsOpen};
 
 use crate::batch::{Batch, read_batch};
@@ -28,6 +28,7 @@ fn write_next<S: Source, K: Sink>(
 ) -> Result<usize>
     requires open { IsOpen reader.old }
     requires root { IsRootOf encoder.old.root encoder.old.row_type }
+    requires lines { AreBuildersOf encoder.old.row_type encoder.old.lines }
     ensures ok { IfOk result (NextWritten encoder.old.row_type encoder.old.root marker wanted
         (state_of S.left S.faults reader.old) (state_of S.left S.faults reader.new)
         (K.held sink.old) (K.held sink.new)) }
@@ -37,18 +38,19 @@ fn write_next<S: Source, K: Sink>(
     ensures open { OnOk result (IsOpen reader.new) }
     ensures row_type { encoder.new.row_type ≡ encoder.old.row_type }
     ensures root { encoder.new.root ≡ encoder.old.root }
+    ensures lines { encoder.new.lines ≡ encoder.old.lines }
     ensures never_falls_sink { K.faults sink.old ≤ K.faults sink.new }
     ensures same { S.whose (source_of reader.new) ≡ S.whose (source_of reader.old) }
     ensures same_sink { K.whose sink.new ≡ K.whose sink.old }
 {
     read_batch(alloc, reader, batch, wanted)?;
-    let values = batch.values.as_slice();
-    let count = values.len();
+    let texts = batch.rows.as_slice();
+    let count = texts.len();
     if count == 0 {
         return Ok(0);
     }
-    encoder.fill_block(alloc, values)?;
-    tell_count(values);
+    encoder.fill_block(alloc, texts)?;
+    tell_count(texts);
     tell_size(encoder.block.bytes.as_slice());
     write_block(sink, &encoder.block, marker)?;
     Ok(count)
@@ -65,6 +67,7 @@ pub(crate) fn write_batches<S: Source, K: Sink>(
 ) -> Result<u64>
     requires open { IsOpen reader.old }
     requires root { IsRootOf encoder.old.root encoder.old.row_type }
+    requires lines { AreBuildersOf encoder.old.row_type encoder.old.lines }
     requires wanted { 0 < wanted }
     requires bound { byte_limit_of reader.old ≤ last_count }
     ensures ok { IfOk result (AllWritten encoder.old.row_type encoder.old.root marker wanted

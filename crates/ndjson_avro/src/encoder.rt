@@ -1,51 +1,34 @@
-//! The values of rows into a block.
-ghost use Rattle.std.specs.Prelude.{◌≡◌, true, false, length, All, IfOk, OnOk, IfErr, MatchResult};
+//! The rows of a batch into a block.
+ghost use Rattle.std.specs.Prelude.{◌≡◌, false, length, All, IfOk, OnOk, IfErr};
 ghost use Rattle.arrow_array.specs.Arrays.{array_slots, array_type};
 ghost use Rattle.avro_container.specs.File.{the_block};
 ghost use Rattle.avro_encode.specs.Pairs.{Pairs};
-ghost use Rattle.ndjson_avro.specs.Rows.{lacks_value, rows_block, AreNotWritten};
-ghost use Rattle.ndjson_avro.specs.Steps.{EncodesValues, IsEncoderOf, IsNotEncoded, IsRootOf, HoldOther};
+ghost use Rattle.ndjson_avro.specs.Rows.{lacks_value, rows_block};
+ghost use Rattle.ndjson_avro.specs.Steps.{AreBuildersOf, AreNotEncoded, EncodesRows, IsEncoderOf, IsNotEncoded, IsRootOf};
 ghost use Rattle.ndjson_avro.specs.Target.{HasNoTarget};
-ghost use Rattle.ndjson_avro.specs.Values.{is_object as is_object_of};
 
+use crate::rows::read_array;
 use crate::target::make_target;
 use arrow_array::Array;
-use arrow_core::{Bytes, Error, Reason, Result};
+use arrow_base::Text;
+use arrow_core::{Bytes, Result};
 use arrow_types::{DataType, Schema};
 use avro_schema::{AvroSchema, Block, Record};
 use avro_write::{new_serializer, serialize};
-use json_columns::read_values;
-use json_tree::Value;
+use json_line::LineBuilders;
 use std::alloc::Global;
 
-/// Turns the values of rows into blocks of one file.
+/// Turns the rows of batches into blocks of one file.
 #[derive(Drop)]
 pub(crate) struct BlockEncoder {
     // The Struct of the columns.
     pub(crate) row_type: DataType,
     // The record of the file.
     pub(crate) root: AvroSchema,
+    // The columns' builders, where lines are read into them straight.
+    pub(crate) lines: Option<LineBuilders>,
     // The block at hand.
     pub(crate) block: Block,
-}
-
-fn is_object(value: &Value) -> bool
-    ensures { result ≡ is_object_of value.now }
-{
-    matches!(value, Value::Object(_))
-}
-
-/// Whether all values are objects.
-fn check_objects(values: &[Value]) -> Result<()>
-    ensures { MatchResult result (λ _. All (λ value. is_object_of value ≡ true) values.now)
-        (HoldOther values.now) }
-{
-    for value in values {
-        if !is_object(value) {
-            return Err(Error::ExternalFormat(Reason::NotAnObject));
-        }
-    }
-    Ok(())
 }
 
 /// Fills the block with the canonical encodings of the rows, as many as it states.
@@ -79,9 +62,15 @@ impl BlockEncoder {
         let row_type = DataType::Struct(fields);
         let target = make_target(alloc, schema, &row_type, name)?;
         let root = target.try_clone(alloc)?;
+        let Schema {
+            fields: columns,
+            ..
+        } = schema.try_clone(alloc)?;
+        let lines = LineBuilders::new(alloc, columns.into_vec())?;
         let encoder = BlockEncoder {
             row_type,
             root: AvroSchema::Record(root),
+            lines,
             block: Block {
                 number_of_rows: 0,
                 bytes: Bytes::new(alloc),
@@ -90,26 +79,28 @@ impl BlockEncoder {
         Ok((encoder, target))
     }
 
-    /// Fills the block with the rows that these values are under the row type.
+    /// Fills the block with the rows that these texts are under the row type.
     ///
-    /// In this order: `ExternalFormat(NotAnObject)` where a value is no object,
+    /// In this order: the error of the first text that is no JSON text, or has more than 128 brackets
+    /// open at once; `ExternalFormat(NotAnObject)` where one is no object,
     /// `NotYetImplemented(TextTimestamp)` where a text stands under a timestamp, `Overflow` where a
     /// value doesn't fit its type, or there are more items or bytes than can be counted, and
     /// `InvalidArgumentError(NullUnderRequired)` where a null stands where the root requires a
     /// value. `OutOfMemory` at any time.
-    pub(crate) fn fill_block(&mut self, alloc: Global, values: &[Value]) -> Result<()>
-        requires { IsRootOf self.old.root self.old.row_type }
-        ensures ok { OnOk result (EncodesValues self.old.row_type self.old.root values.now
+    pub(crate) fn fill_block(&mut self, alloc: Global, rows: &[Text]) -> Result<()>
+        requires root { IsRootOf self.old.root self.old.row_type }
+        requires lines { AreBuildersOf self.old.row_type self.old.lines }
+        ensures ok { OnOk result (EncodesRows self.old.row_type self.old.root rows.now
             (the_block self.new.block.number_of_rows self.new.block.bytes)) }
         ensures err { IfErr result
-            (AreNotWritten self.old.row_type self.old.root values.now) }
+            (AreNotEncoded self.old.row_type self.old.root rows.now) }
         ensures row_type { self.new.row_type ≡ self.old.row_type }
         ensures root { self.new.root ≡ self.old.root }
+        ensures lines { self.new.lines ≡ self.old.lines }
     {
-        check_objects(values)?;
-        let rows = read_values(alloc, values, &self.row_type)?;
-        self.block.number_of_rows = values.len();
-        encode_rows(alloc, &rows, &self.root, &mut self.block)?;
+        let array = read_array(alloc, rows, &self.row_type, &mut self.lines)?;
+        self.block.number_of_rows = rows.len();
+        encode_rows(alloc, &array, &self.root, &mut self.block)?;
         Ok(())
     }
 }

@@ -7,6 +7,7 @@ mod encoder;
 mod laws;
 mod ndjson;
 mod nulls;
+mod rows;
 mod sizes;
 mod target;
 

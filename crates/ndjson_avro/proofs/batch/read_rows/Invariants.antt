@@ -9,7 +9,7 @@ decreases-rows g l = byte_limit_of l.reader
 
 abbrev pub invariant-rows : goal.invariant-rows
 invariant-rows g l = record {
-  so_far : BatchSoFar l.wanted (state_of g.S.Source.left g.S.Source.faults l.fn.reader) (state_of g.S.Source.left g.S.Source.faults l.reader) l.batch;
+  so_far : BatchSoFar l.wanted (state_of g.S.Source.left g.S.Source.faults l.fn.reader) (state_of g.S.Source.left g.S.Source.faults l.reader) l.batch.rows.items;
   open_reader : IsOpen l.reader;
   same : g.S.Source.whose (source_of l.reader) ≡ g.S.Source.whose (source_of l.fn.reader);
 }

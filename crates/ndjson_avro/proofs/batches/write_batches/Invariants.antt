@@ -14,6 +14,7 @@ invariant-batches g l = record {
   open_reader : IsOpen l.reader;
   row_type : l.encoder.row_type ≡ l.fn.encoder.row_type;
   root : l.encoder.root ≡ l.fn.encoder.root;
+  lines : l.encoder.lines ≡ l.fn.encoder.lines;
   never_falls_sink : g.K.Sink.faults l.fn.sink ≤ g.K.Sink.faults l.sink;
   same : g.S.Source.whose (source_of l.reader) ≡ g.S.Source.whose (source_of l.fn.reader);
   same_sink : g.K.Sink.whose l.sink ≡ g.K.Sink.whose l.fn.sink;

@@ -8,6 +8,9 @@ returns-in_err-encoder-clause-err g c = handed_on _ _ c.from_residual.result c.f
 pub write_file-requires-clause-root : goal.write_file-requires-clause-root
 write_file-requires-clause-root g c = c.in_ok-encoder.ensures.ok.is_root
 
+pub write_file-requires-clause-lines : goal.write_file-requires-clause-lines
+write_file-requires-clause-lines g c = c.in_ok-encoder.ensures.ok.are_lines
+
 pub returns-clause-ok : goal.returns-clause-ok
 returns-clause-ok g c = c.write_file.ensures.ok c.args.schema.now.fields c.args.name.now c.in_ok-encoder.ensures.ok
 

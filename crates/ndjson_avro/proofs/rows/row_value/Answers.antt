@@ -1,6 +1,6 @@
 use Rattle.std.proofs.Common.{◌∙◌, ap, Err}
 use Rattle.ndjson_avro.proofs.Parsing.{no_value}
-use Rattle.ndjson_avro.proofs.batch.row_value.Goals as goal
+use Rattle.ndjson_avro.proofs.rows.row_value.Goals as goal
 
 pub returns-in-Err-clause-err : goal.returns-in-Err-clause-err
 returns-in-Err-clause-err c =
