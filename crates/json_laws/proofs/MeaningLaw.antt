@@ -1,20 +1,22 @@
 -- The value of a slot means that slot.
-use Rattle.std.proofs.Common.{◌≡◌, ℕ, ◌^◌, ◌<◌, ◌≤◌, Bool, true, false, cond, ℤ, pos, negsuc, List, [], ◌∷◌, map, Some, None, refl, sym, ap, ◌∙◌, subst, arith}
+use Rattle.std.proofs.Common.{◌≡◌, ℕ, ◌^◌, ◌<◌, ◌≤◌, Bool, true, false, cond, eqb, not, ℤ, pos, negsuc, List, [], ◌∷◌, length, map, Some, None, refl, sym, ap, ◌∙◌, subst, arith}
 use mir.Syntax.{Width, w8, w16, w32, w64}
 use Rattle.std.proofs.lemmas.Bool.{and_from, and_parts, false≢true, or_parts}
 use Rattle.std.proofs.lemmas.Int.{ints}
 use Rattle.std.proofs.lemmas.List.Elements.{All-head, All-tail}
+use Rattle.std.proofs.lemmas.List.{length-map}
+use Rattle.std.specs.Cmp.{unsigned_Decides}
 use Rattle.std.specs.Fmt.{signed_decimal}
 use Rattle.std.specs.Int.RustNames.{FitsSigned}
 use Rattle.std.specs.List.{All, list_all}
 use Rattle.std.specs.Prelude.{int_le}
 use Rattle.arrow_types.specs.declared.slot.Slot.{Slot, Null, Boolean, Integer, String, Binary, List', Struct', items-the_row-Slot, items_hidden-the_row-Slot-0}
 use Rattle.arrow_types.specs.declared.slot.Slot.TheVariants as slot
-use Rattle.arrow_types.specs.declared.types.DataType.{DataType, Row_of-Field, end_of-Field, more_of-Field}
+use Rattle.arrow_types.specs.declared.types.DataType.{DataType, Row_of-Field, end_of-Field, more_of-Field, more_of-DataType}
 use Rattle.arrow_types.specs.declared.types.DataType as types
-use Rattle.arrow_array.specs.SlotTypes.{IfHeld, IsBoolean, IsSigned, IsUnsigned, IsString, IsListOfSlots, IsStructOfSlots, SlotOf, ItemOf, FieldsOf}
+use Rattle.arrow_array.specs.SlotTypes.{IfHeld, IsBoolean, IsSigned, IsUnsigned, IsString, IsFixedListOfSlots, IsListOfSlots, IsStructOfSlots, SlotOf, ItemOf, FieldsOf}
 use Rattle.json_text.specs.JsonText.{text}
-use Rattle.json_text.specs.Refusals.{has_text, have_texts, in_range, item_in_range, fields_in_range, slot_in_range, integers_in, lists_in, structs_in}
+use Rattle.json_text.specs.Refusals.{has_text, have_texts, in_range, is_string_type, item_in_range, fields_in_range, slot_in_range, integers_in, lists_in, structs_in}
 use Rattle.json_tree.specs.Keys.{keys_of}
 use Rattle.json_tree.specs.Tree.{Json, string, array, object, boolean}
 use Rattle.json_tree.specs.declared.value.Number.TheVariants.{Integer as NumberInteger, Float as NumberFloat}
@@ -27,7 +29,7 @@ use Rattle.json_flat.specs.Columns.{means}
 use Rattle.json_flat.specs.Whole.{within}
 use Rattle.json_flat.proofs.Layers.{at-bool, at-number, at-string}
 use Rattle.json_columns.specs.Names.{names_twice, repeat, row_names, row_names_twice}
-use Rattle.json_columns.specs.Reading.{has_field, has_reading, have_reading, item_meaning, list_in, member_meanings, or_null, reading, struct_in}
+use Rattle.json_columns.specs.Reading.{has_field, has_reading, have_reading, is_value_type, item_meaning, list_in, made_of, member_meanings, or_null, reading, sized_list_in, struct_in, together}
 use Rattle.json_columns.proofs.Layers.{array_layer, object_layer}
 use Rattle.json_columns.proofs.Together.{made}
 use Rattle.json_laws.specs.Laws.{ColumnsReadBack, TextsReadBack, ValuesMeanSlots, has_no_dates, have_no_dates}
@@ -119,6 +121,15 @@ list-means item means_item x xs is h =
     ap (list_in means_item) (array_layer (slot_value (lists_of item) x) (map item xs) inside)
     ∙ made slot.List (map means_item (map item xs)) xs h ∙ ap slot_of (sym is)
 
+sized-means : (item : Slot → Json) (means_item : Json → Meaning) (size : ℕ) (x : Slot) (xs : List Slot) → x ≡ slot.List xs → length xs ≡ size → map means_item (map item xs) ≡ map slot_of xs
+    → Means (sized_list_in size means_item) (lists_of item) x
+sized-means item means_item size x xs is len h =
+    let inside : slot_value (lists_of item) x ≡ array (map item xs) = ap (slot_value (lists_of item)) is ∙ ap (λ l. array (map item l)) (items_hidden-the_row-Slot-0 xs) in
+    let test : eqb (length (map item xs)) size ≡ true = (unsigned_Decides (length (map item xs)) size).1 (length-map xs item ∙ len) in
+    ap (sized_list_in size means_item) (array_layer (slot_value (lists_of item) x) (map item xs) inside)
+    ∙ ap (λ b. cond b (made_of slot.List (together (map means_item (map item xs)))) (slot_of slot.Null)) test
+    ∙ made slot.List (map means_item (map item xs)) xs h ∙ ap slot_of (sym is)
+
 struct-means : (members : List Slot → List (List ℕ × Json)) (means_members : List (List ℕ × Json) → List Meaning) (x : Slot) (xs : List Slot) → x ≡ slot.Struct xs
     → means_members (gathered (members xs)) ≡ map slot_of xs → Means (struct_in means_members) (structs_of members) x
 struct-means members means_members x xs is h =
@@ -147,6 +158,12 @@ all-mean fields xs once h f =
 no : {X : Type 0} → false ≡ true → X
 no e = absurd (false≢true e)
 
+-- a value of a dictionary
+string-meant : (t : DataType) (x : Slot) → is_string_type t ≡ true → SlotOf t x → Means (reading t) (values t) x
+string-meant types.Utf8 x e h = held (reading types.Utf8) (values types.Utf8) (IsString false) x refl h (string-means (values types.Utf8) false x)
+string-meant types.LargeUtf8 x e h = held (reading types.LargeUtf8) (values types.LargeUtf8) (IsString true) x refl h (string-means (values types.LargeUtf8) true x)
+string-meant _ x e h = no e
+
 mutual
   meant : (t : DataType) (x : Slot) → has_text t ≡ true → has_reading t ≡ true → has_no_dates t ≡ true → names_twice t ≡ false → SlotOf t x → Means (reading t) (values t) x
   meant types.Null x e r d n h = held (reading types.Null) (values types.Null) (λ y. ⊥) x refl h (λ k. absurd k)
@@ -164,8 +181,11 @@ mutual
   meant types.Date32 x e r d n h = no d
   meant types.Date64 x e r d n h = no d
   meant (types.Timestamp unit timezone) x e r d n h = no d
-  meant (types.FixedSizeList' shape item size) x e r d n h = no r
-  meant (types.Dictionary' key shape inner is_sorted) x e r d n h = no r
+  meant (types.FixedSizeList' shape item size) x e r d n h =
+      let have = (and_parts (not (eqb size 0)) (have_reading item) r).1 in
+      held (sized_list_in size (item_meaning item)) (lists_of (item_value item)) (IsFixedListOfSlots size (ItemOf item)) x refl h
+      (λ k. sized-means (item_value item) (item_meaning item) size x k.0 k.1 k.2 (items-mean (item_value item) (item_meaning item) (ItemOf item) (item_meant item e have d n) k.0 k.3))
+  meant (types.Dictionary' key shape (more_of-DataType t rest) is_sorted) x e r d n h = string-meant t x e h
   meant (types.List' shape item) x e r d n h =
       held (list_in (item_meaning item)) (lists_of (item_value item)) (IsListOfSlots false (ItemOf item)) x refl h
       (λ k. list-means (item_value item) (item_meaning item) x k.0 k.1 (items-mean (item_value item) (item_meaning item) (ItemOf item) (item_meant item e r d n) k.0 k.3))
@@ -236,13 +256,22 @@ struct-in q f (Binary s) = refl
 struct-in q f (List' m row) = refl
 struct-in q f (Struct' m row) = f (items-the_row-Slot _ row)
 
+value-ranged : (t : DataType) → is_value_type t ≡ true → (x : Slot) → in_range t x ≡ true
+value-ranged types.Utf8 r x = any-in x
+value-ranged types.LargeUtf8 r x = any-in x
+value-ranged types.Int8 r x = any-in x
+value-ranged types.Int16 r x = any-in x
+value-ranged types.Int32 r x = any-in x
+value-ranged types.Int64 r x = any-in x
+value-ranged _ r x = no r
+
 mutual
   pub ranged : (t : DataType) → has_reading t ≡ true → has_no_dates t ≡ true → (x : Slot) → in_range t x ≡ true
   ranged types.Date32 r d x = no d
   ranged types.Date64 r d x = no d
   ranged (types.Timestamp unit timezone) r d x = no d
-  ranged (types.FixedSizeList' shape item size) r d x = no r
-  ranged (types.Dictionary' key shape inner is_sorted) r d x = no r
+  ranged (types.FixedSizeList' shape item size) r d x = list-in (item_in_range item) (item_ranged item (and_parts (not (eqb size 0)) (have_reading item) r).1 d) x
+  ranged (types.Dictionary' key shape (more_of-DataType t rest) is_sorted) r d x = value-ranged t r x
   ranged (types.List' shape item) r d x = list-in (item_in_range item) (item_ranged item r d) x
   ranged (types.LargeList' shape item) r d x = list-in (item_in_range item) (item_ranged item r d) x
   ranged (types.Struct' shape fields) r d x = struct-in (fields_in_range fields) (fields_ranged fields (and_parts (has_field fields) (have_reading fields) r).1 d) x

@@ -55,6 +55,7 @@ abbrev mutual
   has_no_dates (types.Timestamp unit timezone) = false
   has_no_dates (types.List' shape item) = have_no_dates item
   has_no_dates (types.LargeList' shape item) = have_no_dates item
+  has_no_dates (types.FixedSizeList' shape item size) = have_no_dates item
   has_no_dates (types.Struct' shape fields) = have_no_dates fields
   has_no_dates _ = true
 

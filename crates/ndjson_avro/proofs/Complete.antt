@@ -37,7 +37,7 @@ use Rattle.ndjson_avro.specs.Rows.{AreNotWritten, AreRefused, AreRows, lacks_val
 use Rattle.ndjson_avro.specs.Taken.{AreRowsOf, TakesRows}
 use Rattle.ndjson_avro.specs.Values.{FirstWithout, IsNoValue, is_object}
 use Rattle.ndjson_avro.specs.Target.{HasTarget}
-use Rattle.ndjson_avro.proofs.PartOf.{ArePart, as_text, has_value, no_timestamp, none_unfit, none_within, same_slots, slots_within, too_many, values_within}
+use Rattle.ndjson_avro.proofs.PartOf.{ArePart, as_text, has_value, no_timestamp, none_unfit, none_within, same_slots, rows_too_many, slots_within, values_within}
 use Rattle.ndjson_avro.proofs.Refused.{target_or_not}
 
 -- ---- bytes that are still to come
@@ -133,7 +133,8 @@ objects_within some all p objects (k, v, lt, is, other) =
     json_back : (front rest : List Json) → All (λ v. is_object v ≡ true) (front ++ rest) → All (λ v. is_object v ≡ true) rest
     json_back front rest h = subst (All (λ v. is_object v ≡ true)) (drop-append_seam front rest) (All-drop (λ v. is_object v ≡ true) (length front) (front ++ rest) h)
 
-module _ (t : DataType) (root : Schema) (texts : List (List ℕ)) (slots : List Slot) (are : AreRows t root texts slots) (few : TooMany t are.values → ⊥) where
+module _ (t : DataType) (root : Schema) (texts : List (List ℕ)) (slots : List Slot) (are : AreRows t root texts slots) (few : TooMany t are.values → ⊥)
+    (grows : (some all : List Json) → ArePart some all → TooMany t some → TooMany t all) where
   -- values of some of the rows are written
   written : (some : List Json) (e : Error) → ArePart some are.values → AreNotWritten t root some e → e ≡ OutOfMemory
   written some (ExternalFormat reason.NotAnObject) p h = absurd (objects_within some are.values p are.objects h)
@@ -143,7 +144,7 @@ module _ (t : DataType) (root : Schema) (texts : List (List ℕ)) (slots : List 
   written some Overflow p (objects, no_text, inl h) =
       let own = slots_within (reading t) some are.values slots p are.meant in
       absurd (none_unfit (reading t) some own.own own.meant h)
-  written some Overflow p (objects, no_text, inr h) = absurd (few (too_many t some are.values p h))
+  written some Overflow p (objects, no_text, inr h) = absurd (few (grows some are.values p h))
   written some (InvalidArgumentError reason.NullUnderRequired) p (objects, (others, meant, lacks)) =
       let own = slots_within (reading t) some are.values slots p are.meant in
       let same : others ≡ own.own = same_slots others own.own (sym meant ∙ own.meant) in
@@ -212,7 +213,7 @@ lines_are_written fields name marker bytes n limit source sink e tells are (inr 
     let first : Ahead (rows_of bytes) start = record { rest = bytes; left = tells.told; within = tells.within; utf8 = are.utf8; before = []; rows = refl } in
     let same = one_target fields name batch.target are.target batch.has are.has in
     let stops = subst (λ (r : Record). StopsAtBatch (types.Struct fields) (schema.Record r) marker n start end (change_of batch.held sink.faults sink.bytes_after sink.faults_after) e) same batch.stops in
-    from (all_are_there (types.Struct fields) (schema.Record are.target) (rows_of bytes) are.slots are.rows are.few marker n start end (change_of batch.held sink.faults sink.bytes_after sink.faults_after) first tells.steady e stops)
+    from (all_are_there (types.Struct fields) (schema.Record are.target) (rows_of bytes) are.slots are.rows are.few (rows_too_many fields are.has.nameless are.has.recorded) marker n start end (change_of batch.held sink.faults sink.bytes_after sink.faults_after) first tells.steady e stops)
   where
     from : CameFromOutside (change_of batch.held sink.faults sink.bytes_after sink.faults_after) e → CameFromOutside sink e
     from h = h

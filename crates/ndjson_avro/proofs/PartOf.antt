@@ -1,5 +1,5 @@
 -- Values among others: what all of them mean, some of them mean.
-use Rattle.std.proofs.Common.{◌≡◌, ◌∙◌, inl, inr, ℕ, zero, suc, ◌<◌, ◌≤◌, ◌||◌, Bool, true, false, List, [], ◌∷◌, ◌++◌, length, map, slice_index_or, refl, sym, ap, append_assoc, length-append, arith}
+use Rattle.std.proofs.Common.{◌≡◌, ◌∙◌, inl, inr, ℕ, zero, suc, ◌+◌, ◌<◌, ◌≤◌, ◌||◌, Bool, true, false, List, [], ◌∷◌, ◌++◌, length, map, slice_index_or, Some, refl, sym, ap, subst, append_assoc, length-append, arith}
 use Rattle.std.specs.List.{AllZip, list_any, sum_by}
 use Rattle.std.proofs.lemmas.Bool.{false≢true}
 use Rattle.std.proofs.lemmas.List.Sums.{sum_by-append}
@@ -7,12 +7,21 @@ use Rattle.arrow_types.specs.Numbers.{greatest_offset}
 use Rattle.arrow_types.specs.declared.slot.Slot.{Slot}
 use Rattle.arrow_types.specs.declared.types.DataType.{DataType, Row_of-Field, end_of-Field, more_of-Field}
 use Rattle.arrow_types.specs.declared.types.DataType as types
-use Rattle.json_columns.specs.Faults.{TooMany, TooManyItems, TooManyMembers}
+use Rattle.json_columns.specs.Faults.{TooMany, TooManyFields, TooManyItems, TooManyMembers}
 use Rattle.json_columns.specs.Gathered.{all_items, items_in, members_named, member_in}
 use Rattle.json_flat.specs.Columns.{AreSlotsOf, Has, IsTooLong, means, size_of, total_size}
 use Rattle.json_flat.specs.Meaning.{Layer, Meaning, slot_of, text_timestamp, unfit, text_in, bytes_in}
 use Rattle.json_tree.specs.Meaning.{IsJson, IsJsonText}
 use Rattle.json_tree.specs.Tree.{Json}
+use Rattle.avro_schema.specs.declared.schema.AvroField.{AvroField}
+use Rattle.avro_schema.specs.declared.schema.Record.{Record as TheRecord}
+use Rattle.avro_schema.specs.declared.schema.Schema.{Schema, Record, Array}
+use Rattle.avro_grammar.specs.AndThen.{◌>>=◌}
+use Rattle.avro_grammar.proofs.Basics.{bind_some}
+use Rattle.avro_record.specs.Schemas.{column_schema, columns_fields, item_schema, optional, plain_field, plain_record, record_name, record_of, row_schemas, schema_of, structs_in}
+use Rattle.std.proofs.lemmas.Option.{none-some}
+use Rattle.arrow_types.specs.declared.types.Field.{Field}
+use Rattle.json_columns.proofs.ByFields.{struct_too_many}
 use Rattle.json_tree.specs.declared.value.Value.{out-Value}
 use Rattle.json_tree.proofs.TextLaws.{one_value}
 
@@ -185,24 +194,56 @@ too_long : (greatest : ℕ) (reading : Layer → Meaning) (some all : List Json)
 too_long greatest reading some all p h = omega (arith, h, larger reading some all p)
 
 mutual
-  -- where some are more than a column counts, so are all
-  pub too_many : (t : DataType) (some all : List Json) → ArePart some all → TooMany t some → TooMany t all
-  too_many types.Utf8 some all p h = too_long (greatest_offset false) text_in some all p h
-  too_many types.LargeUtf8 some all p h = too_long (greatest_offset true) text_in some all p h
-  too_many types.Binary some all p h = too_long (greatest_offset false) bytes_in some all p h
-  too_many types.LargeBinary some all p h = too_long (greatest_offset true) bytes_in some all p h
-  too_many (types.List' shape item) some all p (inl h) = inl (omega (arith, h, longer (all_items some) (all_items all) (items_within some all p)))
-  too_many (types.List' shape item) some all p (inr h) = inr (too_many_items item (all_items some) (all_items all) (items_within some all p) h)
-  too_many (types.LargeList' shape item) some all p (inl h) = inl (omega (arith, h, longer (all_items some) (all_items all) (items_within some all p)))
-  too_many (types.LargeList' shape item) some all p (inr h) = inr (too_many_items item (all_items some) (all_items all) (items_within some all p) h)
-  too_many (types.Struct' shape fields) some all p h = too_many_members fields some all p h
-  too_many _ some all p h = absurd h
+  -- where some are more than a column counts, so are all, under a type that has an Avro schema
+  too_many : (k : ℕ) (t : DataType) (s : Schema) → schema_of true k t ≡ Some s → (some all : List Json) → ArePart some all → TooMany t some → TooMany t all
+  too_many k types.Utf8 s e some all p h = too_long (greatest_offset false) text_in some all p h
+  too_many k types.LargeUtf8 s e some all p h = too_long (greatest_offset true) text_in some all p h
+  too_many k types.Binary s e some all p h = too_long (greatest_offset false) bytes_in some all p h
+  too_many k types.LargeBinary s e some all p h = too_long (greatest_offset true) bytes_in some all p h
+  too_many k (types.List' shape item) s e some all p (inl h) = inl (omega (arith, h, longer (all_items some) (all_items all) (items_within some all p)))
+  too_many k (types.List' shape item) s e some all p (inr h) =
+      let q = bind_some (item_schema true k item) (λ z. Some (Array z)) s e in
+      inr (too_many_items k item q.0 q.1 (all_items some) (all_items all) (items_within some all p) h)
+  too_many k (types.LargeList' shape item) s e some all p (inl h) = inl (omega (arith, h, longer (all_items some) (all_items all) (items_within some all p)))
+  too_many k (types.LargeList' shape item) s e some all p (inr h) =
+      let q = bind_some (item_schema true k item) (λ z. Some (Array z)) s e in
+      inr (too_many_items k item q.0 q.1 (all_items some) (all_items all) (items_within some all p) h)
+  too_many k (types.FixedSizeList' shape item size) s e some all p h = absurd (none-some s e)
+  too_many k (types.Struct' shape fields) s e some all p h =
+      let q = bind_some (row_schemas true (k + 1) fields) (λ fs. Some (Record (plain_record (record_name (k + 1)) fs))) s e in
+      too_many_members (k + 1) fields q.0 q.1 some all p h
+  too_many k (types.Dictionary' key shape value is_sorted) s e some all p h = absurd (none-some s e)
+  too_many k _ s e some all p h = absurd h
 
-  too_many_items : {m : _} (row : Row_of-Field m) (some all : List Json) → ArePart some all → TooManyItems row some → TooManyItems row all
-  too_many_items end_of-Field some all p h = absurd h
-  too_many_items (more_of-Field name t is_nullable metadata rest) some all p h = too_many t some all p h
+  too_many_items : {m : _} (k : ℕ) (row : Row_of-Field m) (z : Schema) → item_schema true k row ≡ Some z → (some all : List Json) → ArePart some all → TooManyItems row some → TooManyItems row all
+  too_many_items k end_of-Field z e some all p h = absurd h
+  too_many_items k (more_of-Field name t is_nullable metadata rest) z e some all p h =
+      let q = bind_some (schema_of true k t) (λ y. Some (optional true is_nullable y)) z e in
+      too_many k t q.0 q.1 some all p h
 
-  too_many_members : {m : _} (row : Row_of-Field m) (some all : List Json) → ArePart some all → TooManyMembers row some → TooManyMembers row all
-  too_many_members end_of-Field some all p h = absurd h
-  too_many_members (more_of-Field name t is_nullable metadata rest) some all p (inl h) = inl (too_many t (members_named name some) (members_named name all) (members_within name some all p) h)
-  too_many_members (more_of-Field name t is_nullable metadata rest) some all p (inr h) = inr (too_many_members rest some all p h)
+  too_many_members : {m : _} (k : ℕ) (row : Row_of-Field m) (fs : List AvroField) → row_schemas true k row ≡ Some fs → (some all : List Json) → ArePart some all → TooManyMembers row some → TooManyMembers row all
+  too_many_members k end_of-Field fs e some all p h = absurd h
+  too_many_members k (more_of-Field name t is_nullable metadata rest) fs e some all p (inl h) =
+      let q = bind_some (schema_of true k t) (λ z. row_schemas true (k + structs_in t) rest >>= λ more. Some (plain_field name (optional true is_nullable z) ∷ more)) fs e in
+      inl (too_many k t q.0 q.1 (members_named name some) (members_named name all) (members_within name some all p) h)
+  too_many_members k (more_of-Field name t is_nullable metadata rest) fs e some all p (inr h) =
+      let q = bind_some (schema_of true k t) (λ z. row_schemas true (k + structs_in t) rest >>= λ more. Some (plain_field name (optional true is_nullable z) ∷ more)) fs e in
+      let r = bind_some (row_schemas true (k + structs_in t) rest) (λ more. Some (plain_field name (optional true is_nullable q.0) ∷ more)) fs q.2 in
+      inr (too_many_members (k + structs_in t) rest r.0 r.1 some all p h)
+
+-- under the types of columns that have a record
+fields_too_many : (k : ℕ) (fields : List Field) (fs : List AvroField) → columns_fields true k fields ≡ Some fs → (some all : List Json) → ArePart some all → TooManyFields fields some → TooManyFields fields all
+fields_too_many k [] fs e some all p h = absurd h
+fields_too_many k (f ∷ rest) fs e some all p (inl h) =
+    let q = bind_some (column_schema true k f) (λ s. columns_fields true (k + structs_in f.data_type) rest >>= λ more. Some (plain_field f.name s ∷ more)) fs e in
+    let z = bind_some (schema_of true k f.data_type) (λ s. Some (optional true f.is_nullable s)) q.0 q.1 in
+    inl (too_many k f.data_type z.0 z.1 (members_named f.name some) (members_named f.name all) (members_within f.name some all p) h)
+fields_too_many k (f ∷ rest) fs e some all p (inr h) =
+    let q = bind_some (column_schema true k f) (λ s. columns_fields true (k + structs_in f.data_type) rest >>= λ more. Some (plain_field f.name s ∷ more)) fs e in
+    let r = bind_some (columns_fields true (k + structs_in f.data_type) rest) (λ more. Some (plain_field f.name q.0 ∷ more)) fs q.2 in
+    inr (fields_too_many (k + structs_in f.data_type) rest r.0 r.1 some all p h)
+
+pub rows_too_many : (fields : List Field) (nameless : TheRecord) → record_of true fields ≡ Some nameless → (some all : List Json) → ArePart some all → TooMany (types.Struct fields) some → TooMany (types.Struct fields) all
+rows_too_many fields nameless e some all p h =
+    let q = bind_some (columns_fields true 0 fields) (λ fs. Some (plain_record [] fs)) nameless e in
+    subst (λ (z : Type 0). z) (sym (struct_too_many fields all)) (fields_too_many 0 fields q.0 q.1 some all p (subst (λ (z : Type 0). z) (struct_too_many fields some) h))

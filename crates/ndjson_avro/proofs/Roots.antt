@@ -153,6 +153,8 @@ mutual
         pairs = λ n. subst (λ y. PairsType y (types.LargeList' shape item)) (sym (array_named n q.0)) (moved (sym (array_type_is (named n q.0) (types.LargeList' shape item))) (w.0 n));
         clean = array_clean q.0 w.1;
       })
+  written k (types.FixedSizeList' shape item size) s e null h = absurd (none-some s e)
+  written k (types.Dictionary' key shape value is_sorted) s e null h = absurd (none-some s e)
   written k (types.Struct' shape fields) s e null h =
       let q = bind_some (row_schemas true (k + 1) fields) (λ fs. Some (Record (plain_record (record_name (k + 1)) fs))) s e in
       let name = record_name (k + 1) in
