@@ -1,7 +1,7 @@
 //! The types of lines, and how far the source is read for them.
 
-use crate::samples::{is_inferred, next_byte, source};
-use arrow_base::{Box, DataType, Field, Items, Result, Text};
+use crate::samples::{is_inferred, is_refused, next_byte, source};
+use arrow_base::{Box, DataType, Error, Field, Items, Reason, Result, Text};
 use ndjson_infer::{infer, infer_iter};
 use std::alloc::Global;
 use std::test::Fail;
@@ -34,14 +34,27 @@ fn three_types_are_a_string(rt: HostRuntime) {
 
 #[test]
 fn lines_of_white_space_are_null(rt: HostRuntime) {
-    assert!(rt;
-        is_inferred(
-            &rt,
-            rt.alloc(),
-            b"\xe3\x80\x80\n\xc2\x85\n",
-            &DataType::Null
-        )
-    );
+    // Unicode's `White_Space`.
+    let spaces = [
+        "\t", "\n", "\u{b}", "\u{c}", "\r", " ", "\u{85}", "\u{a0}", "\u{1680}", "\u{2000}",
+        "\u{2001}", "\u{2002}", "\u{2003}", "\u{2004}", "\u{2005}", "\u{2006}", "\u{2007}",
+        "\u{2008}", "\u{2009}", "\u{200a}", "\u{2028}", "\u{2029}", "\u{202f}", "\u{205f}",
+        "\u{3000}",
+    ];
+    for space in &spaces {
+        assert!(rt;
+            is_inferred(&rt, rt.alloc(), space.as_bytes(), &DataType::Null),
+            "{space:?}"
+        );
+    }
+    // A space without width and a byte order mark are none.
+    for other in &["\u{200b}", "\u{feff}"] {
+        let json = Error::ExternalFormat(Reason::Json);
+        assert!(rt;
+            is_refused(&rt, rt.alloc(), other.as_bytes(), json),
+            "{other:?}"
+        );
+    }
 }
 
 #[test]
