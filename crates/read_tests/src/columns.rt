@@ -1,6 +1,6 @@
 //! Columns of JSON values. What is expected is the table of types, worked by hand, and is compared
 //! as the JSON text of the column.
-use crate::types::{field, list, one_field, two_fields};
+use crate::types::{field, list, one_field, sized_list, two_fields};
 use arrow_array::Array;
 use arrow_core::Result;
 use arrow_types::{DataType, TimeUnit};
@@ -104,4 +104,20 @@ fn an_array_of_no_items_has_no_slot(rt: HostRuntime) -> std::result::Result<(), 
     let array = column(alloc, b"[]", one_field(alloc, "a", DataType::Null)?)?;
     assert!(rt; array.len() == 0);
     Ok(())
+}
+
+#[test]
+fn only_an_array_of_so_many_is_a_fixed_size_list(rt: HostRuntime) {
+    let alloc = rt.alloc();
+    let text = b"[[1,2],[3],[],null,[4,\"x\"]]";
+    let wanted = b"[1,2],null,null,null,[4,null]";
+    assert!(rt;
+        is_read(
+            &rt,
+            alloc,
+            text,
+            sized_list(alloc, DataType::Int8, 2),
+            wanted
+        )
+    );
 }

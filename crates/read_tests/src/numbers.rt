@@ -1,5 +1,11 @@
 //! Whole values of numbers. The expected values are computed by hand from RFC 8259, section 6.
+use crate::columns::column;
+use crate::refusals::is_refused;
+use arrow_core::{Error, Result};
+use arrow_types::DataType;
 use json_flat::read_whole_text;
+use std::alloc::Global;
+use std::test::Fail;
 
 fn whole(mantissa: &str, exponent: &str) -> Option<i128> {
     read_whole_text(mantissa, exponent, i64::MIN as i128, i64::MAX as i128)
@@ -32,4 +38,25 @@ fn texts_that_are_no_number_have_no_value(rt: HostRuntime) {
     assert!(rt; whole("1.", "") == None);
     assert!(rt; whole("", "") == None);
     assert!(rt; whole("1", "+") == None);
+}
+
+/// A million digits, each 1.
+fn million_ones(alloc: Global) -> Result<String> {
+    let mut digits = String::new(alloc);
+    for _ in 0..100_000 {
+        digits.push_str("1111111111")?;
+    }
+    Ok(digits)
+}
+
+#[test]
+fn a_million_digits_take_no_long(rt: HostRuntime) -> std::result::Result<(), Fail> {
+    let alloc = rt.alloc();
+    let digits = million_ones(alloc)?;
+    assert!(rt; whole(digits.as_str(), "") == None);
+    assert!(rt; whole(digits.as_str(), "-999999") == Some(1));
+    let text = format!(in alloc; "[{digits}]")?;
+    let answer = column(alloc, text.as_str().as_bytes(), DataType::Int64);
+    assert!(rt; is_refused(answer, Error::Overflow));
+    Ok(())
 }

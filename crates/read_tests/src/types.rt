@@ -1,6 +1,6 @@
 //! Types that values are read under.
 use arrow_core::{Box, Items, Result, Text};
-use arrow_types::{DataType, Field};
+use arrow_types::{DataType, Field, IntegerType};
 use std::alloc::Global;
 
 /// A nullable field.
@@ -28,4 +28,15 @@ pub(crate) fn two_fields(alloc: Global, one: Field, other: Field) -> Result<Data
     fields.push(one)?;
     fields.push(other)?;
     Ok(DataType::Struct(Items::from_vec(fields)))
+}
+
+/// A FixedSizeList of so many nullable items.
+pub(crate) fn sized_list(alloc: Global, item: DataType, size: usize) -> Result<DataType> {
+    let item = field(alloc, "item", item)?;
+    Ok(DataType::FixedSizeList(Box::new(alloc, item)?, size))
+}
+
+/// A Dictionary of such keys over this type.
+pub(crate) fn dictionary(alloc: Global, key: IntegerType, value: DataType) -> Result<DataType> {
+    Ok(DataType::Dictionary(key, Box::new(alloc, value)?, false))
 }

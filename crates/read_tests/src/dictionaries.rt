@@ -1,0 +1,90 @@
+//! Dictionaries of JSON values. What is expected was worked by hand.
+use crate::columns::{column, has_text};
+use crate::refusals::is_refused;
+use crate::types::dictionary;
+use arrow_array::{Array, Keys};
+use arrow_core::{Error, Result};
+use arrow_types::{DataType, IntegerType};
+use std::alloc::Global;
+use std::test::Fail;
+
+/// Keys as indices.
+pub(crate) fn indices(alloc: Global, keys: &Keys) -> Result<Vec<Option<usize>>> {
+    let mut indices = Vec::new(alloc);
+    for i in 0..keys.len() {
+        indices.push(keys.index(i))?;
+    }
+    Ok(indices)
+}
+
+/// The keys of a column of a dictionary, as indices.
+fn column_indices(alloc: Global, column: &Array) -> Result<Vec<Option<usize>>> {
+    match column {
+        Array::Dictionary(array) => indices(alloc, array.keys()),
+        _ => Ok(Vec::new(alloc)),
+    }
+}
+
+/// The bytes of the values of a column of a dictionary over Utf8.
+fn bytes(column: &Array) -> &[u8] {
+    match column {
+        Array::Dictionary(array) => match array.values() {
+            Array::Utf8(values) => values.values(),
+            _ => &[],
+        },
+        _ => &[],
+    }
+}
+
+#[test]
+fn a_string_stands_once(rt: HostRuntime) -> std::result::Result<(), Fail> {
+    let alloc = rt.alloc();
+    let text = b"[\"b\",true,\"true\",\"b\",null]";
+    let data_type = dictionary(alloc, IntegerType::Int32, DataType::Utf8)?;
+    let column = column(alloc, text, data_type)?;
+    let keys = column_indices(alloc, &column)?;
+    assert!(rt; keys.as_slice() == [Some(0), Some(1), Some(1), Some(0), None].as_slice());
+    assert!(rt; bytes(&column) == b"btrue".as_slice());
+    let wanted = b"\"b\",\"true\",\"true\",\"b\",null";
+    assert!(rt; has_text(&rt, alloc, Ok(column), wanted));
+    Ok(())
+}
+
+#[test]
+fn an_integer_is_cut_before_it_is_looked_for(rt: HostRuntime) -> std::result::Result<(), Fail> {
+    let alloc = rt.alloc();
+    let data_type = dictionary(alloc, IntegerType::UInt8, DataType::Int16)?;
+    let column = column(alloc, b"[7.9,\"x\",7,true,1e0,-0.5]", data_type)?;
+    let keys = column_indices(alloc, &column)?;
+    let wanted = [Some(0), None, Some(0), Some(1), Some(1), Some(2)];
+    assert!(rt; keys.as_slice() == wanted.as_slice());
+    Ok(())
+}
+
+/// The text of an array of so many strings, each another.
+fn counted(alloc: Global, count: u8) -> Result<String> {
+    let mut text = String::from_str(alloc, "[\"\"")?;
+    for i in 1..count {
+        text.push_str(format!(in alloc; ",\"{i}\"")?.as_str())?;
+    }
+    text.push_str("]")?;
+    Ok(text)
+}
+
+#[test]
+fn there_are_as_many_values_as_keys(rt: HostRuntime) -> std::result::Result<(), Fail> {
+    let alloc = rt.alloc();
+    let text = counted(alloc, 128)?;
+    let data_type = dictionary(alloc, IntegerType::Int8, DataType::LargeUtf8)?;
+    let column_of_all = column(alloc, text.as_str().as_bytes(), data_type)?;
+    assert!(rt; column_of_all.len() == 128);
+    let text = counted(alloc, 129)?;
+    let data_type = dictionary(alloc, IntegerType::Int8, DataType::LargeUtf8)?;
+    assert!(rt;
+        is_refused(
+            column(alloc, text.as_str().as_bytes(), data_type),
+            Error::Overflow
+        )
+    );
+    Ok(())
+}
