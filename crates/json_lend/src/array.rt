@@ -42,6 +42,16 @@ fn lend_item<'a>(reader: &mut Reader<'a>, depth: usize) -> Option<Lent<'a>>
 }
 
 impl<'a> LentArray<'a> {
+    /// The same items, to be lent once more.
+    pub fn again(&self) -> LentArray<'a>
+        ensures { result ≡ self.now }
+    {
+        LentArray {
+            reader: self.reader.again(),
+            depth: self.depth,
+        }
+    }
+
     /// Lends the next item, in the order of the text; `None` exactly where there is no further one.
     /// The array was checked when it was lent, so no item is at fault.
     pub fn next_item(&mut self) -> Option<Lent<'a>>

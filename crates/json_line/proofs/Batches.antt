@@ -4,10 +4,12 @@ use Rattle.std.specs.List.{AllZip}
 use Rattle.std.proofs.lemmas.List.{append-nil, length-map, map-append, take_more}
 use Rattle.arrow_array.specs.Arrays.{array_slots, array_type}
 use Rattle.arrow_array.specs.declared.array.Array.{Array}
+use Rattle.arrow_builders.specs.Children.{fields_of}
 use Rattle.arrow_builders.specs.MutableArrays.{builder_slots, builder_type}
+use Rattle.arrow_builders.specs.Shapes.{Shape, shape, shape_type}
+use Rattle.arrow_builders.proofs.Heads.{type_is}
 use Rattle.arrow_builders.specs.declared.array.MutableArray.{MutableArray}
 use Rattle.arrow_types.specs.declared.slot.Slot.{Slot}
-use Rattle.arrow_types.specs.declared.types.DataType.{DataType}
 use Rattle.arrow_types.specs.declared.types.Field.{Field}
 use Rattle.json_tree.specs.Layout.{distinct}
 use Rattle.json_tree.specs.Meaning.{IsJson}
@@ -15,8 +17,11 @@ use Rattle.json_tree.specs.Tree.{Json, object}
 use Rattle.json_flat.specs.Columns.{AreSlotsOf, means}
 use Rattle.json_flat.specs.Meaning.{Layer, Meaning, slot_of}
 use Rattle.json_lend.specs.Fields.{value_named}
-use Rattle.json_line.specs.Lines.{are_line_fields, have_line_readings, names_of, types_of, values_named, AreColumnsOf, AreLineBuilders, AreObjects, IsColumnOf, TakesAll, TakesRow, TakesRows}
+use Rattle.json_line.specs.declared.field_names.FieldNames.{FieldNames}
+use Rattle.json_line.specs.Builders.{line_shape, shape_reading, shapes_of, AllSuit, AreLineBuilders, Takes, TakesAll, TakesRow, TakesRows}
+use Rattle.json_line.specs.Lines.{are_line_fields, have_line_readings, names_of, values_named, AreColumnsOf, AreObjects, IsColumnOf}
 use Rattle.json_line.specs.Types.{has_line_reading, line_reading}
+use Rattle.json_line.proofs.Shapes.{same_reading, same_type as type_of_shape}
 
 -- ---- lines after lines
 
@@ -34,39 +39,63 @@ get-map f [] k d = refl
 get-map f (x ∷ xs) zero d = refl
 get-map f (x ∷ xs) (suc k) d = get-map f xs k d
 
-same-type : (now old : List MutableArray) (k : ℕ) (b : MutableArray) → map builder_type now ≡ map builder_type old → builder_type (get_or now k b) ≡ builder_type (get_or old k b)
-same-type now old k b e = sym (get-map builder_type now k b) ∙ ap (λ ts. get_or ts k (builder_type b)) e ∙ get-map builder_type old k b
+same-shape : (now old : List MutableArray) (k : ℕ) (b : MutableArray) → map shape now ≡ map shape old → shape (get_or now k b) ≡ shape (get_or old k b)
+same-shape now old k b e = sym (get-map shape now k b) ∙ ap (λ ss. get_or ss k (shape b)) e ∙ get-map shape old k b
 
 -- one value more
 value-more : (f : Layer → Meaning) (vs : List Json) (v : Json) (added : List Slot) (s : Slot) → AreSlotsOf f vs added → means f v ≡ slot_of s → AreSlotsOf f (vs ++ v ∷ []) (added ++ s ∷ [])
 value-more f vs v added s h m =
     map-append (means f) vs (v ∷ []) ∙ ((λ i. h i ++ m i ∷ []) ∙ sym (map-append slot_of added (s ∷ [])))
 
-row-more : (names : List (List ℕ)) (rows : List (List (List ℕ × Json))) (members : List (List ℕ × Json)) (old now new : List MutableArray) → length now ≡ length old → map builder_type now ≡ map builder_type old → TakesRows names rows old now → TakesRow names members now new
+row-more : (names : List (List ℕ)) (rows : List (List (List ℕ × Json))) (members : List (List ℕ × Json)) (old now new : List MutableArray) → length now ≡ length old → map shape now ≡ map shape old → TakesRows names rows old now → TakesRow names members now new
     → TakesRows names (rows ++ members ∷ []) old new
-row-more names rows members old now new n types t r k name b lt =
+row-more names rows members old now new n shapes t r k name b lt =
     let a = t k name b lt in
     let p = r k name b (omega (arith, n, lt)) in
     let here : List ℕ = get_or names k name in
-    let m : means (line_reading (builder_type (get_or old k b))) (value_named members here) ≡ slot_of p.0 = ap (λ ty. means (line_reading ty) (value_named members here)) (sym (same-type now old k b types)) ∙ p.1 in
+    let m : means (shape_reading (shape (get_or old k b))) (value_named members here) ≡ slot_of p.0 = ap (λ s. means (shape_reading s) (value_named members here)) (sym (same-shape now old k b shapes)) ∙ p.1 in
     let vs : values_named (rows ++ members ∷ []) here ≡ values_named rows here ++ value_named members here ∷ [] = map-append (λ ms. value_named ms here) rows (members ∷ []) in (
       a.0 ++ p.0 ∷ [],
-      subst (λ xs. AreSlotsOf (line_reading (builder_type (get_or old k b))) xs (a.0 ++ p.0 ∷ [])) (sym vs) (value-more (line_reading (builder_type (get_or old k b))) (values_named rows here) (value_named members here) a.0 p.0 a.1 m),
+      subst (λ xs. AreSlotsOf (shape_reading (shape (get_or old k b))) xs (a.0 ++ p.0 ∷ [])) (sym vs) (value-more (shape_reading (shape (get_or old k b))) (values_named rows here) (value_named members here) a.0 p.0 a.1 m),
       p.2 ∙ (ap (λ (xs : List Slot). xs ++ p.0 ∷ []) a.2 ∙ append_assoc (builder_slots (get_or old k b)) a.0 (p.0 ∷ [])),
     )
+
+-- one item more
+pub item-more : (done : List Json) (v : Json) (old now new : MutableArray) → shape now ≡ shape old → TakesAll done old now → Takes v now new → TakesAll (done ++ v ∷ []) old new
+item-more done v old now new same (added, meant, are) (s, m, e) =
+    let f = shape_reading (shape old) in
+    let here : means f v ≡ slot_of s = ap (λ x. means (shape_reading x) v) (sym same) ∙ m in
+    (added ++ s ∷ [], value-more f done v added s meant here, e ∙ (ap (λ (xs : List Slot). xs ++ s ∷ []) are ∙ append_assoc (builder_slots old) added (s ∷ [])))
+
+pub no-items : (b : MutableArray) → TakesAll [] b b
+no-items b = ([], refl, sym (append-nil (builder_slots b)))
+
+-- the items before those that are left were taken
+abbrev pub ItemsSoFar : List Json → List Json → MutableArray → MutableArray → Type 0
+ItemsSoFar items left old now = (done : List Json) × (items ≡ done ++ left) × TakesAll done old now
+
+pub items-start : (items left : List Json) (b : MutableArray) → left ≡ items → ItemsSoFar items left b b
+items-start items left b e = ([], sym e, no-items b)
+
+pub items-step : (items left more : List Json) (v : Json) (old now new : MutableArray) → shape now ≡ shape old → left ≡ v ∷ more → ItemsSoFar items left old now → Takes v now new → ItemsSoFar items more old new
+items-step items left more v old now new same e (done, is, all) took =
+    (done ++ v ∷ [], is ∙ (ap (λ (xs : List Json). done ++ xs) e ∙ sym (append_assoc done (v ∷ []) more)), item-more done v old now new same all took)
+
+pub items-end : (items left : List Json) (old now : MutableArray) → left ≡ [] → ItemsSoFar items left old now → TakesAll items old now
+items-end items left old now e (done, is, all) = subst (λ xs. TakesAll xs old now) (sym (is ∙ (ap (λ (xs : List Json). done ++ xs) e ∙ append-nil done))) all
 
 -- the rows of the first lines
 abbrev pub RowsSoFar : ℕ → List (List ℕ) → List (List ℕ) → List MutableArray → List MutableArray → Type 0
 RowsSoFar i lines names old now = (rows : List (List (List ℕ × Json))) × AreObjects rows (take i lines) × TakesRows names rows old now
 
-pub line-more : (i : ℕ) (lines names : List (List ℕ)) (line text : List ℕ) (old now new : List MutableArray) → i < length lines → line ≡ get_or lines i line → text ≡ line → length now ≡ length old → map builder_type now ≡ map builder_type old → RowsSoFar i lines names old now
+pub line-more : (i : ℕ) (lines names : List (List ℕ)) (line text : List ℕ) (old now new : List MutableArray) → i < length lines → line ≡ get_or lines i line → text ≡ line → length now ≡ length old → map shape now ≡ map shape old → RowsSoFar i lines names old now
     → (members : List (List ℕ × Json)) × IsJson (object members) text × TakesRow names members now new → RowsSoFar (i + 1) lines names old new
-line-more i lines names line text old now new lt is same n types so_far (members, json, row) =
+line-more i lines names line text old now new lt is same n shapes so_far (members, json, row) =
     let R : List (List ℕ × Json) → List ℕ → Type 0 = λ ms l. IsJson (object ms) l in
     let more : take (i + 1) lines ≡ take i lines ++ line ∷ [] = take_more lines i line lt ∙ ap (λ (l : List ℕ). take i lines ++ l ∷ []) (sym is) in (
       so_far.0 ++ members ∷ [],
       subst (λ ls. AllZip R (so_far.0 ++ members ∷ []) ls) (sym more) (zip-push R so_far.0 (take i lines) members line so_far.1 (subst (λ t. IsJson (object members) t) same json)),
-      row-more names so_far.0 members old now new n types so_far.2 row,
+      row-more names so_far.0 members old now new n shapes so_far.2 row,
     )
 
 take-whole : (xs : List (List ℕ)) (n : ℕ) → length xs ≤ n → take n xs ≡ xs
@@ -95,60 +124,71 @@ are-distinct fields e = and-left (distinct (names_of fields)) _ e
 pub are-readable : (fields : List Field) → are_line_fields fields ≡ true → have_line_readings fields ≡ true
 are-readable fields e = and-right (distinct (names_of fields)) _ e
 
-column-of : (rows : List (List (List ℕ × Json))) (f : Field) (b d : MutableArray) (a : Array) → has_line_reading f.data_type ≡ true → builder_type b ≡ f.data_type → builder_slots b ≡ [] → TakesAll (values_named rows f.name) b d → array_type a ≡ f.data_type → array_slots a ≡ builder_slots d
+column-of : (rows : List (List (List ℕ × Json))) (f : Field) (b d : MutableArray) (a : Array) → has_line_reading f.data_type ≡ true → shape b ≡ line_shape f.data_type → builder_slots b ≡ [] → TakesAll (values_named rows f.name) b d → array_type a ≡ builder_type d → shape d ≡ shape b → array_slots a ≡ builder_slots d
     → IsColumnOf rows f a
-column-of rows f b d a readable type none (added, meant, are) kind slots = record {
+column-of rows f b d a readable shaped none (added, meant, are) type same slots = record {
   readable = readable;
-  data_type = kind;
+  data_type = type ∙ (type_is d ∙ (ap shape_type (same ∙ shaped) ∙ type_of_shape f.data_type));
   slots =
-      let same : array_slots a ≡ added = slots ∙ (are ∙ ap (λ (xs : List Slot). xs ++ added) none) in
-      subst (λ xs. AreSlotsOf (line_reading f.data_type) (values_named rows f.name) xs) (sym same) (subst (λ t. AreSlotsOf (line_reading t) (values_named rows f.name) added) type meant);
+      let held : array_slots a ≡ added = slots ∙ (are ∙ ap (λ (xs : List Slot). xs ++ added) none) in
+      let reading : shape_reading (shape b) ≡ line_reading f.data_type = ap shape_reading shaped ∙ same_reading f.data_type in
+      subst (λ xs. AreSlotsOf (line_reading f.data_type) (values_named rows f.name) xs) (sym held) (subst (λ (r : Layer → Meaning). AreSlotsOf r (values_named rows f.name) added) reading meant);
 }
 
-pub columns-of : (rows : List (List (List ℕ × Json))) (fields : List Field) (bs ds : List MutableArray) (arrays : List Array) → have_line_readings fields ≡ true → map builder_type bs ≡ types_of fields → length ds ≡ length bs → All (λ b. builder_slots b ≡ []) bs
-    → TakesRows (names_of fields) rows bs ds → map array_type arrays ≡ types_of fields → map array_slots arrays ≡ map builder_slots ds → AllZip (IsColumnOf rows) fields arrays
-columns-of rows [] bs ds [] r types n none t kinds slots = tt
-columns-of rows [] bs ds (a ∷ arrays) r types n none t kinds slots = absurd cc
-columns-of rows (f ∷ fields) bs ds [] r types n none t kinds slots = absurd cc
-columns-of rows (f ∷ fields) [] ds (a ∷ arrays) r types n none t kinds slots = absurd cc
-columns-of rows (f ∷ fields) (b ∷ bs) [] (a ∷ arrays) r types n none t kinds slots = absurd cc
-columns-of rows (f ∷ fields) (b ∷ bs) (d ∷ ds) (a ∷ arrays) r types n none t kinds slots =
-    let type : builder_type b ≡ f.data_type = cc in
-    let others : map builder_type bs ≡ types_of fields = cc in
-    let kind : array_type a ≡ f.data_type = cc in
-    let other_kinds : map array_type arrays ≡ types_of fields = cc in
+pub columns-of : (rows : List (List (List ℕ × Json))) (fields : List Field) (bs ds : List MutableArray) (arrays : List Array) → have_line_readings fields ≡ true → map shape bs ≡ shapes_of fields → map shape ds ≡ map shape bs → All (λ b. builder_slots b ≡ []) bs
+    → TakesRows (names_of fields) rows bs ds → map array_type arrays ≡ map builder_type ds → map array_slots arrays ≡ map builder_slots ds → AllZip (IsColumnOf rows) fields arrays
+columns-of rows [] [] [] [] r shaped same none t types slots = tt
+columns-of rows [] [] [] (a ∷ arrays) r shaped same none t types slots = absurd cc
+columns-of rows [] [] (d ∷ ds) arrays r shaped same none t types slots = absurd cc
+columns-of rows [] (b ∷ bs) ds arrays r shaped same none t types slots = absurd cc
+columns-of rows (f ∷ fields) [] ds arrays r shaped same none t types slots = absurd cc
+columns-of rows (f ∷ fields) (b ∷ bs) [] arrays r shaped same none t types slots = absurd cc
+columns-of rows (f ∷ fields) (b ∷ bs) (d ∷ ds) [] r shaped same none t types slots = absurd cc
+columns-of rows (f ∷ fields) (b ∷ bs) (d ∷ ds) (a ∷ arrays) r shaped same none t types slots =
+    let first : shape b ≡ line_shape f.data_type = cc in
+    let others : map shape bs ≡ shapes_of fields = cc in
+    let kept : shape d ≡ shape b = cc in
+    let other_kept : map shape ds ≡ map shape bs = cc in
+    let type : array_type a ≡ builder_type d = cc in
+    let other_types : map array_type arrays ≡ map builder_type ds = cc in
     let held : array_slots a ≡ builder_slots d = cc in
     let other_slots : map array_slots arrays ≡ map builder_slots ds = cc in (
-      column-of rows f b d a (and-left (has_line_reading f.data_type) _ r) type (none 0 b (omega arith)) (t 0 f.name b (omega arith)) kind held,
-      columns-of rows fields bs ds arrays (and-right (has_line_reading f.data_type) _ r) others (omega (arith, n)) (λ k x lt. none (suc k) x (omega (arith, lt))) (λ k name x lt. t (suc k) name x (omega (arith, lt))) other_kinds other_slots,
+      column-of rows f b d a (and-left (has_line_reading f.data_type) _ r) first (none 0 b (omega arith)) (t 0 f.name b (omega arith)) type kept held,
+      columns-of rows fields bs ds arrays (and-right (has_line_reading f.data_type) _ r) others other_kept (λ k x lt. none (suc k) x (omega (arith, lt))) (λ k name x lt. t (suc k) name x (omega (arith, lt))) other_types other_slots,
     )
 
-count-types : (bs ds : List MutableArray) → map builder_type ds ≡ map builder_type bs → length ds ≡ length bs
-count-types bs ds e = sym (length-map ds builder_type) ∙ (ap length e ∙ length-map bs builder_type)
+module _ (fields : List Field) (names : List (List ℕ)) (below : List FieldNames) (builders bs : List MutableArray) (are : AreLineBuilders fields names below builders) (shapes : map shape bs ≡ map shape builders) where
+  -- the columns of the rows of lines
+  pub lines-read : (lines : List (List ℕ)) (ds : List MutableArray) (arrays : List Array) → All (λ b. builder_slots b ≡ []) bs → map shape ds ≡ map shape bs
+      → (rows : List (List (List ℕ × Json))) × AreObjects rows lines × TakesRows names rows bs ds → map array_type arrays ≡ map builder_type ds → map array_slots arrays ≡ map builder_slots ds → AreColumnsOf fields lines arrays
+  lines-read lines ds arrays none same (rows, objects, takes) types slots = record {
+    rows = rows;
+    objects = objects;
+    members = columns-of rows fields bs ds arrays (are-readable fields are.fit) (shapes ∙ are.shapes_are) same none (subst (λ ns. TakesRows ns rows bs ds) are.names_are takes) types slots;
+  }
 
--- the columns of the rows of lines
-pub lines-read : (fields : List Field) (names given lines : List (List ℕ)) (builders bs ds : List MutableArray) (arrays : List Array) → AreLineBuilders fields names builders → given ≡ names → map builder_type bs ≡ map builder_type builders → All (λ b. builder_slots b ≡ []) bs → map builder_type ds ≡ map builder_type bs
-    → (rows : List (List (List ℕ × Json))) × AreObjects rows lines × TakesRows given rows bs ds → map array_type arrays ≡ map builder_type ds → map array_slots arrays ≡ map builder_slots ds → AreColumnsOf fields lines arrays
-lines-read fields names given lines builders bs ds arrays are is types none same (rows, objects, takes) kinds slots = record {
-  rows = rows;
-  objects = objects;
-  members = columns-of rows fields bs ds arrays (are-readable fields are.fit) (types ∙ are.types_are) (count-types bs ds same) none (subst (λ ns. TakesRows ns rows bs ds) (is ∙ are.names_are) takes) (kinds ∙ (same ∙ (types ∙ are.types_are))) slots;
-}
+  -- what lines are pushed into
+  pub names-distinct : distinct names ≡ true
+  names-distinct = subst (λ ns. distinct ns ≡ true) (sym are.names_are) (are-distinct fields are.fit)
 
--- what lines are pushed into
-pub names-distinct : (fields : List Field) (names given : List (List ℕ)) (builders : List MutableArray) → AreLineBuilders fields names builders → given ≡ names → distinct given ≡ true
-names-distinct fields names given builders are is = subst (λ ns. distinct ns ≡ true) (sym (is ∙ are.names_are)) (are-distinct fields are.fit)
+  pub as-many : length bs ≡ length names
+  as-many =
+      let f : Field → List ℕ = λ (x : Field). x.name in
+      let g : Field → Shape = λ (x : Field). line_shape x.data_type in
+      sym (length-map bs shape) ∙ (ap length (shapes ∙ are.shapes_are) ∙ (length-map fields g ∙ (sym (length-map fields f) ∙ ap length (sym are.names_are))))
 
-pub as-many : (fields : List Field) (names given : List (List ℕ)) (builders bs : List MutableArray) → AreLineBuilders fields names builders → map builder_type bs ≡ map builder_type builders → given ≡ names → length bs ≡ length given
-as-many fields names given builders bs are types is =
-    let f : Field → List ℕ = λ (x : Field). x.name in
-    let g : Field → DataType = λ (x : Field). x.data_type in
-    sym (length-map bs builder_type) ∙ (ap length (types ∙ are.types_are) ∙ (length-map fields g ∙ (sym (length-map fields f) ∙ ap length (sym (is ∙ are.names_are)))))
+  pub all-suit : AllSuit below (fields_of (map shape bs))
+  all-suit = subst (λ (ss : List Shape). AllSuit below (fields_of ss)) (sym (shapes ∙ are.shapes_are)) are.suits
 
--- builders of the same types are those of the same fields
-pub kept-builders : (fields : List Field) (names : List (List ℕ)) (bs ds : List MutableArray) → AreLineBuilders fields names bs → map builder_type ds ≡ map builder_type bs → AreLineBuilders fields names ds
-kept-builders fields names bs ds are same = record { fit = are.fit; names_are = are.names_are; types_are = same ∙ are.types_are }
+-- builders of the same shapes are those of the same fields
+pub kept-builders : (fields : List Field) (names : List (List ℕ)) (below : List FieldNames) (bs ds : List MutableArray) → AreLineBuilders fields names below bs → map shape ds ≡ map shape bs → AreLineBuilders fields names below ds
+kept-builders fields names below bs ds are same = record { fit = are.fit; names_are = are.names_are; suits = are.suits; shapes_are = same ∙ are.shapes_are }
 
 -- seen by equal names and builders
-pub moved-builders : (fields : List Field) (names given : List (List ℕ)) (bs lent : List MutableArray) → AreLineBuilders fields names bs → given ≡ names → lent ≡ bs → AreLineBuilders fields given lent
-moved-builders fields names given bs lent are is same = record { fit = are.fit; names_are = is ∙ are.names_are; types_are = ap (map builder_type) same ∙ are.types_are }
+pub moved-builders : (fields : List Field) (names given : List (List ℕ)) (below lent_below : List FieldNames) (bs lent : List MutableArray) → AreLineBuilders fields names below bs → given ≡ names → lent_below ≡ below → lent ≡ bs → AreLineBuilders fields given lent_below lent
+moved-builders fields names given below lent_below bs lent are is under same = record {
+  fit = are.fit;
+  names_are = is ∙ are.names_are;
+  suits = subst (λ (ns : List FieldNames). AllSuit ns (fields_of (shapes_of fields))) (sym under) are.suits;
+  shapes_are = ap (map shape) same ∙ are.shapes_are;
+}

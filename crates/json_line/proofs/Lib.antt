@@ -1,4 +1,10 @@
 pub mod Meanings
+pub mod Shapes
+pub mod Suited
+pub mod Making
+pub mod Nested
+pub mod FieldLaws
+pub mod MadeLaws
 pub mod Rows
 pub mod Batches
 pub mod Kept

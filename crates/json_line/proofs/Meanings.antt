@@ -1,17 +1,17 @@
 -- What is appended is what the value that is lent means.
-use Rattle.std.proofs.Common.{◌≡◌, ℕ, ℤ, pos, Bool, true, false, cond, eqb, length, List, [], ◌∷◌, ◌++◌, refl, sym, ap, subst, ◌∙◌, Some, None, Bor, arith}
+use Rattle.std.proofs.Common.{◌≡◌, ℕ, ℤ, pos, Bool, true, false, cond, eqb, length, List, [], ◌∷◌, ◌++◌, refl, sym, ap, ◌∙◌, Some, None, Bor, arith}
 use Rattle.std.specs.Prelude.{Result, Ok, Err, OnOk}
 use Rattle.std.proofs.lemmas.Bool.{true≢false}
 use Rattle.json_tree.proofs.Turns.{ne-eqb}
-use Rattle.arrow_types.specs.Layouts.{physical_type}
 use Rattle.arrow_types.specs.declared.physical.PhysicalType.{PhysicalType}
 use Rattle.arrow_types.specs.declared.physical.PhysicalType.TheVariants as physical
 use Rattle.arrow_types.specs.declared.physical.PrimitiveType.TheVariants as primitive
 use Rattle.arrow_types.specs.declared.slot.Slot.{Slot}
 use Rattle.arrow_types.specs.declared.slot.Slot.TheVariants as slot
 use Rattle.arrow_types.specs.declared.types.DataType.{DataType}
-use Rattle.arrow_builders.specs.MutableArrays.{builder_kind, builder_slots, builder_type}
-use Rattle.arrow_builders.specs.Shapes.{IsFlat}
+use Rattle.arrow_builders.specs.MutableArrays.{builder_slots}
+use Rattle.arrow_builders.specs.Shapes.{flat, shape}
+use Rattle.arrow_builders.specs.Tight.{IsTight}
 use Rattle.arrow_builders.specs.declared.array.MutableArray.{MutableArray}
 use Rattle.arrow_builders.specs.declared.array.MutableArray as builder
 use Rattle.arrow_flat.specs.Builders.{ContentBuilder, PlainBuilder}
@@ -26,8 +26,8 @@ use Rattle.json_lend.specs.declared.lent.Lent.{Lent}
 use Rattle.json_lend.specs.declared.lent.Lent.TheVariants as lent
 use Rattle.json_lend.specs.Standing.{lent_value}
 use Rattle.json_line.specs.declared.given_up.GivenUp.{GivenUp}
-use Rattle.json_line.specs.Lines.{IsGiven, Takes}
-use Rattle.json_line.specs.Types.{is_timestamp, kind_reading, line_reading}
+use Rattle.json_line.specs.Builders.{shape_reading, IsGiven, Takes}
+use Rattle.json_line.specs.Types.{is_timestamp, kind_reading}
 
 -- the slot that was pushed is what the value means
 pub pushed : (r : Result (Unit {0}) GivenUp) (reading : Layer → Meaning) (v : Json) (s : Slot) (old new : List Slot) → means reading v ≡ slot_of s → OnOk r (new ≡ old ++ s ∷ []) → OnOk r (Pushes reading v old new)
@@ -198,39 +198,29 @@ no-string (lent.Escaped s) p q = absurd (q s refl)
 no-string (lent.Array xs) p q = no-bytes (lent.Array xs) tt
 no-string (lent.Object ms) p q = no-bytes (lent.Object ms) tt
 
--- ---- builders of any kind
+-- ---- builders without children, of any kind
 
--- a builder's kind tells how values are read into it
-pub read_as : (t : DataType) (kind : PhysicalType) (reading : Layer → Meaning) → physical_type t ≡ kind → kind_reading (is_timestamp t) kind ≡ reading → line_reading t ≡ reading
-read_as t kind reading e k = ap (kind_reading (is_timestamp t)) e ∙ k
-
-pub taken : (r : Result (Unit {0}) GivenUp) (v : Json) (old new : MutableArray) (reading : Layer → Meaning) (before after : List Slot) → line_reading (builder_type old) ≡ reading → builder_slots old ≡ before → builder_slots new ≡ after → OnOk r (Pushes reading v before after) → OnOk r (Takes v old new)
+pub taken : (r : Result (Unit {0}) GivenUp) (v : Json) (old new : MutableArray) (reading : Layer → Meaning) (before after : List Slot) → shape_reading (shape old) ≡ reading → builder_slots old ≡ before → builder_slots new ≡ after → OnOk r (Pushes reading v before after) → OnOk r (Takes v old new)
 taken (Ok u) v old new reading before after e b a (s, m, p) = (s, ap (λ (f : Layer → Meaning). means f v) e ∙ m, a ∙ (p ∙ ap (λ (xs : List Slot). xs ++ s ∷ []) (sym b)))
 taken (Err g) v old new reading before after e b a p = tt
 
+always : (r : Result (Unit {0}) GivenUp) {P : Type 0} → P → OnOk r P
+always (Ok u) p = p
+always (Err g) p = tt
+
 -- a kind of builders without children
 pub record Kind {B : Type 0} (make : B → MutableArray) (data_type : B → DataType) (slots : B → List Slot) (kind : PhysicalType) : Type 0 where
-  pub flat : (b : B) → IsFlat (make b)
-  pub types : (b : B) → builder_type (make b) ≡ data_type b
+  pub shapes : (b : B) → shape (make b) ≡ flat kind (data_type b)
   pub held : (b : B) → builder_slots (make b) ≡ slots b
-  pub kinds : (b : B) → builder_kind (make b) ≡ kind
-
-pub took : {B : Type 0} (make : B → MutableArray) (data_type : B → DataType) (slots : B → List Slot) (kind : PhysicalType) → Kind make data_type slots kind → (reading : Layer → Meaning) (r : Result (Unit {0}) GivenUp) (v : Json) (o b n : B) (old new : MutableArray)
-    → kind_reading (is_timestamp (data_type b)) kind ≡ reading → o ≡ b → old ≡ make b → new ≡ make n → (IsFlat old → physical_type (builder_type old) ≡ builder_kind old) → OnOk r (Pushes reading v (slots o) (slots n)) → OnOk r (Takes v old new)
-took make data_type slots kind K reading r v o b n old new same q e w tell p =
-    let k : physical_type (data_type b) ≡ kind = ap physical_type (sym (K.types b)) ∙ (subst (λ x. IsFlat x → physical_type (builder_type x) ≡ builder_kind x) e tell (K.flat b) ∙ K.kinds b) in
-    let f : line_reading (builder_type old) ≡ reading = ap (λ x. line_reading (builder_type x)) e ∙ (ap line_reading (K.types b) ∙ read_as (data_type b) kind reading k same) in
-    taken r v old new reading (slots o) (slots n) f (ap builder_slots e ∙ (K.held b ∙ ap slots (sym q))) (ap builder_slots w ∙ K.held n) p
-
-pub same_type : {B : Type 0} (make : B → MutableArray) (data_type : B → DataType) (slots : B → List Slot) (kind : PhysicalType) → Kind make data_type slots kind → (o b n : B) (old new : MutableArray) → o ≡ b → old ≡ make b → new ≡ make n → data_type n ≡ data_type o → builder_type new ≡ builder_type old
-same_type make data_type slots kind K o b n old new q e w t = ap builder_type w ∙ (K.types n ∙ (t ∙ (ap data_type q ∙ (sym (K.types b) ∙ ap builder_type (sym e)))))
+  pub tight : (b : B) → IsTight (make b)
 
 -- a builder of the kind was given a value
 pub given : {B : Type 0} (make : B → MutableArray) (data_type : B → DataType) (slots : B → List Slot) (kind : PhysicalType) → Kind make data_type slots kind → (reading : Layer → Meaning) (r : Result (Unit {0}) GivenUp) (v : Json) (o b n : B) (old : MutableArray)
-    → kind_reading (is_timestamp (data_type b)) kind ≡ reading → o ≡ b → old ≡ make b → (IsFlat old → physical_type (builder_type old) ≡ builder_kind old) → data_type n ≡ data_type o → OnOk r (Pushes reading v (slots o) (slots n)) → IsGiven v old (make n) r
-given make data_type slots kind K reading r v o b n old same q e tell t p = record {
-  data_type = same_type make data_type slots kind K o b n old (make n) q e refl t;
-  ok = took make data_type slots kind K reading r v o b n old (make n) same q e refl tell p;
+    → kind_reading (is_timestamp (data_type b)) kind ≡ reading → o ≡ b → old ≡ make b → data_type n ≡ data_type o → OnOk r (Pushes reading v (slots o) (slots n)) → IsGiven v old (make n) r
+given make data_type slots kind K reading r v o b n old same q e t p = record {
+  same_shape = K.shapes n ∙ (ap (flat kind) (t ∙ ap data_type q) ∙ (sym (K.shapes b) ∙ ap shape (sym e)));
+  tight = always r (K.tight n);
+  ok = taken r v old (make n) reading (slots o) (slots n) (ap (λ x. shape_reading (shape x)) e ∙ (ap shape_reading (K.shapes b) ∙ same)) (ap builder_slots e ∙ (K.held b ∙ ap slots (sym q))) (K.held n) p;
 }
 
 abbrev pub PlainKind : (PlainBuilder → MutableArray) → PhysicalType → Type 0
@@ -240,40 +230,40 @@ abbrev pub ContentKind : (ContentBuilder → MutableArray) → PhysicalType → 
 ContentKind make kind = Kind make (λ (b : ContentBuilder). b.data_type) (λ (b : ContentBuilder). b.slots) kind
 
 pub booleans : PlainKind builder.Boolean physical.Boolean
-booleans = record { flat = λ b. tt; types = λ b. refl; held = λ b. refl; kinds = λ b. refl }
+booleans = record { shapes = λ b. refl; held = λ b. refl; tight = λ b. tt }
 
 pub int8 : PlainKind builder.Int8 (physical.Primitive primitive.Int8)
-int8 = record { flat = λ b. tt; types = λ b. refl; held = λ b. refl; kinds = λ b. refl }
+int8 = record { shapes = λ b. refl; held = λ b. refl; tight = λ b. tt }
 
 pub int16 : PlainKind builder.Int16 (physical.Primitive primitive.Int16)
-int16 = record { flat = λ b. tt; types = λ b. refl; held = λ b. refl; kinds = λ b. refl }
+int16 = record { shapes = λ b. refl; held = λ b. refl; tight = λ b. tt }
 
 pub int32 : PlainKind builder.Int32 (physical.Primitive primitive.Int32)
-int32 = record { flat = λ b. tt; types = λ b. refl; held = λ b. refl; kinds = λ b. refl }
+int32 = record { shapes = λ b. refl; held = λ b. refl; tight = λ b. tt }
 
 pub int64 : PlainKind builder.Int64 (physical.Primitive primitive.Int64)
-int64 = record { flat = λ b. tt; types = λ b. refl; held = λ b. refl; kinds = λ b. refl }
+int64 = record { shapes = λ b. refl; held = λ b. refl; tight = λ b. tt }
 
 pub uint8 : PlainKind builder.UInt8 (physical.Primitive primitive.UInt8)
-uint8 = record { flat = λ b. tt; types = λ b. refl; held = λ b. refl; kinds = λ b. refl }
+uint8 = record { shapes = λ b. refl; held = λ b. refl; tight = λ b. tt }
 
 pub uint16 : PlainKind builder.UInt16 (physical.Primitive primitive.UInt16)
-uint16 = record { flat = λ b. tt; types = λ b. refl; held = λ b. refl; kinds = λ b. refl }
+uint16 = record { shapes = λ b. refl; held = λ b. refl; tight = λ b. tt }
 
 pub uint32 : PlainKind builder.UInt32 (physical.Primitive primitive.UInt32)
-uint32 = record { flat = λ b. tt; types = λ b. refl; held = λ b. refl; kinds = λ b. refl }
+uint32 = record { shapes = λ b. refl; held = λ b. refl; tight = λ b. tt }
 
 pub uint64 : PlainKind builder.UInt64 (physical.Primitive primitive.UInt64)
-uint64 = record { flat = λ b. tt; types = λ b. refl; held = λ b. refl; kinds = λ b. refl }
+uint64 = record { shapes = λ b. refl; held = λ b. refl; tight = λ b. tt }
 
 pub strings : ContentKind builder.Utf8 physical.Utf8
-strings = record { flat = λ b. tt; types = λ b. refl; held = λ b. refl; kinds = λ b. refl }
+strings = record { shapes = λ b. refl; held = λ b. refl; tight = λ b. tt }
 
 pub large_strings : ContentKind builder.LargeUtf8 physical.LargeUtf8
-large_strings = record { flat = λ b. tt; types = λ b. refl; held = λ b. refl; kinds = λ b. refl }
+large_strings = record { shapes = λ b. refl; held = λ b. refl; tight = λ b. tt }
 
 pub bytes : ContentKind builder.Binary physical.Binary
-bytes = record { flat = λ b. tt; types = λ b. refl; held = λ b. refl; kinds = λ b. refl }
+bytes = record { shapes = λ b. refl; held = λ b. refl; tight = λ b. tt }
 
 pub large_bytes : ContentKind builder.LargeBinary physical.LargeBinary
-large_bytes = record { flat = λ b. tt; types = λ b. refl; held = λ b. refl; kinds = λ b. refl }
+large_bytes = record { shapes = λ b. refl; held = λ b. refl; tight = λ b. tt }

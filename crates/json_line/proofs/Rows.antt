@@ -1,7 +1,7 @@
 -- A row, builder by builder.
 use Rattle.std.proofs.Common.{◌≡◌, ◌≢◌, ℕ, zero, suc, ◌+◌, ◌<◌, ◌≤◌, Bool, true, false, eqb, List, [], ◌∷◌, length, set, get_or, map, refl, sym, ap, subst, ◌∙◌, arith}
 use Rattle.std.proofs.lemmas.Bool.Decides.{nat_tests}
-use Rattle.std.proofs.lemmas.List.{get_or-set_other, get_or_default}
+use Rattle.std.proofs.lemmas.List.{get_or-set_other, get_or_default, length-append, length-map}
 use Rattle.std.proofs.Math.Seq.{map-set_same}
 use Rattle.std.proofs.lemmas.Grind.{get_or-set_at}
 use Rattle.std.specs.Prelude.{Result, Ok, Err, OnOk}
@@ -12,10 +12,11 @@ use Rattle.json_lend.specs.declared.lent.Lent.{Lent}
 use Rattle.json_lend.specs.declared.lent.Lent.TheVariants as lent
 use Rattle.json_lend.specs.Standing.{lent_value}
 use Rattle.json_lend.specs.Fields.{value_named, values_of}
-use Rattle.arrow_builders.specs.MutableArrays.{builder_type}
-use Rattle.arrow_types.specs.declared.types.DataType.{DataType}
+use Rattle.arrow_builders.specs.MutableArrays.{builder_slots}
+use Rattle.arrow_builders.specs.Shapes.{Shape, shape}
+use Rattle.arrow_builders.specs.Tight.{AllTight, IsTight}
 use Rattle.json_line.specs.declared.given_up.GivenUp.{GivenUp}
-use Rattle.json_line.specs.Lines.{Takes, TakesLents, TakesRow}
+use Rattle.json_line.specs.Builders.{AreTight, Takes, TakesLents, TakesRow}
 
 -- so far the first i builders took the value that is lent at their index, and the others are as they were
 abbrev pub TakesSoFar : ℕ → List Lent → List MutableArray → List MutableArray → Type 0
@@ -23,9 +24,54 @@ TakesSoFar i lents old now =
     ((k : ℕ) (l : Lent) (b : MutableArray) → k < i → Takes (lent_value (get_or lents k l)) (get_or old k b) (get_or now k b))
     × ((k : ℕ) (b : MutableArray) → i ≤ k → get_or now k b ≡ get_or old k b)
 
--- a builder that is set keeps its type
-pub types-step : (now : List MutableArray) (i : ℕ) (b x : MutableArray) (ts : List DataType) → b ≡ get_or now i b → builder_type x ≡ builder_type b → map builder_type now ≡ ts → map builder_type (set now i x) ≡ ts
-types-step now i b x ts e t h = map-set_same builder_type now i x b (t ∙ ap builder_type e) ∙ h
+-- a builder that is set keeps its shape
+pub shapes-step : (now : List MutableArray) (i : ℕ) (b x : MutableArray) (ss : List Shape) → b ≡ get_or now i b → shape x ≡ shape b → map shape now ≡ ss → map shape (set now i x) ≡ ss
+shapes-step now i b x ss e t h = map-set_same shape now i x b (t ∙ ap shape e) ∙ h
+
+pub as-many-shapes : (bs cs : List MutableArray) → map shape cs ≡ map shape bs → length cs ≡ length bs
+as-many-shapes bs cs e = sym (length-map cs shape) ∙ ap length e ∙ length-map bs shape
+
+-- and all are tight
+pub tight-step : (bs : List MutableArray) (i : ℕ) (x : MutableArray) → AreTight bs → IsTight x → AreTight (set bs i x)
+tight-step [] i x h t = tt
+tight-step (b ∷ bs) zero x h t = (t, h.1)
+tight-step (b ∷ bs) (suc i) x h t = (h.0, tight-step bs i x h.1 t)
+
+pub tight-at : (bs : List MutableArray) (i : ℕ) (b : MutableArray) → i < length bs → AreTight bs → IsTight (get_or bs i b)
+tight-at [] i b lt h = absurd (omega (arith, lt))
+tight-at (c ∷ bs) zero b lt h = h.0
+tight-at (c ∷ bs) (suc i) b lt h = tight-at bs i b (omega (arith, lt)) h.1
+
+-- ---- the children of a builder of structs
+
+-- the first children have a slot more than n, and the others n
+abbrev pub PartTight : ℕ → ℕ → List MutableArray → Type 0
+PartTight n zero bs = AllTight n bs
+PartTight n (suc k) [] = Unit {0}
+PartTight n (suc k) (b ∷ bs) = (length (builder_slots b) ≡ n + 1) × IsTight b × PartTight n k bs
+
+pub part-at : (n i : ℕ) (bs : List MutableArray) (d : MutableArray) → PartTight n i bs → i < length bs → (length (builder_slots (get_or bs i d)) ≡ n) × IsTight (get_or bs i d)
+part-at n zero [] d h lt = absurd (omega (arith, lt))
+part-at n zero (b ∷ bs) d h lt = (h.0, h.1)
+part-at n (suc i) [] d h lt = absurd (omega (arith, lt))
+part-at n (suc i) (b ∷ bs) d h lt = part-at n i bs d h.2 (omega (arith, lt))
+
+pub part-next : (n i : ℕ) (bs : List MutableArray) (c : MutableArray) → PartTight n i bs → i < length bs → length (builder_slots c) ≡ n + 1 → IsTight c → PartTight n (suc i) (set bs i c)
+part-next n zero [] c h lt l t = absurd (omega (arith, lt))
+part-next n zero (b ∷ bs) c h lt l t = (l, t, h.2)
+part-next n (suc i) [] c h lt l t = absurd (omega (arith, lt))
+part-next n (suc i) (b ∷ bs) c h lt l t = (h.0, h.1, part-next n i bs c h.2 (omega (arith, lt)) l t)
+
+pub part-all : (n i : ℕ) (bs : List MutableArray) → length bs ≤ i → PartTight n i bs → AllTight (n + 1) bs
+part-all n i [] le h = tt
+part-all n zero (b ∷ bs) le h = absurd (omega (arith, le))
+part-all n (suc i) (b ∷ bs) le h = (h.0, h.1, part-all n i bs (omega (arith, le)) h.2)
+
+-- a slot more
+pub took-one : (v : Json) (b x : MutableArray) → Takes v b x → length (builder_slots x) ≡ length (builder_slots b) + 1
+took-one v b x (s, m, e) = omega (arith, ap length e, length-append (builder_slots b) (s ∷ []))
+
+-- ---- rows
 
 pub row-start : (lents : List Lent) (old : List MutableArray) → TakesSoFar 0 lents old old
 row-start lents old = (λ k l b h. absurd (omega (arith, h)), λ k b h. refl)
@@ -58,7 +104,7 @@ length-values : (ms : List (List ℕ × Json)) (names : List (List ℕ)) → len
 length-values ms [] = refl
 length-values ms (n ∷ ns) = ap suc (length-values ms ns)
 
-row-of : (names : List (List ℕ)) (ms : List (List ℕ × Json)) (lents : List Lent) (l : Lent) (old new : List MutableArray) → map lent_value lents ≡ values_of ms names → length old ≡ length names → TakesLents lents old new → TakesRow names ms old new
+pub row-of : (names : List (List ℕ)) (ms : List (List ℕ × Json)) (lents : List Lent) (l : Lent) (old new : List MutableArray) → map lent_value lents ≡ values_of ms names → length old ≡ length names → TakesLents lents old new → TakesRow names ms old new
 row-of names ms lents l old new e n r = λ k name b lt.
     let v : lent_value (get_or lents k l) ≡ value_named ms (get_or names k name) =
     sym (get_or-map lent_value lents k l) ∙ (ap (λ xs. get_or xs k (lent_value l)) e ∙ (get_or_default (values_of ms names) k (lent_value l) (value_named ms name) (omega (arith, lt, n, length-values ms names)) ∙ get_or-map (value_named ms) names k name)) in

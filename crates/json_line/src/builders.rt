@@ -3,18 +3,20 @@ ghost use Rattle.std.specs.Prelude.{◌≡◌, [], true, false, List, map, All, 
 ghost use Rattle.arrow_types.specs.declared.types.Field.{Field};
 ghost use Rattle.arrow_array.specs.Arrays.{array_slots, array_type};
 ghost use Rattle.arrow_builders.specs.MutableArrays.{builder_slots, builder_type};
+ghost use Rattle.arrow_builders.specs.Shapes.{shape};
 ghost use Rattle.arrow_core.specs.Errors.{OnlyOutOfMemory};
-ghost use Rattle.json_line.specs.Lines.{are_line_fields as are_line_fields_of, have_line_readings, names_of as names_of_fields, types_of, AreColumnsOf, AreLineBuilders};
+ghost use Rattle.json_line.specs.Builders.{AreLineBuilders, AreTight};
+ghost use Rattle.json_line.specs.Lines.{are_line_fields as are_line_fields_of, AreColumnsOf};
 
+use crate::field_names::{FieldNames, names_below, names_of};
 use crate::given_up::GivenUp;
 use crate::line::push_lines;
-use crate::made::make_builder;
-use crate::types::has_line_reading;
+use crate::made::make_builders;
+use crate::types::are_line_fields;
 use arrow_array::Array;
 use arrow_builders::MutableArray;
 use arrow_core::{Result, Text};
 use arrow_types::Field;
-use json_lend::are_distinct;
 use std::alloc::Global;
 use std::marker::Model;
 
@@ -24,6 +26,7 @@ pub struct LineBuilders {
     alloc: Global,
     fields: Vec<Field>,
     names: Vec<Text>,
+    below: Vec<FieldNames>,
     builders: Vec<MutableArray>,
 }
 
@@ -32,7 +35,7 @@ impl Model for LineBuilders {
     ghost use Rattle.std.specs.Coded.{coded_list};
     ghost use Rattle.arrow_types.specs.declared.types.Field.{Field};
     ghost use Rattle.arrow_types.specs.contracts.types.Field as the_fields;
-    ghost use Rattle.json_line.specs.Lines.{AreLineBuilders};
+    ghost use Rattle.json_line.specs.Builders.{AreLineBuilders};
 
     ghost Value = { List Field };
 
@@ -40,61 +43,14 @@ impl Model for LineBuilders {
 
     ghost view = { λ b. b.fields.items };
 
-    ghost invariant = { λ b. AreLineBuilders b.fields.items b.names.items b.builders.items };
-}
-
-/// Whether lines are read into columns of each field's type.
-fn have_readings(fields: &[Field]) -> bool
-    ensures { result ≡ have_line_readings fields.now }
-{
-    for field in fields {
-        if !has_line_reading(&field.data_type) {
-            return false;
-        }
-    }
-    true
-}
-
-/// Whether no two fields have the same name, and lines are read into columns of each type. The names
-/// are those of the fields.
-fn are_line_fields(names: &[Text], fields: &[Field]) -> bool
-    requires { names.now ≡ names_of_fields fields.now }
-    ensures { result ≡ are_line_fields_of fields.now }
-{
-    are_distinct(names) && have_readings(fields)
-}
-
-/// The fields' names.
-fn names_of(alloc: Global, fields: &[Field]) -> Result<Vec<Text>>
-    ensures names { IfOk result (λ names. names.items ≡ names_of_fields fields.now) }
-    ensures memory { OnlyOutOfMemory result }
-{
-    let mut names = Vec::with_capacity(alloc, fields.len())?;
-    for field in fields {
-        let name = field.name.try_clone(alloc)?;
-        names.push(name)?;
-    }
-    Ok(names)
-}
-
-/// A builder for each field.
-fn make_builders(alloc: Global, fields: &[Field]) -> Result<Vec<MutableArray>>
-    requires { have_line_readings fields.now ≡ true }
-    ensures types { IfOk result (λ builders. map builder_type builders.items ≡ types_of fields.now) }
-    ensures memory { OnlyOutOfMemory result }
-{
-    let mut builders = Vec::with_capacity(alloc, fields.len())?;
-    for field in fields {
-        let builder = make_builder(alloc, &field.data_type)?;
-        builders.push(builder)?;
-    }
-    Ok(builders)
+    ghost invariant = { λ b. AreLineBuilders b.fields.items b.names.items b.below.items b.builders.items };
 }
 
 /// Drops the slots of each builder.
 fn clear_all(builders: &mut [MutableArray])
-    ensures types { map builder_type builders.new ≡ map builder_type builders.old }
+    ensures shapes { map shape builders.new ≡ map shape builders.old }
     ensures slots { All (λ b. builder_slots b ≡ []) builders.new }
+    ensures tight { AreTight builders.new }
 {
     for i in 0..builders.len() {
         builders[i].clear();
@@ -103,7 +59,7 @@ fn clear_all(builders: &mut [MutableArray])
 
 /// The arrays of the builders' slots.
 fn box_all(alloc: Global, builders: &mut [MutableArray]) -> std::result::Result<Vec<Array>, GivenUp>
-    ensures types { map builder_type builders.new ≡ map builder_type builders.old }
+    ensures shapes { map shape builders.new ≡ map shape builders.old }
     ensures array_types { IfOk result
         (λ arrays. map array_type arrays.items ≡ map builder_type builders.old) }
     ensures array_slots { IfOk result
@@ -117,20 +73,22 @@ fn box_all(alloc: Global, builders: &mut [MutableArray]) -> std::result::Result<
     Ok(arrays)
 }
 
-/// The columns of the lines' members, by the names and the builders of their fields.
+/// The columns of the lines' members, by the names and the builders of their fields. `below` are the
+/// names beneath each.
 fn read_all(
     alloc: Global,
     lines: &[Text],
     names: &[Text],
+    below: &[FieldNames],
     builders: &mut [MutableArray],
 ) -> std::result::Result<Vec<Array>, GivenUp>
-    requires { (fields : List Field) × AreLineBuilders fields names.now builders.old }
-    ensures types { map builder_type builders.new ≡ map builder_type builders.old }
-    ensures ok { (fields : List Field) → AreLineBuilders fields names.now builders.old
+    requires { (fields : List Field) × AreLineBuilders fields names.now below.now builders.old }
+    ensures shapes { map shape builders.new ≡ map shape builders.old }
+    ensures ok { (fields : List Field) → AreLineBuilders fields names.now below.now builders.old
         → IfOk result (λ columns. AreColumnsOf fields lines.now columns.items) }
 {
     clear_all(builders);
-    push_lines(alloc, lines, names, builders)?;
+    push_lines(alloc, lines, names, below, builders)?;
     let columns = box_all(alloc, builders)?;
     Ok(columns)
 }
@@ -143,15 +101,17 @@ impl LineBuilders {
             (λ builders. (builders ≡ fields.items) × (are_line_fields_of fields.items ≡ true))) }
         ensures memory { OnlyOutOfMemory result }
     {
-        let names = names_of(alloc, fields.as_slice())?;
-        if !are_line_fields(names.as_slice(), fields.as_slice()) {
+        if !are_line_fields(fields.as_slice()) {
             return Ok(None);
         }
+        let names = names_of(alloc, fields.as_slice())?;
+        let below = names_below(alloc, fields.as_slice())?;
         let builders = make_builders(alloc, fields.as_slice())?;
         Ok(Some(LineBuilders {
             alloc,
             fields,
             names,
+            below,
             builders,
         }))
     }
@@ -168,7 +128,8 @@ impl LineBuilders {
         ensures same { self.new ≡ self.old }
     {
         let names = self.names.as_slice();
-        let columns = read_all(self.alloc, lines, names, &mut self.builders)?;
+        let below = self.below.as_slice();
+        let columns = read_all(self.alloc, lines, names, below, &mut self.builders)?;
         Ok(columns)
     }
 }

@@ -6,12 +6,16 @@
 
 mod builders;
 mod content;
+mod ends;
+mod field_names;
+mod flat;
 mod given_up;
 mod integer;
 mod line;
 mod made;
 mod plain;
 mod push;
+mod room;
 mod types;
 
 pub use builders::LineBuilders;

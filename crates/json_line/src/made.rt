@@ -1,16 +1,21 @@
 //! Builders that are made by their types.
-ghost use Rattle.std.specs.Prelude.{◌≡◌, true, IfOk};
+ghost use Rattle.std.specs.Prelude.{◌≡◌, map, true, IfOk};
 ghost use Rattle.arrow_array.specs.Parts.{IsPlain};
-ghost use Rattle.arrow_builders.specs.MutableArrays.{builder_type};
+ghost use Rattle.arrow_builders.specs.Children.{fields_of};
+ghost use Rattle.arrow_builders.specs.Shapes.{shape, flat, lists, records};
 ghost use Rattle.arrow_core.specs.Errors.{OnlyOutOfMemory};
+ghost use Rattle.arrow_types.specs.Layouts.{physical_type};
+ghost use Rattle.arrow_types.specs.declared.physical.PhysicalType.TheVariants.{List as ListKind, LargeList as LargeListKind};
+ghost use Rattle.json_line.specs.Builders.{line_shape, shapes_of, HasNoFields};
+ghost use Rattle.json_line.specs.Lines.{have_line_readings as have_line_readings_of};
 ghost use Rattle.json_line.specs.Types.{has_line_reading as has_line_reading_of};
 
 use arrow_builders::{
-    Container, MutableArray, MutableBinaryArray, MutableBooleanArray, MutablePrimitiveArray,
-    MutableUtf8Array,
+    Container, DynMutableLargeListArray, DynMutableListArray, DynMutableStructArray, MutableArray,
+    MutableBinaryArray, MutableBooleanArray, MutablePrimitiveArray, MutableUtf8Array,
 };
 use arrow_core::Result;
-use arrow_types::{DataType, IntervalUnit, NativeType};
+use arrow_types::{DataType, Field, IntervalUnit, NativeType};
 use std::alloc::Global;
 
 // A builder of values of one size.
@@ -23,10 +28,11 @@ fn primitive<T: NativeType>(alloc: Global, data_type: &DataType) -> Result<Mutab
     Ok(values.to(data_type.try_clone(alloc)?))
 }
 
-/// An empty builder of this type, which is one that lines are read into.
-pub(crate) fn make_builder(alloc: Global, data_type: &DataType) -> Result<MutableArray>
-    requires { has_line_reading_of data_type.now ≡ true }
-    ensures data_type { IfOk result (λ b. builder_type b ≡ data_type.now) }
+// An empty builder of a type with no types in it.
+fn make_flat(alloc: Global, data_type: &DataType) -> Result<MutableArray>
+    requires flat { HasNoFields data_type.now }
+    requires readable { has_line_reading_of data_type.now ≡ true }
+    ensures shape { IfOk result (λ b. shape b ≡ flat (physical_type data_type.now) data_type.now) }
     ensures memory { OnlyOutOfMemory result }
 {
     match data_type {
@@ -62,4 +68,97 @@ pub(crate) fn make_builder(alloc: Global, data_type: &DataType) -> Result<Mutabl
         }
         _ => unreachable!(),
     }
+}
+
+// An empty builder of lists of what `values` takes.
+#[tactic(auto, using(crate::proofs::Making::new_lists))]
+fn make_list(alloc: Global, values: MutableArray, data_type: &DataType) -> Result<MutableArray>
+    ensures shape { IfOk result (λ b. shape b ≡ lists ListKind data_type.now (shape values)) }
+    ensures memory { OnlyOutOfMemory result }
+{
+    match data_type.try_clone(alloc) {
+        Ok(data_type) => {
+            let lists = DynMutableListArray::new_from(alloc, values, data_type, 0)?;
+            Ok(MutableArray::List(lists))
+        }
+        Err(error) => Err(error),
+    }
+}
+
+// The same with offsets of 64 bits.
+#[tactic(auto, using(crate::proofs::Making::new_lists))]
+fn make_large_list(
+    alloc: Global,
+    values: MutableArray,
+    data_type: &DataType,
+) -> Result<MutableArray>
+    ensures shape { IfOk result (λ b. shape b ≡ lists LargeListKind data_type.now (shape values)) }
+    ensures memory { OnlyOutOfMemory result }
+{
+    match data_type.try_clone(alloc) {
+        Ok(data_type) => {
+            let lists = DynMutableLargeListArray::new_from(alloc, values, data_type, 0)?;
+            Ok(MutableArray::LargeList(lists))
+        }
+        Err(error) => Err(error),
+    }
+}
+
+// An empty builder of structs of what `values` take.
+#[tactic(auto, using(crate::proofs::Making::new_structs))]
+fn make_struct(
+    alloc: Global,
+    values: Vec<MutableArray>,
+    data_type: &DataType,
+) -> Result<MutableArray>
+    ensures shape { IfOk result (λ b. shape b
+        ≡ records data_type.now (fields_of (map shape values.items))) }
+    ensures memory { OnlyOutOfMemory result }
+{
+    match data_type.try_clone(alloc) {
+        Ok(data_type) => {
+            let records = DynMutableStructArray::new(alloc, values, data_type)?;
+            Ok(MutableArray::Struct(records))
+        }
+        Err(error) => Err(error),
+    }
+}
+
+/// An empty builder of this type, which is one that lines are read into.
+#[cycle(make)]
+fn make_builder(alloc: Global, data_type: &DataType) -> Result<MutableArray>
+    requires { has_line_reading_of data_type.now ≡ true }
+    ensures shape { IfOk result (λ b. shape b ≡ line_shape data_type.now) }
+    ensures memory { OnlyOutOfMemory result }
+{
+    match data_type {
+        DataType::List(item) => {
+            let values = make_builder(alloc, &item.get().data_type)?;
+            make_list(alloc, values, data_type)
+        }
+        DataType::LargeList(item) => {
+            let values = make_builder(alloc, &item.get().data_type)?;
+            make_large_list(alloc, values, data_type)
+        }
+        DataType::Struct(fields) => {
+            let values = make_builders(alloc, fields.as_slice())?;
+            make_struct(alloc, values, data_type)
+        }
+        _ => make_flat(alloc, data_type),
+    }
+}
+
+/// A builder for each field.
+#[cycle(make)]
+pub(crate) fn make_builders(alloc: Global, fields: &[Field]) -> Result<Vec<MutableArray>>
+    requires { have_line_readings_of fields.now ≡ true }
+    ensures shapes { IfOk result (λ builders. map shape builders.items ≡ shapes_of fields.now) }
+    ensures memory { OnlyOutOfMemory result }
+{
+    let mut builders = Vec::with_capacity(alloc, fields.len())?;
+    for field in fields {
+        let builder = make_builder(alloc, &field.data_type)?;
+        builders.push(builder)?;
+    }
+    Ok(builders)
 }

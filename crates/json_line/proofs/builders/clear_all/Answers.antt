@@ -1,7 +1,7 @@
 use Rattle.std.proofs.Common.{arith}
-use Rattle.arrow_builders.specs.MutableArrays.{builder_type}
+use Rattle.arrow_builders.specs.Shapes.{shape}
 use Rattle.arrow_builders.proofs.Upto.{Upto-start, Upto-step, Upto-map}
-use Rattle.json_line.proofs.Kept.{Cleared, all-cleared}
+use Rattle.json_line.proofs.Kept.{Cleared, all-cleared, all-tight}
 use Rattle.json_line.proofs.builders.clear_all.Goals as goal
 
 pub loop-i-init : goal.loop-i-init
@@ -11,10 +11,11 @@ pub loop-i-preserved : goal.loop-i-preserved
 loop-i-preserved c =
     let e = c.clear.ensures in
     Upto-step Cleared c.loop-i.i _ c.args.builders.now c.loop-i.builders c.index-builders-i.result c.clear.new.self (omega arith) (omega arith)
-    (record { data_type = e.data_type; slots = e.slots }) c.loop-i.invariant
+    (record { same_shape = e.shape; slots = e.slots; tight = e.tight }) c.loop-i.invariant
 
 pub returns : goal.returns
 returns c = record {
-  types = Upto-map Cleared builder_type (λ x y h. h.data_type) _ _ _ c.loop-i.invariant;
+  shapes = Upto-map Cleared shape (λ x y h. h.same_shape) _ _ _ c.loop-i.invariant;
   slots = all-cleared _ _ _ (omega arith) c.loop-i.invariant;
+  tight = all-tight _ _ _ (omega arith) c.loop-i.invariant;
 }

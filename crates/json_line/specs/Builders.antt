@@ -1,0 +1,144 @@
+-- The builders of columns, the names that are kept beside them, and what builders take. Contracts of private functions alone cite this file.
+use Rattle.std.specs.Prelude.{◌≡◌, ◌<◌, ◌++◌, ◌∷◌, [], ℕ, true, List, length, map, get_or, Result, OnOk}
+use Rattle.arrow_builders.specs.Children.{fields_of}
+use Rattle.arrow_builders.specs.MutableArrays.{builder_slots}
+use Rattle.arrow_builders.specs.Shapes.{Shape, flat, lists, records, no_field, field, shape as shape_of}
+use Rattle.arrow_builders.specs.Tight.{IsTight}
+use Rattle.arrow_builders.specs.declared.array.MutableArray.{MutableArray}
+use Rattle.arrow_types.specs.Layouts.{physical_type}
+use Rattle.arrow_types.specs.declared.physical.PhysicalType.TheVariants as physical
+use Rattle.arrow_types.specs.declared.slot.Slot.{Slot}
+use Rattle.arrow_types.specs.declared.types.DataType.{DataType, List', LargeList', Struct', Row_of-Field, end_of-Field, more_of-Field}
+use Rattle.arrow_types.specs.declared.types.Field.{Field}
+use Rattle.json_tree.specs.Layout.{distinct}
+use Rattle.json_tree.specs.Tree.{Json}
+use Rattle.json_tree.specs.declared.value.Value.{out-Value}
+use Rattle.json_flat.specs.Columns.{AreSlotsOf, Pushes}
+use Rattle.json_flat.specs.Meaning.{Layer, Meaning, null_in}
+use Rattle.json_lend.specs.declared.lent.Lent.{Lent}
+use Rattle.json_lend.specs.Standing.{lent_value}
+use Rattle.json_lend.specs.Fields.{value_named}
+use Rattle.json_line.specs.declared.field_names.FieldNames.{FieldNames, Flat, Items', Fields', Row_of-FieldNames, end_of-FieldNames, more_of-FieldNames}
+use Rattle.json_line.specs.declared.given_up.GivenUp.{GivenUp}
+use Rattle.json_line.specs.Lines.{are_line_fields, names_of, values_named}
+use Rattle.json_line.specs.Types.{is_timestamp, kind_reading, list_in, struct_in, row_names}
+
+-- ---- shapes of builders
+
+-- a type with no types in it that lines are read into
+abbrev pub HasNoFields : DataType → Type 0
+HasNoFields (List' shape item) = ⊥
+HasNoFields (LargeList' shape item) = ⊥
+HasNoFields (Struct' shape fields) = ⊥
+HasNoFields _ = Unit {0}
+
+abbrev mutual
+  -- the shape of the builder of a type's columns
+  pub line_shape : DataType → Shape
+  line_shape (List' shape item) = lists physical.List (List' shape item) (item_shape item)
+  line_shape (LargeList' shape item) = lists physical.LargeList (LargeList' shape item) (item_shape item)
+  line_shape (Struct' shape fields) = records (Struct' shape fields) (row_shapes fields)
+  line_shape data_type = flat (physical_type data_type) data_type
+
+  pub item_shape : {m : _} → Row_of-Field m → Shape
+  item_shape end_of-Field = no_field
+  item_shape (more_of-Field name t is_nullable metadata rest) = line_shape t
+
+  pub row_shapes : {m : _} → Row_of-Field m → Shape
+  row_shapes end_of-Field = no_field
+  row_shapes (more_of-Field name t is_nullable metadata rest) = field (line_shape t) (row_shapes rest)
+
+abbrev pub shapes_of : List Field → List Shape
+shapes_of fields = map (λ (f : Field). line_shape f.data_type) fields
+
+-- the names of a struct's fields
+abbrev pub struct_names : DataType → List (List ℕ)
+struct_names (Struct' shape fields) = row_names fields
+struct_names _ = []
+
+abbrev mutual
+  -- what a value means in a builder of a shape
+  pub shape_reading : Shape → Layer → Meaning
+  shape_reading (flat kind data_type) = kind_reading (is_timestamp data_type) kind
+  shape_reading (lists kind data_type item) = list_in (λ value. shape_reading item (out-Value value))
+  shape_reading (records data_type fields) = struct_in (shape_members (struct_names data_type) fields)
+  shape_reading _ = null_in
+
+  -- the members of an object, by these names
+  pub shape_members : List (List ℕ) → Shape → List (List ℕ × Json) → List Meaning
+  shape_members (name ∷ names) (field first more) members = shape_reading first (out-Value (value_named members name)) ∷ shape_members names more members
+  shape_members _ _ members = []
+
+-- ---- names beside builders
+
+abbrev mutual
+  -- names that stand beside a builder of a shape
+  pub Suits : FieldNames → Shape → Type 0
+  Suits Flat s = Unit {0}
+  Suits (Items' p item) (lists kind data_type s) = Suits item s
+  Suits (Fields' own shape below) (records data_type fields) = (own.items ≡ struct_names data_type) × (distinct own.items ≡ true) × SuitsBelow below fields
+  Suits _ _ = ⊥
+
+  pub SuitsBelow : {m : _} → Row_of-FieldNames m → Shape → Type 0
+  SuitsBelow end_of-FieldNames no_field = Unit {0}
+  SuitsBelow (more_of-FieldNames names rest) (field first more) = Suits names first × SuitsBelow rest more
+  SuitsBelow _ _ = ⊥
+
+-- names beside a builder of lists
+abbrev pub SuitsItems : FieldNames → Shape → Type 0
+SuitsItems names (lists kind data_type s) = Suits names s
+SuitsItems names _ = ⊥
+
+-- the same, one after another
+abbrev pub AllSuit : List FieldNames → Shape → Type 0
+AllSuit [] no_field = Unit {0}
+AllSuit (names ∷ rest) (field first more) = Suits names first × AllSuit rest more
+AllSuit _ _ = ⊥
+
+-- the fields' names and those below each, beside a builder of structs
+abbrev pub SuitsFields : List (List ℕ) → List FieldNames → Shape → Type 0
+SuitsFields own below (records data_type fields) = (own ≡ struct_names data_type) × (distinct own ≡ true) × AllSuit below fields
+SuitsFields own below _ = ⊥
+
+abbrev pub AreTight : List MutableArray → Type 0
+AreTight [] = Unit {0}
+AreTight (b ∷ bs) = IsTight b × AreTight bs
+
+-- builders of the columns of fields, beside the fields' names
+pub record AreLineBuilders (fields : List Field) (names : List (List ℕ)) (below : List FieldNames) (builders : List MutableArray) : Type 0 where
+  pub fit : are_line_fields fields ≡ true
+  pub names_are : names ≡ names_of fields
+  pub suits : AllSuit below (fields_of (shapes_of fields))
+  pub shapes_are : map shape_of builders ≡ shapes_of fields
+
+-- ---- what builders take
+
+-- a builder took the slot that the value means
+abbrev pub Takes : Json → MutableArray → MutableArray → Type 0
+Takes value old new = Pushes (shape_reading (shape_of old)) value (builder_slots old) (builder_slots new)
+
+-- a builder was given a value, and its shape stays; it took the slot, or gave the value up
+pub record IsGiven (value : Json) (old new : MutableArray) (result : Result (Unit {0}) GivenUp) : Type 0 where
+  pub same_shape : shape_of new ≡ shape_of old
+  pub tight : OnOk result (IsTight new)
+  pub ok : OnOk result (Takes value old new)
+
+-- a builder took the slots that the values mean
+abbrev pub TakesAll : List Json → MutableArray → MutableArray → Type 0
+TakesAll values old new =
+    (added : List Slot) × AreSlotsOf (shape_reading (shape_of old)) values added × (builder_slots new ≡ builder_slots old ++ added)
+
+-- each builder took the value that is lent at its index
+abbrev pub TakesLents : List Lent → List MutableArray → List MutableArray → Type 0
+TakesLents lents old new =
+    (k : ℕ) (l : Lent) (b : MutableArray) → k < length old → Takes (lent_value (get_or lents k l)) (get_or old k b) (get_or new k b)
+
+-- each builder took the value of its name among the members
+abbrev pub TakesRow : List (List ℕ) → List (List ℕ × Json) → List MutableArray → List MutableArray → Type 0
+TakesRow names members old new =
+    (k : ℕ) (name : List ℕ) (b : MutableArray) → k < length old → Takes (value_named members (get_or names k name)) (get_or old k b) (get_or new k b)
+
+-- each builder took the values of its name in the rows
+abbrev pub TakesRows : List (List ℕ) → List (List (List ℕ × Json)) → List MutableArray → List MutableArray → Type 0
+TakesRows names rows old new =
+    (k : ℕ) (name : List ℕ) (b : MutableArray) → k < length old → TakesAll (values_named rows (get_or names k name)) (get_or old k b) (get_or new k b)
