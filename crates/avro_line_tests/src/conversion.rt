@@ -1,7 +1,9 @@
 //! Which file lines become.
 
-use crate::files::{BLOCK, EVENT_LINES, EVENTS, FIFTEEN, HEADER, MINUS_TWO, ONE};
-use crate::samples::{How, PLAIN, column, field, gives, lists, schema};
+use crate::files::{
+    BLOCK, EVENT_LINES, EVENTS, FIFTEEN, HEADER, MINUS_TWO, NESTED, NESTED_LINES, ONE,
+};
+use crate::samples::{How, PLAIN, column, field, gives, lists, schema, structs};
 use arrow_base::Text;
 use arrow_types::{DataType, TimeUnit};
 
@@ -49,4 +51,15 @@ fn rows_of_several_columns_become_a_file(rt: HostRuntime) {
         ..PLAIN
     };
     assert!(rt; gives(&rt, alloc, EVENT_LINES, &events, pair, Ok(3), &[EVENTS]));
+}
+
+#[test]
+fn lists_of_records_become_arrays_of_records(rt: HostRuntime) {
+    let alloc = rt.alloc();
+    let n = field(&rt, alloc, "n", DataType::Int32, true);
+    let s = field(&rt, alloc, "s", DataType::Utf8, true);
+    let record = structs(vec![in alloc; n, s].expect(&rt, "memory"));
+    let a = field(&rt, alloc, "a", lists(&rt, alloc, record, true), true);
+    let rows = schema(alloc, vec![in alloc; a].expect(&rt, "memory"));
+    assert!(rt; gives(&rt, alloc, NESTED_LINES, &rows, PLAIN, Ok(5), &[NESTED]));
 }

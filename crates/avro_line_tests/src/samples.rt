@@ -63,6 +63,11 @@ pub fn lists(rt: &impl Abort, alloc: Global, item: DataType, is_nullable: bool) 
     DataType::List(Box::new(alloc, item).expect(rt, "memory"))
 }
 
+/// Structs of these fields.
+pub fn structs(fields: Vec<Field>) -> DataType {
+    DataType::Struct(Items::from_vec(fields))
+}
+
 fn number(rt: &impl Abort, alloc: Global, number: u64) -> Items<u64> {
     Items::try_from_slice(alloc, &[number]).expect(rt, "memory")
 }
