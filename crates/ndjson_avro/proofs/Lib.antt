@@ -1,6 +1,7 @@
 pub mod Batching
 pub mod Complete
 pub mod Holding
+pub mod LineReadings
 pub mod Nexts
 pub mod NullTypes
 pub mod Parsing

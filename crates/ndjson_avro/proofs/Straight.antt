@@ -31,59 +31,14 @@ use Rattle.json_columns.proofs.Rows.{structs_column}
 use Rattle.json_lend.specs.Fields.{value_named, or_null as or_null_lent}
 use Rattle.json_line.specs.Lines.{are_line_fields, values_named, AreColumnsOf, AreObjects, IsColumnOf}
 use Rattle.json_line.specs.Types.{has_line_reading, line_reading}
+use Rattle.ndjson_avro.proofs.LineReadings.{same_or_null, same_slots}
 use Rattle.ndjson_avro.specs.Steps.{AreBuildersOf, AreRead}
 use Rattle.ndjson_avro.specs.Values.{is_object}
-
--- ---- types
-
--- a type that lines are read into has the same reading there
-pub same_reading : (t : DataType) → has_line_reading t ≡ true → line_reading t ≡ reading t
-same_reading types.Null h = refl
-same_reading types.Boolean h = refl
-same_reading types.Int8 h = refl
-same_reading types.Int16 h = refl
-same_reading types.Int32 h = refl
-same_reading types.Int64 h = refl
-same_reading types.UInt8 h = refl
-same_reading types.UInt16 h = refl
-same_reading types.UInt32 h = refl
-same_reading types.UInt64 h = refl
-same_reading types.Float16 h = absurd cc
-same_reading types.Float32 h = absurd cc
-same_reading types.Float64 h = absurd cc
-same_reading (types.Timestamp unit timezone) h = refl
-same_reading types.Date32 h = refl
-same_reading types.Date64 h = refl
-same_reading (types.Time32 unit) h = refl
-same_reading (types.Time64 unit) h = refl
-same_reading (types.Duration unit) h = refl
-same_reading (types.Interval interval.YearMonth) h = refl
-same_reading (types.Interval interval.DayTime) h = absurd cc
-same_reading (types.Interval interval.MonthDayNano) h = absurd cc
-same_reading types.Binary h = refl
-same_reading (types.FixedSizeBinary size) h = absurd cc
-same_reading types.LargeBinary h = refl
-same_reading types.Utf8 h = refl
-same_reading types.LargeUtf8 h = refl
-same_reading (types.List' shape item) h = absurd cc
-same_reading (types.FixedSizeList' shape item size) h = absurd cc
-same_reading (types.LargeList' shape item) h = absurd cc
-same_reading (types.Struct' shape fields) h = absurd cc
-same_reading (types.Map' shape entries sorted) h = absurd cc
-same_reading (types.Union' shape fields ids mode) h = absurd cc
-same_reading (types.Dictionary' key shape value sorted) h = absurd cc
-same_reading (types.Decimal precision scale) h = absurd cc
-same_reading (types.Decimal256 precision scale) h = absurd cc
-same_reading (types.Extension' name shape inner metadata) h = absurd cc
 
 -- ---- rows
 
 abbrev pub objects_of : List (List (List ℕ × Json)) → List Json
 objects_of rows = map object rows
-
-same_or_null : (o : Option Json) → or_null_lent o ≡ or_null o
-same_or_null None = refl
-same_or_null (Some v) = refl
 
 member_of : (name : List ℕ) (members : List (List ℕ × Json)) → value_named members name ≡ member_in name (out-Value (object members))
 member_of name members =
@@ -113,7 +68,7 @@ have_values (members ∷ rows) (t ∷ texts) h = (h.0, have_values rows texts h.
 member_column : (rows : List (List (List ℕ × Json))) (f : Field) (a : Array) → IsColumnOf rows f a → IsMemberColumn f (objects_of rows) (array_type a) (array_slots a)
 member_column rows f a c = (
   sym c.data_type,
-  subst (λ vs. AreSlotsOf (reading f.data_type) vs (array_slots a)) (members_of f.name rows) (subst (λ r. AreSlotsOf r (values_named rows f.name) (array_slots a)) (same_reading f.data_type c.readable) c.slots),
+  subst (λ vs. AreSlotsOf (reading f.data_type) vs (array_slots a)) (members_of f.name rows) (same_slots f.data_type c.readable (values_named rows f.name) (array_slots a) c.slots),
 )
 
 member_columns : (rows : List (List (List ℕ × Json))) (fields : List Field) (columns : List Array) → AllZip (IsColumnOf rows) fields columns → AreMemberColumns fields (objects_of rows) columns
