@@ -119,5 +119,9 @@ fn a_name_that_stands_twice_in_a_record_is_not_read(rt: HostRuntime) {
     let alloc = rt.alloc();
     let twice = record(alloc, "n").expect(&rt, "memory");
     let fields = three_fields(alloc, DataType::Int8, twice, DataType::Utf8).expect(&rt, "memory");
-    assert!(&rt; LineBuilders::new(alloc, fields).expect(&rt, "memory").is_none());
+    assert!(&rt;
+        LineBuilders::new(alloc, fields)
+            .expect(&rt, "memory")
+            .is_none()
+    );
 }
