@@ -62,6 +62,8 @@ flat_serializable types.LargeBinary x k s e null h = refl
 flat_serializable (types.List' shape item) x k s e null h = absurd x
 flat_serializable (types.LargeList' shape item) x k s e null h = absurd x
 flat_serializable (types.Struct' shape fields) x k s e null h = absurd x
+flat_serializable (types.FixedSizeList' shape item size) x k s e null h = absurd (none-some s e)
+flat_serializable (types.Dictionary' key shape value is_sorted) x k s e null h = absurd (none-some s e)
 flat_serializable _ x k s e null h = absurd (false≢true h)
 
 listed_serializable : (t : DataType) (f : Field) → ((k : ℕ) → schema_of true k t ≡ array_schema true k f) → can_serialize t ≡ can_serialize f.data_type → holds_null t ≡ holds_null f.data_type → has_reading t ≡ has_reading f.data_type → IsSerializable f.data_type → IsSerializable t
