@@ -9,8 +9,6 @@ mod dictionaries;
 #[cfg(test)]
 mod encoded;
 #[cfg(test)]
-mod lines;
-#[cfg(test)]
 mod numbers;
 #[cfg(test)]
 mod records;
