@@ -147,8 +147,11 @@ fn push_escaped(out: &mut Vec<u8>, string: &str) -> Appended
     }
 }
 
+/// Appends `null`.
+///
+/// `AllocError` where there is no memory.
 #[inline(never)]
-pub(crate) fn push_null(out: &mut Vec<u8>) -> Appended
+pub fn push_null(out: &mut Vec<u8>) -> Appended
     ensures ok { OnOk result (out.new.items ≡ out.old.items ++ null) }
 {
     push(out, b"null")
@@ -261,8 +264,10 @@ pub(crate) fn push_wide_if(out: &mut Vec<u8>, is_valid: bool, integer: i128) -> 
 }
 
 /// Appends a boolean, or `null` where there is none.
+///
+/// `AllocError` where there is no memory.
 #[inline(never)]
-pub(crate) fn push_boolean_if(out: &mut Vec<u8>, is_valid: bool, boolean: bool) -> Appended
+pub fn push_boolean_if(out: &mut Vec<u8>, is_valid: bool, boolean: bool) -> Appended
     ensures ok { OnOk result
         (out.new.items
         ≡ out.old.items

@@ -22,9 +22,12 @@ pub enum Key {
 /// The columns of a row stand in a list, each followed by those within it.
 #[derive(Drop)]
 pub struct Column {
-    pub(crate) key: Key,
-    pub(crate) form: IntegerForm,
-    pub(crate) within: usize,
+    /// What stands before each value.
+    pub key: Key,
+    /// How integers are written.
+    pub form: IntegerForm,
+    /// How many columns, next in the list, are within it.
+    pub within: usize,
 }
 
 /// The key of these bytes.
@@ -56,8 +59,10 @@ fn make_key(alloc: Global, is_first: bool, name: &str) -> std::result::Result<Ke
 }
 
 /// Appends a key.
+///
+/// `AllocError` where there is no memory.
 #[inline]
-pub(crate) fn push_key(out: &mut Vec<u8>, key: &Key) -> Appended
+pub fn push_key(out: &mut Vec<u8>, key: &Key) -> Appended
     ensures ok { OnOk result (out.new.items ≡ out.old.items ++ key_bytes key.now) }
 {
     match key {

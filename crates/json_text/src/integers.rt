@@ -88,8 +88,10 @@ fn push_formed(out: &mut Vec<u8>, form: &IntegerForm, integer: i64) -> Appended
 }
 
 /// Appends the text of an integer by its form, or `null` where there is none.
+///
+/// `AllocError` where there is no memory.
 #[inline]
-pub(crate) fn push_integer_if(
+pub fn push_integer_if(
     out: &mut Vec<u8>,
     form: &IntegerForm,
     is_valid: bool,
@@ -110,7 +112,7 @@ pub(crate) fn push_integer_if(
 
 /// Whether an integer of the form, if it is a date or a timestamp, is printed.
 #[inline]
-pub(crate) fn integer_in_range(form: &IntegerForm, integer: i64) -> bool
+pub fn integer_in_range(form: &IntegerForm, integer: i64) -> bool
     ensures { result ≡ integer_in_range form.now integer }
 {
     match form {

@@ -11,9 +11,9 @@ mod range;
 mod slots;
 mod types;
 
-pub use bytes::{Appended, push, push_string};
+pub use bytes::{Appended, push, push_boolean_if, push_comma, push_null, push_string};
 pub use checks::check;
-pub use columns::{Column, columns_within, push_column};
-pub use integers::{IntegerForm, integer_form};
+pub use columns::{Column, Key, columns_within, push_column, push_key};
+pub use integers::{IntegerForm, integer_form, integer_in_range, push_integer_if};
 pub use slots::{push_object, push_slot, push_slots, push_value};
 pub use types::has_text;
