@@ -1,7 +1,6 @@
 pub mod Counted
 pub mod Decimals
 pub mod Durations
-mod Ends
 pub mod Filled
 pub mod Items
 pub mod Logical

@@ -9,7 +9,6 @@ mod fixed;
 mod numbers;
 mod strings;
 mod symbol;
-mod utf8;
 
 pub use binary::decode_binary;
 pub use decimal::{decimal_of, decode_decimal, decode_fixed_decimal};

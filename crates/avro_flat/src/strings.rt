@@ -11,11 +11,11 @@ ghost use Rattle.avro_flat.specs.Decoding.{Gives, IsStringFault, HasMemory};
 ghost use Rattle.avro_flat.specs.Growing.{OffsetsReach, Fills};
 
 use crate::fault::{DecodeFault, pushed};
-use crate::utf8::is_utf8;
 use arrow_flat::MutableUtf8Array;
 use arrow_types::Offset;
 use avro_reference::{Ahead, read_length};
 use std::convert::AsSlice;
+use utf8_check::is_utf8;
 
 /// Reads a string: a length of 0 or more, and as many bytes, which have to be UTF-8 (Avro 1.11,
 /// "Primitive Types").

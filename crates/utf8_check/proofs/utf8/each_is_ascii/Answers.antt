@@ -4,7 +4,7 @@ use Rattle.std.specs.Str.{IsAscii}
 use Rattle.std.proofs.lemmas.Bool.{cases_lt}
 use Rattle.std.proofs.lemmas.List.{get_or_past}
 use Rattle.std.proofs.lemmas.Str.{IsUtf8-from_ascii}
-use Rattle.avro_flat.proofs.utf8.each_is_ascii.Goals as goal
+use Rattle.utf8_check.proofs.utf8.each_is_ascii.Goals as goal
 
 all_ascii : (bytes : List ℕ) (n : ℕ) → length bytes ≤ n → ((k : ℕ) → k < n → slice_index bytes k < 128) → IsAscii bytes
 all_ascii bytes n le h k = from (cases_lt k n)

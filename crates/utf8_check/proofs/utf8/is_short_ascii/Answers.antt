@@ -1,7 +1,7 @@
 use Rattle.std.proofs.Common.{arith}
 use Rattle.std.proofs.lemmas.Str.{IsUtf8-from_ascii}
-use Rattle.avro_flat.proofs.Ends.{both_true, ascii_ends}
-use Rattle.avro_flat.proofs.utf8.is_short_ascii.Goals as goal
+use Rattle.utf8_check.proofs.Ends.{both_true, ascii_ends}
+use Rattle.utf8_check.proofs.utf8.is_short_ascii.Goals as goal
 
 pub returns-then-len-ge8 : goal.returns-then-len-ge8
 returns-then-len-ge8 c =

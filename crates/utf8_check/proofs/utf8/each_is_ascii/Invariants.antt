@@ -1,6 +1,6 @@
 use Rattle.std.proofs.Common.{ℕ, ◌<◌}
 use Rattle.std.specs.Prelude.{slice_index}
-use Rattle.avro_flat.proofs.utf8.each_is_ascii.Given as goal
+use Rattle.utf8_check.proofs.utf8.each_is_ascii.Given as goal
 
 abbrev pub invariant-loop-i : goal.invariant-loop-i
 invariant-loop-i l = record {
