@@ -14,9 +14,9 @@ pub fn canonical_forms()
 {}
 
 /// What `ndjson_to_avro` wrote of lines is an Avro file, and `avro_to_ndjson` with all fields kept
-/// converts it into the lines of the same rows, however many stand in a block. The record can be read
-/// back (`IsWritable`: its schema text is UTF-8, as it is where the names are, and nests at most 128
-/// deep), the sync marker has sixteen bytes, and the file fewer than 2^63.
+/// converts it into the lines of the same rows, however many stand in a block. This is so where the
+/// record can be read back (`IsWritable`: its schema text is UTF-8, as it is where the names are, and
+/// nests at most 128 deep), the sync marker has sixteen bytes, and the file fewer than 2^63.
 ///
 /// It does so, or answers `OutOfMemory`, or `WriteFault` where its sink failed, where each type has a
 /// JSON text, each date and timestamp is in a year from 0 to 9999, the file has no more bytes than the
@@ -30,9 +30,9 @@ pub fn lines_and_back()
     ensures writable { RecordsAreWritable }
 {}
 
-/// What `avro_rewrite` wrote is an Avro file. The record can be read back (`IsWritable`: its schema
-/// text is UTF-8, as it is where the names are, and nests at most 128 deep), the sync marker has
-/// sixteen bytes, and the file fewer than 2^63.
+/// What `avro_rewrite` wrote is an Avro file, where the record can be read back (`IsWritable`: its
+/// schema text is UTF-8, as it is where the names are, and nests at most 128 deep), the sync marker
+/// has sixteen bytes, and the file fewer than 2^63.
 ///
 /// The function does nothing: its contract is the law.
 pub fn rewritten_file()

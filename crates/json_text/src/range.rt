@@ -14,7 +14,8 @@ use crate::types::holds_dates;
 use arrow_array::{Array, StructArray};
 use arrow_types::Field;
 
-/// Whether no struct is null, as can be told without a look at them.
+/// Whether the structs have no validity bitmap, so that none is null. Where they have one it isn't
+/// looked at, whether or not a struct is null.
 fn has_no_null(array: &StructArray) -> bool
     ensures { OnTrue result (All (λ x. IsTrue (is_held x)) array.now.slots) }
 {
@@ -37,7 +38,7 @@ pub(crate) fn dates_in_range(array: &Array, start: usize, end: usize) -> bool
     run_in_range(array, start, end, &form)
 }
 
-/// The same, where the form of the array's integers is known. Structs of which none is null are
+/// The same, where the form of the array's integers is known. Structs without a validity bitmap are
 /// looked at child by child, so that the form of each child is found once for all of them.
 #[cycle(range)]
 fn run_in_range(array: &Array, start: usize, end: usize, form: &IntegerForm) -> bool
