@@ -33,7 +33,7 @@ module _ {A B : Type 0} where
 
 -- what is lent of an item that is there
 pub some_at : {A : Type 0} (xs : List A) (i : ℕ) (r : Option (Bor A)) → option_copied r ≡ slice_get xs i → i < length xs → IsSome r
-some_at xs i (Some x) e l = tt
+some_at xs i (Some x) e l = refl
 some_at [] i None e l = absurd (omega arith)
 some_at (x ∷ xs) i None e l = let k = slice_get-get_or (x ∷ xs) i x l in absurd cc
 
