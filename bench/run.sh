@@ -1,5 +1,5 @@
 #!/bin/sh
-# Measures one of the folders beside this script: arrays, avro, avro_write, block, builders, container, dates, infer, json_tree,
+# Measures one of the folders beside this script: arrays, avro, avro_write, block, builders, columns, container, dates, infer, json_tree,
 # json_write, ndjson or rewrite.
 #     bench/run.sh NAME
 # `main.rattle` of the folder is a Rattle program over the crates that `crates` names (without it, avrocat itself is measured),

@@ -1,12 +1,12 @@
 -- Slots are encoded one at a time.
 use Rattle.std.proofs.Common.{◌≡◌, ◌∙◌, ◌⊎◌, ◌↔◌, ◌||◌, inl, inr, ℕ, zero, suc, ◌+◌, ◌<◌, ◌≤◌, Bool, true, false, ℤ, pos, negsuc, List, [], ◌∷◌, ◌++◌, length, map, get_or, take, slice_index_or, Option, Some, None, if◌then◌else◌, refl, sym, ap, subst, arith, Result, Ok, Err, IfOk}
-use Rattle.std.specs.List.{All, Contains, list_any, slice_get}
+use Rattle.std.specs.List.{All, Contains, list_any, position_from, slice_get}
 use Rattle.std.specs.Option.{option_map}
 use Rattle.std.proofs.lemmas.List.{length-append, map-append, take_more}
 use Rattle.std.proofs.lemmas.List.Elements.{All-get_or, All-nil, All-push, All-weaker}
 use Rattle.std.proofs.lemmas.Option.{slice_get-map, slice_get_within, get_or_from_slice_get}
 use Rattle.std.proofs.Math.ListN.{get_or-append}
-use Rattle.indexmap.specs.IndexSet.{insert_key}
+use Rattle.first_seen.specs.Keys.{index_of, with_key}
 use Rattle.arrow_array.specs.Dictionaries.{IsKeyInto, keys_slots, looked_up}
 use Rattle.arrow_array.specs.declared.keys.Keys.{Keys}
 use Rattle.arrow_core.specs.declared.error.Error.{Error}
@@ -29,6 +29,24 @@ or_right false b h = h
 clash : (b : Bool) → b ≡ true → b ≡ false → ⊥
 clash true t f = absurd cc
 clash false t f = absurd cc
+
+-- a key that is found stands where it is found
+module _ {K : Type 0} (test : K → Bool) where
+  at_from : (i j : ℕ) (ks : List K) → position_from test i ks ≡ Some j → (n : ℕ) × (j ≡ i + n) × ((k : K) × (slice_get ks n ≡ Some k) × (test k ≡ true))
+  at_from i j [] h = absurd cc
+  at_from i j (x ∷ ks) h = by_first (test x) refl h (at_from (i + 1) j ks)
+    where
+      by_first : (b : Bool) → test x ≡ b → (if b then Some i else position_from test (i + 1) ks) ≡ Some j
+          → (position_from test (i + 1) ks ≡ Some j → (n : ℕ) × (j ≡ i + 1 + n) × ((k : K) × (slice_get ks n ≡ Some k) × (test k ≡ true)))
+          → (n : ℕ) × (j ≡ i + n) × ((k : K) × (slice_get (x ∷ ks) n ≡ Some k) × (test k ≡ true))
+      by_first true e f rest = let p : i ≡ j = cc in (0, omega (arith, p), (x, refl, e))
+      by_first false e f rest = let r = rest f in (suc r.0, omega (arith, r.1), r.2)
+
+  pub at_index : (j : ℕ) (ks : List K) → position_from test 0 ks ≡ Some j → (k : K) × (slice_get ks j ≡ Some k) × (test k ≡ true)
+  at_index j ks h =
+      let r = at_from 0 j ks h in
+      let e : j ≡ r.0 = omega (arith, r.1) in
+      (r.2.0, ap (λ n. slice_get ks n) e ∙ r.2.1, r.2.2)
 
 pub not_held : (s : Slot) → is_held s ≡ false → s ≡ slot.Null
 not_held Null h = refl
@@ -55,7 +73,7 @@ module _ {T : Type 0} (same : T → T → Bool) (shown : T → Slot) (exact : (x
       inr ((λ c. clash (list_any (same x) olds) (any_at olds x c.0 (shown x) c.1 c.2) h), ap (map shown) e ∙ map-append shown olds (x ∷ []))
 
   -- a slot that isn't null is looked for
-  pub found : (olds news : List T) (x y : T) (s : Slot) (k : ℕ) → is_held s ≡ true → s ≡ shown x → news ≡ insert_key same olds x → slice_get news k ≡ Some y → same x y ≡ true
+  pub found : (olds news : List T) (x y : T) (s : Slot) (k : ℕ) → is_held s ≡ true → s ≡ shown x → news ≡ with_key same olds x → slice_get news k ≡ Some y → same x y ≡ true
       → IsStep s (map shown olds) (map shown news) (Some k)
   found olds news x y s k held is e at t = (
     held,

@@ -12,9 +12,8 @@ use crate::values::{primitive_values, string_values};
 use arrow_array::{Keys, PrimitiveArray, Utf8Array};
 use arrow_core::Result;
 use arrow_types::{IntegerType, NativeType, Offset};
-use indexmap::IndexSet;
+use first_seen::FirstSeen;
 use std::alloc::Global;
-use std::hash::Hash;
 
 /// Both values, where both are there. In a function of its own over any values, so that no other
 /// lets go of keys early.
@@ -30,16 +29,16 @@ fn both<A: Drop, B: Drop>(first: Result<A>, second: Result<B>) -> Result<(A, B)>
 }
 
 /// The keys of an array's slots, and their distinct values.
-fn primitive_keys<T: NativeType + Hash>(
+fn primitive_keys<T: NativeType + Ord>(
     alloc: Global,
-    distinct: &mut IndexSet<T>,
+    distinct: &mut FirstSeen<T>,
     array: &PrimitiveArray<T>,
     key: IntegerType,
 ) -> Result<Keys>
-    requires empty { distinct.old.keys ≡ [] }
+    requires empty { distinct.old ≡ [] }
     ensures key { IfOk result (λ keys. keys_type keys ≡ key) }
     ensures slots { IfOk result (λ keys. EncodesSlots array.now.slots (keys_slots keys)
-        (map T.native_slot distinct.new.keys)) }
+        (map T.native_slot distinct.new)) }
     ensures err { IfErr result (IsEncodingFault (HasTooManyDistinct key array.now.slots)) }
 {
     let indices = primitive_indices(alloc, distinct, array)?;
@@ -53,7 +52,7 @@ fn primitive_keys<T: NativeType + Hash>(
 ///
 /// `Overflow` only where there are more distinct slots than the keys have numbers from 0 on.
 /// `OutOfMemory` may come in place of any answer.
-pub fn encode_primitives<T: NativeType + Hash>(
+pub fn encode_primitives<T: NativeType + Ord>(
     alloc: Global,
     array: &PrimitiveArray<T>,
     key: IntegerType,
@@ -63,7 +62,7 @@ pub fn encode_primitives<T: NativeType + Hash>(
     ensures slots { IfOk result (λ p. EncodesSlots array.now.slots (keys_slots p.0) p.1.slots) }
     ensures err { IfErr result (IsEncodingFault (HasTooManyDistinct key array.now.slots)) }
 {
-    let mut distinct = IndexSet::<T>::new(alloc);
+    let mut distinct = FirstSeen::<T>::new(alloc);
     let keys = primitive_keys(alloc, &mut distinct, array, key);
     let values = primitive_values(alloc, array.data_type(), distinct.as_slice());
     both(keys, values)
@@ -72,14 +71,14 @@ pub fn encode_primitives<T: NativeType + Hash>(
 /// The keys of an array's slots, and their distinct strings.
 fn string_keys<'a, O: Offset>(
     alloc: Global,
-    distinct: &mut IndexSet<&'a str>,
+    distinct: &mut FirstSeen<&'a str>,
     array: &'a Utf8Array<O>,
     key: IntegerType,
 ) -> Result<Keys>
-    requires empty { distinct.old.keys ≡ [] }
+    requires empty { distinct.old ≡ [] }
     ensures key { IfOk result (λ keys. keys_type keys ≡ key) }
     ensures slots { IfOk result (λ keys. EncodesSlots array.now.slots (keys_slots keys)
-        (map string_slot distinct.new.keys)) }
+        (map string_slot distinct.new)) }
     ensures err { IfErr result (IsEncodingFault (HasTooManyDistinct key array.now.slots)) }
 {
     let indices = string_indices(alloc, distinct, array)?;
@@ -103,7 +102,7 @@ pub fn encode_strings<O: Offset, P: Offset>(
     ensures err { IfErr result (IsEncodingFault (HasTooManyDistinct key array.now.slots
         ⊎ HasTooLongStrings (greatest_offset P.IS_LARGE) array.now.slots)) }
 {
-    let mut distinct = IndexSet::<&str>::new(alloc);
+    let mut distinct = FirstSeen::<&str>::new(alloc);
     let keys = string_keys(alloc, &mut distinct, array, key);
     let values = string_values::<P>(alloc, distinct.as_slice());
     both(keys, values)

@@ -8,38 +8,37 @@ ghost use Rattle.arrow_dictionaries.specs.Indices.{IsStep, index_key, string_slo
 use arrow_array::{PrimitiveArray, Utf8Array};
 use arrow_core::Result;
 use arrow_types::{NativeType, Offset};
-use indexmap::IndexSet;
+use first_seen::FirstSeen;
 use std::alloc::Global;
-use std::hash::Hash;
 
 /// The index of slot `i` among the distinct values, where a new one goes last; `None` for a null.
-fn primitive_index<T: NativeType + Hash>(
-    distinct: &mut IndexSet<T>,
+fn primitive_index<T: NativeType + Ord>(
+    distinct: &mut FirstSeen<T>,
     array: &PrimitiveArray<T>,
     i: usize,
 ) -> Result<Option<usize>>
     requires within { i < length array.now.slots }
     ensures step { IfOk result (IsStep (slot_at array.now.slots i)
-        (map T.native_slot distinct.old.keys) (map T.native_slot distinct.new.keys)) }
+        (map T.native_slot distinct.old) (map T.native_slot distinct.new)) }
     ensures memory { OnlyOutOfMemory result }
 {
     if !array.is_valid(i) {
         return Ok(None);
     }
-    let (index, _) = distinct.insert_full(array.value(i))?;
+    let index = distinct.add(array.value(i))?;
     Ok(Some(index))
 }
 
 /// For each slot its index among the distinct values, which are then in order of first appearance;
 /// `None` for a null.
-pub(crate) fn primitive_indices<T: NativeType + Hash>(
+pub(crate) fn primitive_indices<T: NativeType + Ord>(
     alloc: Global,
-    distinct: &mut IndexSet<T>,
+    distinct: &mut FirstSeen<T>,
     array: &PrimitiveArray<T>,
 ) -> Result<Vec<Option<usize>>>
-    requires empty { distinct.old.keys ≡ [] }
+    requires empty { distinct.old ≡ [] }
     ensures indices { IfOk result (λ indices. EncodesSlots array.now.slots
-        (map index_key indices.items) (map T.native_slot distinct.new.keys)) }
+        (map index_key indices.items) (map T.native_slot distinct.new)) }
     ensures memory { OnlyOutOfMemory result }
 {
     let len = array.len();
@@ -53,19 +52,19 @@ pub(crate) fn primitive_indices<T: NativeType + Hash>(
 
 /// The index of slot `i` among the distinct strings, where a new one goes last; `None` for a null.
 fn string_index<'a, O: Offset>(
-    distinct: &mut IndexSet<&'a str>,
+    distinct: &mut FirstSeen<&'a str>,
     array: &'a Utf8Array<O>,
     i: usize,
 ) -> Result<Option<usize>>
     requires within { i < length array.now.slots }
     ensures step { IfOk result (IsStep (slot_at array.now.slots i)
-        (map string_slot distinct.old.keys) (map string_slot distinct.new.keys)) }
+        (map string_slot distinct.old) (map string_slot distinct.new)) }
     ensures memory { OnlyOutOfMemory result }
 {
     if !array.is_valid(i) {
         return Ok(None);
     }
-    let (index, _) = distinct.insert_full(array.value(i))?;
+    let index = distinct.add(array.value(i))?;
     Ok(Some(index))
 }
 
@@ -73,12 +72,12 @@ fn string_index<'a, O: Offset>(
 /// `None` for a null.
 pub(crate) fn string_indices<'a, O: Offset>(
     alloc: Global,
-    distinct: &mut IndexSet<&'a str>,
+    distinct: &mut FirstSeen<&'a str>,
     array: &'a Utf8Array<O>,
 ) -> Result<Vec<Option<usize>>>
-    requires empty { distinct.old.keys ≡ [] }
+    requires empty { distinct.old ≡ [] }
     ensures indices { IfOk result (λ indices. EncodesSlots array.now.slots
-        (map index_key indices.items) (map string_slot distinct.new.keys)) }
+        (map index_key indices.items) (map string_slot distinct.new)) }
     ensures memory { OnlyOutOfMemory result }
 {
     let len = array.len();

@@ -44,10 +44,54 @@ fn are_lists_of_structs(data_type: &DataType, count: usize) -> bool {
 }
 
 #[test]
-fn many_types_take_no_long(rt: HostRuntime) -> std::result::Result<(), Fail> {
+fn many_types_end_in_time(rt: HostRuntime) -> std::result::Result<(), Fail> {
     let alloc = rt.alloc();
     let text = rows(alloc)?;
     let value = parse(alloc, text.as_str().as_bytes())?;
     assert!(rt; are_lists_of_structs(&infer(alloc, &value)?, 40 + 40 + 63));
+    Ok(())
+}
+
+/// How many names there are of members that come one in a row.
+const NAMES: u32 = 3000;
+
+/// An array of rows of one member each. Each name comes twice, first in the order of the multiples
+/// of 7, each cut at `NAMES`.
+fn named_rows(alloc: Global) -> Result<String> {
+    let mut text = String::from_str(alloc, "[{}")?;
+    for i in 0..2 * NAMES {
+        let row = format!(in alloc; ",{{\"n{}\":1}}", i * 7 % NAMES)?;
+        text.push_str(row.as_str())?;
+    }
+    text.push_str("]")?;
+    Ok(text)
+}
+
+/// Whether these are all the names in that order.
+fn are_in_order(alloc: Global, fields: &[Field]) -> Result<bool> {
+    let mut number: u32 = 0;
+    for field in fields {
+        let name = format!(in alloc; "n{number}")?;
+        if field.name.as_str() != name.as_str() || !is_integer(field) {
+            return Ok(false);
+        }
+        number = number.wrapping_add(7) % NAMES;
+    }
+    Ok(fields.len() == NAMES as usize)
+}
+
+#[test]
+fn names_stand_in_order_of_first_appearance(rt: HostRuntime) -> std::result::Result<(), Fail> {
+    let alloc = rt.alloc();
+    let text = named_rows(alloc)?;
+    let value = parse(alloc, text.as_str().as_bytes())?;
+    let data_type = infer(alloc, &value)?;
+    let DataType::List(item) = &data_type else {
+        return Err(Fail::from("no list"));
+    };
+    let DataType::Struct(fields) = &item.get().data_type else {
+        return Err(Fail::from("no struct"));
+    };
+    assert!(rt; are_in_order(alloc, fields.as_slice())?);
     Ok(())
 }

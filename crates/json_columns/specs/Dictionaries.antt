@@ -36,7 +36,7 @@ AreTooMany reading key are_long all_long values =
 abbrev pub TooManyDistinct : IntegerType → DataType → List Json → Type 0
 TooManyDistinct key t values = AreTooMany (reading t) key (HasLongStrings t) (AreLongStrings t values) values
 
--- the values of a dictionary are its distinct slots, in order of first appearance
+-- the values of a dictionary are its distinct slots but null, in order of first appearance
 abbrev pub HasFirstItems : DataType → Array → Type 0
 HasFirstItems (types.Dictionary' key shape value is_sorted) a = (d : DictionaryColumn) × (a ≡ kind.Dictionary d) × FirstSlots d.slots d.items
 HasFirstItems _ a = Unit {0}

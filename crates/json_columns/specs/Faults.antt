@@ -25,7 +25,8 @@ TooManyInner key (more_of-DataType t rest) values = TooManyDistinct key t values
 
 abbrev mutual
   -- Somewhere beneath the type the items of lists, or the bytes of strings or of binary values, are more together than the greatest
-  -- offset, 2^31 - 1 or of large types 2^63 - 1, or the distinct slots of a dictionary are more than its keys number.
+  -- offset, 2^31 - 1 or of large types 2^63 - 1, or the distinct slots of a dictionary are more than its keys number. Of the strings
+  -- of a dictionary each distinct one counts once.
   pub TooMany : DataType → List Json → Type 0
   TooMany types.Utf8 values = IsTooLong (greatest_offset false) text_in values
   TooMany types.LargeUtf8 values = IsTooLong (greatest_offset true) text_in values

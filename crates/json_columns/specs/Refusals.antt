@@ -15,8 +15,8 @@ use Rattle.json_columns.specs.Names.{names_twice}
 use Rattle.json_columns.specs.Reading.{has_reading, reading}
 
 -- Why there is no column of values under a type, the first that applies: a Struct names a field twice; a type has no reading; a
--- text stands under a timestamp; a value doesn't fit its type, or there are more items or bytes than can be counted. Out of
--- memory may come in place of any of these.
+-- text stands under a timestamp; a value doesn't fit its type, there are more items or bytes than can be counted, or more distinct
+-- slots of a dictionary than its keys number. Out of memory may come in place of any of these.
 abbrev pub IsRefusal : DataType → List Json → Error → Type 0
 IsRefusal t values (InvalidArgumentError reason.DuplicateName) = (names_twice t ≡ true)
 IsRefusal t values (NotYetImplemented reason.NoJsonReading) = (names_twice t ≡ false) × (has_reading t ≡ false)

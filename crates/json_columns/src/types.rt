@@ -21,10 +21,10 @@ fn is_value_type(data_type: &DataType) -> bool
 }
 
 /// Whether JSON values are read under this type: Null, Boolean, integers of 8 to 64 bits, dates,
-/// times, timestamps, durations, intervals of months, Utf8, Binary and their large forms, List and
-/// LargeList of these, FixedSizeList of at least one of these, Struct of at least one field, each
-/// of these, and Dictionary over Utf8, LargeUtf8 or signed integers of 8 to 64 bits. It takes no
-/// memory.
+/// times, timestamps, durations, intervals of months, Utf8, Binary and their large forms, and
+/// Dictionary over Utf8, LargeUtf8 or signed integers of 8 to 64 bits; besides, List and LargeList
+/// of any type under which values are read, FixedSizeList of at least one item of such a type, and
+/// Struct of at least one field, each of such a type. It takes no memory.
 #[cycle(readable)]
 pub fn has_json_reading(data_type: &DataType) -> bool
     ensures { result ≡ has_reading data_type.now }

@@ -59,8 +59,8 @@ fn read_all(alloc: Global, values: &[Value], data_type: &DataType) -> Result<Arr
 /// `NotYetImplemented(TextTimestamp)` where a text stands under a timestamp, and `Overflow` where a
 /// number doesn't fit its type, the items of lists or the bytes of strings or of binary values are
 /// more together than the greatest offset, 2^31 - 1 or 2^63 - 1, or the distinct slots of a
-/// dictionary are more than its keys have numbers from 0 on. `OutOfMemory` may come in place of any
-/// answer.
+/// dictionary are more than its keys have numbers from 0 on; of the strings of a dictionary each
+/// distinct one counts once. `OutOfMemory` may come in place of any answer.
 pub fn read_values(alloc: Global, values: &[Value], data_type: &DataType) -> Result<Array>
     ensures data_type { IfOk result (λ a. array_type a ≡ data_type.now) }
     ensures slots { IfOk result

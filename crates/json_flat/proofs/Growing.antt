@@ -5,11 +5,11 @@ use Rattle.std.specs.Prelude.{Result, Ok, Err, IfOk, IfErr}
 use Rattle.std.proofs.lemmas.List.Sums.{sum_by_more_le}
 use Rattle.std.proofs.lemmas.List.{map-append, map_more, length-map, get_or-map, take-map}
 use Rattle.arrow_core.specs.declared.error.Error.{Error}
-use Rattle.arrow_core.specs.declared.error.Error.TheVariants.{OutOfMemory}
+use Rattle.arrow_core.specs.declared.error.Error.TheVariants.{OutOfMemory, Overflow, NotYetImplemented}
 use Rattle.arrow_types.specs.declared.slot.Slot.{Slot}
 use Rattle.arrow_types.specs.declared.types.DataType.{DataType}
 use Rattle.json_tree.specs.Tree.{Json}
-use Rattle.json_flat.specs.Meaning.{Meaning, Layer, slot_of, text_timestamp}
+use Rattle.json_flat.specs.Meaning.{Meaning, Layer, slot_of, text_timestamp, unfit}
 use Rattle.json_flat.specs.Columns.{AreSlotsOf, Has, HasNoSlot, IsNoSlot, Pushes, IsPushFault, IsColumnFault, IsTextFault, IsTooLong, lent, means, size_of, total_size}
 
 -- the values lent so far, and one more
@@ -42,6 +42,16 @@ faulty f too_many vs i v e lt is (inr (inl h)) =
     inr (inl (h.0, (i, v.now, omega (arith, lt, length-map vs (λ b. b.now)), lent_at vs i v lt is, h.1)))
 faulty f too_many vs i v e lt is (inr (inr h)) =
     inr (inr (h.0, inl (i, v.now, omega (arith, lt, length-map vs (λ b. b.now)), lent_at vs i v lt is, subst IsNoSlot (sym h.1) tt)))
+
+-- an `Overflow` comes of a value that doesn't fit
+pub misfit : (f : Layer → Meaning) (vs : List (Bor Json)) (i : ℕ) (v : Bor Json) (e : Error) → i < length vs → v ≡ get_or vs i v → IsPushFault f v.now e → e ≡ Overflow → Has unfit f (lent vs)
+misfit f vs i v e lt is (inl h) o = absurd cc
+misfit f vs i v e lt is (inr (inl h)) o = let k = h.0 in absurd cc
+misfit f vs i v e lt is (inr (inr h)) o = (i, v.now, omega (arith, lt, length-map vs (λ b. b.now)), lent_at vs i v lt is, h.1)
+
+pub no-overflow : {A : Type 0} (P : Type 0) (r : Result A Error) → IfErr r (λ e. e ≡ OutOfMemory) → IfErr r (λ e. e ≡ Overflow → P)
+no-overflow P (Ok a) h = tt
+no-overflow P (Err e) h = λ o. absurd cc
 
 -- the first string that is too much
 pub too-long : (greatest : ℕ) (f : Layer → Meaning) (vs : List (Bor Json)) (i : ℕ) (v : Bor Json) (before : ℕ) (e : Error) → i < length vs → v ≡ get_or vs i v → before ≡ total_size f (lent (take i vs)) → IsTextFault greatest before f v.now e → IsColumnFault f (IsTooLong greatest f (lent vs)) (lent vs) e

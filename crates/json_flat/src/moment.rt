@@ -2,8 +2,9 @@
 ghost use Rattle.std.specs.Prelude.{◌≡◌, OnOk, IfOk, IfErr};
 ghost use Rattle.arrow_array.specs.Parts.{IsPlain};
 ghost use Rattle.arrow_types.specs.declared.physical.PrimitiveType.TheVariants.{Int64 as Int64Layout};
-ghost use Rattle.json_flat.specs.Meaning.{moment_in};
-ghost use Rattle.json_flat.specs.Columns.{AreSlotsOf, IsColumnFault, IsPushFault, Pushes, lent};
+ghost use Rattle.arrow_core.specs.declared.error.Error.TheVariants.{Overflow as OverflowFault};
+ghost use Rattle.json_flat.specs.Meaning.{moment_in, unfit};
+ghost use Rattle.json_flat.specs.Columns.{AreSlotsOf, Has, IsColumnFault, IsPushFault, Pushes, lent};
 
 use crate::native::WholeNumber;
 use arrow_array::PrimitiveArray;
@@ -35,9 +36,9 @@ fn push_moment(builder: &mut MutablePrimitiveArray<i64>, value: &Value) -> Resul
 /// null for any other value but a text. The type is one whose values lie in memory as 64-bit
 /// integers.
 ///
-/// `NotYetImplemented(TextTimestamp)` where a text comes, and `Overflow` where a number that has no
-/// whole value in 64 bits comes; either may be answered where both come. `OutOfMemory` may come in
-/// place of any answer.
+/// `NotYetImplemented(TextTimestamp)` only where a text comes, and `Overflow` only where a number
+/// comes that has no whole value in 64 bits; where both come, either may be answered. `OutOfMemory`
+/// may come in place of any answer.
 pub fn read_moments(
     alloc: Global,
     values: &[&Value],
@@ -47,6 +48,8 @@ pub fn read_moments(
     ensures data_type { IfOk result (λ a. a.data_type ≡ data_type.now) }
     ensures slots { IfOk result (λ a. AreSlotsOf moment_in (lent values.now) a.slots) }
     ensures err { IfErr result (IsColumnFault moment_in ⊥ (lent values.now)) }
+    ensures overflow { IfErr result
+        (λ e. e ≡ OverflowFault → Has unfit moment_in (lent values.now)) }
 {
     let builder = MutablePrimitiveArray::<i64>::with_capacity(alloc, values.len())?;
     let mut builder = builder.to(data_type.try_clone(alloc)?);

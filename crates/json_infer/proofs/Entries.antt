@@ -1,61 +1,121 @@
--- The entries of a map of sets, seen as columns.
-use Rattle.std.proofs.Common.{◌≡◌, refl, sym, ap, ◌∙◌, ℕ, length, List, [], ◌∷◌, map, Bool, true, false, cond, Option, Some, None, is_some, position, arith}
-use Rattle.std.specs.Map.{keys_of, lookup}
+-- Names beside the types of each, seen as columns.
+use Rattle.std.proofs.Common.{◌≡◌, refl, sym, ap, subst, ◌∙◌, ℕ, zero, suc, ◌+◌, ◌<◌, length, List, [], ◌∷◌, ◌++◌, map, Bool, true, false, cond, Option, Some, None, IsSome, option_copied, is_some, set, get_or, arith}
+use Rattle.std.specs.Borrow.{Bor}
+use Rattle.std.proofs.lemmas.Option.{slice_get-get_or}
+use Rattle.std.specs.List.{position_from, slice_get, zip}
 use Rattle.std.specs.Str.{bytes_eq}
-use Rattle.indexmap.specs.IndexMap.{insert_entry, set_value_at}
-use Rattle.indexmap.proofs.MapLemmas.{Found-position, insert_entry-first}
+use Rattle.first_seen.specs.Keys.{index_of}
+use Rattle.first_seen.proofs.Indices.{grown, kept}
 use Rattle.arrow_types.specs.declared.types.DataType.{DataType}
 use Rattle.json_infer.specs.Lists.{with_one}
 use Rattle.json_infer.specs.Parts.{same}
 use Rattle.json_infer.specs.Columns.{Column, types_named, with_type}
 
-module _ {S : Type 0} (keys : S → List DataType) where
-  abbrev pub seen_columns : List (List ℕ × S) → List Column
-  seen_columns es = map (λ e. (e.0, keys e.1)) es
+-- ---- lists of the same length
 
-  abbrev pub types_or_none : Option S → List DataType
-  types_or_none None = []
-  types_or_none (Some s) = keys s
+module _ {A B : Type 0} where
+  pub length_zip : (xs : List A) (ys : List B) → length xs ≡ length ys → length ys ≡ length (zip xs ys)
+  length_zip [] [] h = refl
+  length_zip [] (y ∷ ys) h = absurd (omega arith)
+  length_zip (x ∷ xs) [] h = absurd (omega arith)
+  length_zip (x ∷ xs) (y ∷ ys) h = ap suc (length_zip xs ys (omega arith))
 
-  -- a name's types, as they are looked up
-  pub named : (es : List (List ℕ × S)) (name : List ℕ) → types_named name (seen_columns es) ≡ types_or_none (lookup (bytes_eq name) es)
-  named [] name = refl
-  named (e ∷ es) name = by_first (bytes_eq name e.0) (named es name)
+  pub firsts : (xs : List A) (ys : List B) → length xs ≡ length ys → map (λ p. p.0) (zip xs ys) ≡ xs
+  firsts [] ys h = refl
+  firsts (x ∷ xs) [] h = absurd (omega arith)
+  firsts (x ∷ xs) (y ∷ ys) h = ap (λ zs. x ∷ zs) (firsts xs ys (omega arith))
+
+  pub pair_at : (xs : List A) (ys : List B) (i : ℕ) (x : A) (y : B) → length xs ≡ length ys → Some x ≡ slice_get xs i → y ≡ get_or ys i y → slice_get (zip xs ys) i ≡ Some (x, y)
+  pair_at [] ys i x y h e f = absurd cc
+  pair_at (a ∷ xs) [] i x y h e f = absurd (omega arith)
+  pair_at (a ∷ xs) (b ∷ ys) zero x y h e f = let d : a ≡ x = cc in λ j. Some (d j, sym f j)
+  pair_at (a ∷ xs) (b ∷ ys) (suc i) x y h e f = pair_at xs ys i x y (omega arith) e f
+
+-- what is lent of an item that is there
+pub some_at : {A : Type 0} (xs : List A) (i : ℕ) (r : Option (Bor A)) → option_copied r ≡ slice_get xs i → i < length xs → IsSome r
+some_at xs i (Some x) e l = refl
+some_at [] i None e l = absurd (omega arith)
+some_at (x ∷ xs) i None e l = let k = slice_get-get_or (x ∷ xs) i x l in absurd cc
+
+-- ---- the index of a name
+
+module _ {A : Type 0} (test : A → Bool) where
+  behind : (s i : ℕ) (xs : List A) → position_from test (s + 1) xs ≡ Some i → (j : ℕ) × ((i ≡ suc j) × (position_from test s xs ≡ Some j))
+  behind s i [] h = absurd cc
+  behind s i (x ∷ xs) h = by_first (test x) h (behind (s + 1) i xs)
     where
-      by_first : (b : Bool) → types_named name (seen_columns es) ≡ types_or_none (lookup (bytes_eq name) es)
-          → cond b (keys e.1) (types_named name (seen_columns es)) ≡ types_or_none (cond b (Some e.1) (lookup (bytes_eq name) es))
-      by_first true rest = refl
-      by_first false rest = rest
+      by_first : (b : Bool) → cond b (Some (s + 1)) (position_from test (s + 1 + 1) xs) ≡ Some i
+          → (position_from test (s + 1 + 1) xs ≡ Some i → (j : ℕ) × ((i ≡ suc j) × (position_from test (s + 1) xs ≡ Some j)))
+          → (j : ℕ) × ((i ≡ suc j) × (cond b (Some s) (position_from test (s + 1) xs) ≡ Some j))
+      by_first true k rest = let e : s + 1 ≡ i = cc in (s, (omega (arith, e), refl))
+      by_first false k rest = rest k
 
-  -- a name's types, with one more
-  inserted : (es : List (List ℕ × S)) (name : List ℕ) (w : S) (t : DataType) → keys w ≡ with_one same (types_or_none (lookup (bytes_eq name) es)) t → seen_columns (insert_entry bytes_eq es name w) ≡ with_type (seen_columns es) name t
-  inserted [] name w t h = ap (λ us. (name, us) ∷ []) h
-  inserted (e ∷ es) name w t h = by_first (bytes_eq name e.0) h (inserted es name w t)
-    where
-      by_first : (b : Bool) → keys w ≡ with_one same (types_or_none (cond b (Some e.1) (lookup (bytes_eq name) es))) t
-          → (keys w ≡ with_one same (types_or_none (lookup (bytes_eq name) es)) t → seen_columns (insert_entry bytes_eq es name w) ≡ with_type (seen_columns es) name t)
-          → seen_columns (cond b ((e.0, w) ∷ es) (e ∷ insert_entry bytes_eq es name w)) ≡ cond b ((e.0, with_one same (keys e.1) t) ∷ seen_columns es) ((e.0, keys e.1) ∷ with_type (seen_columns es) name t)
-      by_first true k rest = ap (λ us. (e.0, us) ∷ seen_columns es) k
-      by_first false k rest = ap (λ cs. (e.0, keys e.1) ∷ cs) (rest k)
+-- names that are absent among columns, and among names
+module _ (names : List (List ℕ)) (types : List (List DataType)) (cs : List Column) (name : List ℕ) (h : length names ≡ length types) (v : zip names types ≡ cs) where
+  names_are : map (λ c. c.0) cs ≡ names
+  names_are = ap (map (λ c. c.0)) (sym v) ∙ firsts names types h
 
-  -- a name that is there, with one more type
-  pub written : (es : List (List ℕ × S)) (name : List ℕ) (i : ℕ) (old w : S) (t : DataType) → Some i ≡ position (bytes_eq name) (keys_of es) → lookup (bytes_eq name) es ≡ Some old → keys w ≡ with_one same (keys old) t
-      → seen_columns (set_value_at es i w) ≡ with_type (seen_columns es) name t
-  written es name i old w t p l h =
-      ap seen_columns (sym (insert_entry-first bytes_eq name w es i (Found-position (bytes_eq name) es i (sym p)).first))
-      ∙ inserted es name w t (h ∙ ap (λ (o : Option S). with_one same (types_or_none o) t) (sym l))
+  pub absent_name : index_of bytes_eq (map (λ c. c.0) cs) name ≡ None → index_of bytes_eq names name ≡ None
+  absent_name e = ap (λ ks. index_of bytes_eq ks name) (sym names_are) ∙ e
 
-  -- a name that isn't there, with its first type
-  pub added_name : (es new : List (List ℕ × S)) (name key : List ℕ) (w : S) (none : List DataType) (t : DataType) → false ≡ is_some (lookup (bytes_eq name) es) → key ≡ name → length none ≡ 0 → keys w ≡ with_one same none t → new ≡ insert_entry bytes_eq es key w
-      → seen_columns new ≡ with_type (seen_columns es) name t
-  added_name es new name key w none t f k l h n =
-      ap seen_columns (n ∙ ap (λ (m : List ℕ). insert_entry bytes_eq es m w) k)
-      ∙ inserted es name w t (h ∙ ap (λ (us : List DataType). with_one same us t) (is_none_list none l ∙ sym (no_types (lookup (bytes_eq name) es) f)))
-    where
-      is_none_list : (us : List DataType) → length us ≡ 0 → us ≡ []
-      is_none_list [] e = refl
-      is_none_list (u ∷ us) e = absurd (omega arith)
+  pub absent_column : None ≡ index_of bytes_eq names name → index_of bytes_eq (map (λ c. c.0) cs) name ≡ None
+  absent_column e = ap (λ ks. index_of bytes_eq ks name) names_are ∙ sym e
 
-      no_types : (o : Option S) → false ≡ is_some o → types_or_none o ≡ []
-      no_types None e = refl
-      no_types (Some s) e = cc
+-- a name's types, by its index
+pub named : (names : List (List ℕ)) (types : List (List DataType)) (name : List ℕ) (i : ℕ) (ts : List DataType) → length names ≡ length types → index_of bytes_eq names name ≡ Some i → ts ≡ get_or types i ts → ts ≡ types_named name (zip names types)
+named [] types name i ts h k e = absurd cc
+named (n ∷ names) [] name i ts h k e = absurd (omega arith)
+named (n ∷ names) (t ∷ types) name i ts h k e = by_first (bytes_eq name n) k (λ j f l. named names types name j ts (omega arith) l (subst (λ m. ts ≡ get_or (t ∷ types) m ts) f e))
+  where
+    by_first : (b : Bool) → cond b (Some 0) (position_from (bytes_eq name) 1 names) ≡ Some i
+        → ((j : ℕ) → i ≡ suc j → index_of bytes_eq names name ≡ Some j → ts ≡ types_named name (zip names types))
+        → ts ≡ cond b t (types_named name (zip names types))
+    by_first true m rest = let z : 0 ≡ i = cc in subst (λ m. ts ≡ get_or (t ∷ types) m ts) (sym z) e
+    by_first false m rest = let s = behind (bytes_eq name) 0 i names m in rest s.0 s.1.0 s.1.1
+
+-- a name that is there, with one more type
+pub written : (names : List (List ℕ)) (types : List (List DataType)) (name : List ℕ) (i : ℕ) (old w : List DataType) (t : DataType) → length names ≡ length types → index_of bytes_eq names name ≡ Some i → old ≡ get_or types i old → w ≡ with_one same old t
+    → zip names (set types i w) ≡ with_type (zip names types) name t
+written [] types name i old w t h k e g = absurd cc
+written (n ∷ names) [] name i old w t h k e g = absurd (omega arith)
+written (n ∷ names) (u ∷ types) name i old w t h k e g = by_first (bytes_eq name n) k (λ j f l. written names types name j old w t (omega arith) l (subst (λ m. old ≡ get_or (u ∷ types) m old) f e) g)
+  where
+    by_first : (b : Bool) → cond b (Some 0) (position_from (bytes_eq name) 1 names) ≡ Some i
+        → ((j : ℕ) → i ≡ suc j → index_of bytes_eq names name ≡ Some j → zip names (set types j w) ≡ with_type (zip names types) name t)
+        → zip (n ∷ names) (set (u ∷ types) i w) ≡ cond b ((n, with_one same u t) ∷ zip names types) ((n, u) ∷ with_type (zip names types) name t)
+    by_first true m rest =
+        let z : 0 ≡ i = cc in
+        let o : old ≡ u = subst (λ m. old ≡ get_or (u ∷ types) m old) (sym z) e in
+        ap (λ m. zip (n ∷ names) (set (u ∷ types) m w)) (sym z) ∙ ap (λ us. (n, us) ∷ zip names types) (g ∙ ap (λ us. with_one same us t) o)
+    by_first false m rest =
+        let s = behind (bytes_eq name) 0 i names m in
+        ap (λ j. zip (n ∷ names) (set (u ∷ types) j w)) s.1.0 ∙ ap (λ cs. (n, u) ∷ cs) (rest s.0 s.1.0 s.1.1)
+
+-- a name that isn't there, with its first type
+from_absent : (s : ℕ) (names : List (List ℕ)) (types : List (List DataType)) (name : List ℕ) (w : List DataType) (t : DataType) → length names ≡ length types → position_from (bytes_eq name) s names ≡ None → w ≡ t ∷ []
+    → zip (names ++ name ∷ []) (types ++ w ∷ []) ≡ with_type (zip names types) name t
+from_absent s [] [] name w t h k g = ap (λ us. (name, us) ∷ []) g
+from_absent s [] (u ∷ types) name w t h k g = absurd (omega arith)
+from_absent s (n ∷ names) [] name w t h k g = absurd (omega arith)
+from_absent s (n ∷ names) (u ∷ types) name w t h k g = by_first (bytes_eq name n) k (λ l. from_absent (s + 1) names types name w t (omega arith) l g)
+  where
+    by_first : (b : Bool) → cond b (Some s) (position_from (bytes_eq name) (s + 1) names) ≡ None
+        → (position_from (bytes_eq name) (s + 1) names ≡ None → zip (names ++ name ∷ []) (types ++ w ∷ []) ≡ with_type (zip names types) name t)
+        → (n, u) ∷ zip (names ++ name ∷ []) (types ++ w ∷ []) ≡ cond b ((n, with_one same u t) ∷ zip names types) ((n, u) ∷ with_type (zip names types) name t)
+    by_first true m rest = absurd cc
+    by_first false m rest = ap (λ cs. (n, u) ∷ cs) (rest m)
+
+pub added_name : (names more : List (List ℕ)) (types : List (List DataType)) (name key : List ℕ) (none w : List DataType) (t : DataType) → length names ≡ length types → index_of bytes_eq names name ≡ None → key ≡ name → none ≡ [] → w ≡ with_one same none t → more ≡ names ++ key ∷ []
+    → zip more (types ++ w ∷ []) ≡ with_type (zip names types) name t
+added_name names more types name key none w t h k e n g m =
+    ap (λ ks. zip ks (types ++ w ∷ [])) (m ∙ ap (λ key. names ++ key ∷ []) e)
+    ∙ from_absent 0 names types name w t h k (g ∙ ap (λ us. with_one same us t) n)
+
+-- a type that came before, and one that didn't
+pub type_kept : (ts : List DataType) (t : DataType) (r : Option ℕ) → r ≡ index_of same ts t → is_some r ≡ true → ts ≡ with_one same ts t
+type_kept ts t None e h = absurd cc
+type_kept ts t (Some i) e h = kept same ts t i (sym e)
+
+pub type_added : (ts new : List DataType) (t added : DataType) (r : Option ℕ) → r ≡ index_of same ts t → is_some r ≡ false → added ≡ t → new ≡ ts ++ added ∷ [] → new ≡ with_one same ts t
+type_added ts new t added None e h c n = grown same ts new t (sym e) (n ∙ ap (λ u. ts ++ u ∷ []) c)
+type_added ts new t added (Some i) e h c n = absurd cc

@@ -1,14 +1,14 @@
 -- Fields grouped by name: each name with its distinct types.
-use Rattle.std.proofs.Common.{◌≡◌, refl, sym, ap, subst, ◌∙◌, ℕ, zero, suc, ◌+◌, ◌≤◌, ◌<◌, length, List, [], ◌∷◌, ◌++◌, append_assoc, map, Bool, true, false, cond, ◌||◌, inl, inr, arith}
+use Rattle.std.proofs.Common.{◌≡◌, refl, sym, ap, subst, ◌∙◌, ℕ, ◌+◌, ◌≤◌, List, [], ◌∷◌, ◌++◌, append_assoc, map, Bool, true, false, cond, ◌||◌, inl, inr, arith}
 use Rattle.std.specs.List.{list_any}
 use Rattle.std.specs.Str.{bytes_eq}
 use Rattle.arrow_types.specs.declared.types.DataType.{DataType}
 use Rattle.arrow_types.specs.declared.types.Field.{Field}
 use Rattle.json_infer.specs.Lists.{with_one, with_all, distinct, EachOnce, Among, total}
-use Rattle.json_infer.specs.Parts.{same, nullable, size_of, sizes}
+use Rattle.json_infer.specs.Parts.{same, nullable, size_of}
 use Rattle.json_infer.specs.Coercion.{types_in, coerce}
 use Rattle.json_infer.specs.Columns.{Column, with_type, with_fields, coerced_columns, column_sizes}
-use Rattle.json_infer.proofs.Equality.{exact, exact_name}
+use Rattle.json_infer.proofs.Equality.{exact_name}
 use Rattle.json_infer.proofs.ListLaws.{has_among, among_has, distinct_among, distinct_once}
 use Rattle.json_infer.proofs.Folding.{with_all_append, distinct_twice, nothing_after}
 use Rattle.json_infer.proofs.Sizes.{with_one_below}

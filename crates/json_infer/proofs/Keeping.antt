@@ -10,10 +10,10 @@ use Rattle.json_infer.specs.declared.seen.Seen.TheVariants as seen
 use Rattle.json_infer.specs.Lists.{with_one, with_all, distinct, EachOnce}
 use Rattle.json_infer.specs.Parts.{same, fields_of, members_of, nullable}
 use Rattle.json_infer.specs.Coercion.{all_names, names_of, types_in, all_types, types_of, all_same, all_structs, columns, coerce}
-use Rattle.json_infer.specs.Columns.{Column, with_type, with_fields, coerced_columns}
-use Rattle.json_infer.specs.Seen.{of_both, more, seen_after, result_of}
+use Rattle.json_infer.specs.Columns.{Column, with_fields, coerced_columns}
+use Rattle.json_infer.specs.Seen.{more, seen_after, result_of}
 use Rattle.json_infer.proofs.Grouping.{with_fields-append, coerced-grouped, map_append, types_in_append}
-use Rattle.json_infer.proofs.ListLaws.{has_among, distinct_once, distinct_among}
+use Rattle.json_infer.proofs.ListLaws.{has_among, distinct_once}
 use Rattle.json_infer.proofs.Equality.{exact}
 use Rattle.json_infer.proofs.AnyOrder.{all_structs_is}
 use Rattle.json_infer.proofs.Folding.{nothing_after, with_all_append, same_names, same_types}

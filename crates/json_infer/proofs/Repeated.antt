@@ -1,14 +1,13 @@
 -- Types that are given again play a part in the rule on more than two types alone.
-use Rattle.std.proofs.Common.{◌≡◌, refl, sym, ap, subst, ◌∙◌, ℕ, ◌+◌, ◌≤◌, ◌<◌, length, List, [], ◌∷◌, ◌++◌, Bool, true, false, cond, ◌||◌, ◌&&◌, nat_lt, inl, inr, arith}
+use Rattle.std.proofs.Common.{◌≡◌, refl, sym, ap, subst, ◌∙◌, ℕ, ◌≤◌, ◌<◌, length, List, [], ◌∷◌, Bool, true, false, cond, ◌||◌, ◌&&◌, nat_lt, inl, inr, arith}
 use Rattle.std.proofs.lemmas.Bool.Decides.{nat_tests}
 use Rattle.arrow_types.specs.declared.types.DataType.{DataType}
 use Rattle.arrow_types.specs.declared.types.DataType as data_type
 use Rattle.json_infer.specs.declared.seen.Seen.{Seen}
 use Rattle.json_infer.specs.declared.seen.Seen.TheVariants as seen
-use Rattle.json_infer.specs.Lists.{with_all, distinct, Among}
-use Rattle.json_infer.specs.Parts.{same, item_of}
-use Rattle.json_infer.specs.Coercion.{all_same, all_structs, columns, of_two, pair, coerce}
-use Rattle.json_infer.specs.Columns.{Column, coerced_columns}
+use Rattle.json_infer.specs.Lists.{distinct, Among}
+use Rattle.json_infer.specs.Parts.{same}
+use Rattle.json_infer.specs.Coercion.{all_same, all_structs, coerce}
 use Rattle.json_infer.specs.Seen.{are_two, seen_after, result_of}
 use Rattle.json_infer.proofs.Equality.{exact}
 use Rattle.json_infer.proofs.ListLaws.{one_test, distinct_among}

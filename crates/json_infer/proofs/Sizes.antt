@@ -1,5 +1,5 @@
 -- The rules go into parts of smaller size, so `coerce` meets them at each level.
-use Rattle.std.proofs.Common.{◌≡◌, refl, sym, ap, ◌∙◌, ℕ, zero, suc, ◌+◌, ◌*◌, ◌≤◌, ◌<◌, length, List, [], ◌∷◌, ◌++◌, map, Bool, true, false, cond, arith, Option, Some, None, is_some, option_map}
+use Rattle.std.proofs.Common.{◌≡◌, refl, sym, ap, ◌∙◌, ℕ, zero, suc, ◌+◌, ◌≤◌, ◌<◌, List, [], ◌∷◌, ◌++◌, map, Bool, true, false, cond, arith, Option, Some, None, is_some, option_map}
 use Rattle.arrow_types.specs.declared.types.DataType.{DataType, out-DataType, roll-DataType, roll-out-DataType}
 use Rattle.arrow_types.specs.declared.types.DataType as data_type
 use Rattle.arrow_types.specs.declared.types.DataType.TheOpen as layer

@@ -1,13 +1,15 @@
 //! The distinct types of each member of several Structs.
-ghost use Rattle.std.specs.Prelude.{◌≡◌, ◌<◌, [], length, IfOk, IfSome, OnOk, Some, slice_get};
+ghost use Rattle.std.specs.Prelude.{◌≡◌, ◌<◌, [], length, map, IfSome, None, OnOk, Some, slice_get};
+ghost use Rattle.std.specs.Str.{bytes_eq};
 ghost use Rattle.arrow_core.specs.Errors.{OnlyOutOfMemory};
+ghost use Rattle.first_seen.specs.Keys.{index_of};
 ghost use Rattle.json_infer.specs.Columns.{types_named, with_fields, with_type};
 ghost use Rattle.json_infer.specs.Lists.{with_one};
 ghost use Rattle.json_infer.specs.Parts.{same};
 
 use arrow_core::{Result, Text};
 use arrow_types::{DataType, Field};
-use indexmap::{IndexMap, IndexSet};
+use first_seen::FirstSeen;
 use std::alloc::Global;
 use std::marker::Model;
 
@@ -18,11 +20,14 @@ const COMPARED_NAMES: usize = 64;
 /// order of first appearance.
 #[derive(Drop)]
 pub struct Columns {
-    types: IndexMap<Text, IndexSet<DataType>>,
+    names: FirstSeen<Text>,
+    // the types of each name
+    types: Vec<FirstSeen<DataType>>,
 }
 
 impl Model for Columns {
-    ghost use Rattle.std.specs.Prelude.{List, map};
+    ghost use Rattle.std.specs.Prelude.{◌≡◌, List, length};
+    ghost use Rattle.std.specs.List.{zip};
     ghost use Rattle.json_infer.specs.Columns.{Column};
     ghost use Rattle.std.specs.Coded.{codes};
     ghost use Rattle.arrow_types.specs.contracts.types.DataType as data_type;
@@ -31,20 +36,23 @@ impl Model for Columns {
 
     ghost coded = { Prim.hlevel (codes, data_type.the_row.coded) };
 
-    ghost view = { λ c. map (λ e. (e.0, e.1.keys)) c.types.entries };
+    ghost view = { λ c. zip c.names c.types.items };
+
+    ghost invariant = { λ c. length c.names ≡ length c.types.items };
 }
 
-// Adds a type, where it isn't there. A type that is there takes no memory.
+// Adds a type, where it isn't there.
 #[tactic(auto, unfolding(crate::specs::Parts::same))]
-fn add_type(alloc: Global, types: &mut IndexSet<DataType>, data_type: &DataType) -> Result<()>
-    ensures added { OnOk result (types.new.keys ≡ with_one same types.old.keys data_type.now) }
+fn add_type(alloc: Global, types: &mut FirstSeen<DataType>, data_type: &DataType) -> Result<()>
+    ensures added { OnOk result (types.new ≡ with_one same types.old data_type.now) }
     ensures memory { OnlyOutOfMemory result }
 {
-    if types.contains(data_type) {
+    if types.index_of(data_type).is_some() {
         return Ok(());
     }
-    types.insert(data_type.try_clone(alloc)?)?;
-    Ok(())
+    let added = data_type.try_clone(alloc)?;
+    let copy = data_type.try_clone(alloc)?;
+    types.push(added, copy)
 }
 
 impl Columns {
@@ -52,33 +60,59 @@ impl Columns {
         ensures { result ≡ [] }
     {
         Columns {
-            types: IndexMap::new(alloc),
+            names: FirstSeen::new(alloc),
+            types: Vec::new(alloc),
         }
     }
 
-    // Adds a type of a name.
-    fn add(&mut self, alloc: Global, name: &Text, data_type: &DataType) -> Result<()>
+    // Adds a name that isn't there, with its first type.
+    fn add_name(&mut self, alloc: Global, name: &Text, data_type: &DataType) -> Result<()>
+        requires { index_of bytes_eq (map (λ c. c.0) self.old) name.now ≡ None }
         ensures added { OnOk result (self.new ≡ with_type self.old name.now data_type.now) }
         ensures memory { OnlyOutOfMemory result }
     {
-        match self.types.get_index_of(name) {
-            Some(at) => add_type(alloc, &mut self.types[at], data_type),
+        let mut types = FirstSeen::new(alloc);
+        add_type(alloc, &mut types, data_type)?;
+        self.types.reserve(1)?;
+        let added = name.try_clone(alloc)?;
+        let copy = name.try_clone(alloc)?;
+        self.names.push(added, copy)?;
+        self.types.push_reserved(types);
+        Ok(())
+    }
+
+    // Adds a type of a name that mostly stands at `near`, and tells the place behind the name.
+    fn add(
+        &mut self,
+        alloc: Global,
+        near: usize,
+        name: &Text,
+        data_type: &DataType,
+    ) -> Result<usize>
+        ensures added { OnOk result (self.new ≡ with_type self.old name.now data_type.now) }
+        ensures memory { OnlyOutOfMemory result }
+    {
+        match self.names.index_near(near, name) {
+            Some(at) => {
+                add_type(alloc, &mut self.types[at], data_type)?;
+                Ok(at.wrapping_add(1))
+            }
             None => {
-                let mut types = IndexSet::new(alloc);
-                add_type(alloc, &mut types, data_type)?;
-                self.types.insert(name.try_clone(alloc)?, types)?;
-                Ok(())
+                self.add_name(alloc, name, data_type)?;
+                Ok(self.types.len())
             }
         }
     }
 
-    /// Adds the names and types of fields.
+    /// Adds the names and types of fields. Names in an order in which they came before are found
+    /// where they stand, and others by a look-up.
     pub(crate) fn add_fields(&mut self, alloc: Global, fields: &[Field]) -> Result<()>
         ensures added { OnOk result (self.new ≡ with_fields self.old fields.now) }
         ensures memory { OnlyOutOfMemory result }
     {
+        let mut near = 0;
         for field in fields {
-            self.add(alloc, &field.name, &field.data_type)?;
+            near = self.add(alloc, near, &field.name, &field.data_type)?;
         }
         Ok(())
     }
@@ -95,8 +129,8 @@ impl Columns {
         requires { index < length self.now }
         ensures { slice_get self.now index ≡ Some (result.0.now, result.1.now) }
     {
-        let (name, types) = self.types.get_index(index).unwrap();
-        (name, types.as_slice())
+        let name = self.names.get(index).unwrap();
+        (name, self.types[index].as_slice())
     }
 
     // The types of a name, where it stands at this index.
@@ -104,16 +138,16 @@ impl Columns {
     fn types_at(&self, index: usize, name: &str) -> Option<&[DataType]>
         ensures { IfSome result (λ types. types.now ≡ types_named name.now self.now) }
     {
-        let (other, types) = self.types.get_index(index)?;
+        let other = self.names.get(index)?;
         if other.as_str() != name {
             return None;
         }
-        Some(types.as_slice())
+        Some(self.types[index].as_slice())
     }
 
-    /// The types of a name, where it is one of the 64 names from `place` on, after the last of
-    /// which the first follows. Then `place` is set behind it, where the name of an object's next
-    /// member mostly stands.
+    /// The types of a name. Up to 64 names are compared, from `place` on and from the first again
+    /// after the last; `None` where none of them is the name. Where one is, `place` is set behind
+    /// it, where the name of an object's next member mostly stands.
     pub fn types_near(&self, place: &mut usize, name: &str) -> Option<&[DataType]>
         ensures { IfSome result (λ types. types.now ≡ types_named name.now self.now) }
     {

@@ -17,8 +17,10 @@ use std::alloc::Global;
 use std::marker::Model;
 
 /// The types of rows that came so far, as far as they matter to the type of all: two distinct ones
-/// at most, or the distinct types of each member. So a row that repeats what came takes no memory,
-/// and rows take time linear in their size.
+/// at most, or the distinct types of each member. So what is kept grows only with a row whose type
+/// is another than those before it, or whose members are. The time that a row takes grows with its
+/// size alone, but that a name is looked for among those that came, in the logarithm of how many
+/// these are.
 #[derive(Drop)]
 pub struct RowTypes {
     alloc: Global,
@@ -59,7 +61,8 @@ impl RowTypes {
         add_kept(self.alloc, &mut self.seen, &data_type)
     }
 
-    /// The one type of the rows so far that isn't Null. `None` where there are more or none.
+    /// The one type of the rows so far that isn't Null. `None` where there are more or none, which
+    /// no clause says.
     pub fn only_type(&self) -> Option<&DataType>
         ensures { IfSome result (λ t. self.now ≡ seen.One t.now) }
     {
@@ -70,7 +73,7 @@ impl RowTypes {
     }
 
     /// The names and types of the members so far, where two distinct types came or more, all of
-    /// them Structs. A Struct of such members adds nothing.
+    /// them Structs; else `None`, which no clause says. A Struct of such members adds nothing.
     pub fn columns(&self) -> Option<&Columns>
         ensures { IfSome result (λ columns. self.now ≡ seen.Structs columns.now) }
     {

@@ -40,7 +40,7 @@ pub record IsNextField (fields : List Field) (index : ℕ) (name : List ℕ) (t 
   pub is : slice_get fields index ≡ Some (nullable name t)
   pub first : meets name (names_in (take index fields)) ≡ false
 
--- a member was read: of type Null and no field's, or the next field
+-- a member was read: its type is Null and its name no field's, or its name and type are those of the next field
 abbrev pub ReadsMember : List Field → ℕ → ℕ → List ℕ → Outcome (List ℕ × Json) → Type 0
 ReadsMember fields index next rest outcome =
     (name : List ℕ) × (v : Json) × (outcome ≡ found (name, v) rest)

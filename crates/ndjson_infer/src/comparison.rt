@@ -287,8 +287,8 @@ pub(crate) fn has_fields<'a>(
 }
 
 /// Reads the value whose first byte is next, in which at most `depth` brackets are open at once,
-/// and compares its type with the expected one, if there is any. Where the answer is `Unequal`, any
-/// bytes were passed: so is a value answered that is none, or has a bracket more.
+/// and compares its type with the expected one, if there is any. `Unequal` is answered too where no
+/// value comes, or one with more brackets open at once; how far the bytes were read then isn't said.
 #[cycle(compare)]
 #[inline(always)]
 pub(crate) fn compare_value<'a>(

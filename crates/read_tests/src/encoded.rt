@@ -109,3 +109,42 @@ fn keys_number_so_many_values(rt: HostRuntime) -> std::result::Result<(), Fail> 
     assert!(rt; are_keys_enough(alloc, 257, IntegerType::UInt8)? == (false, false));
     Ok(())
 }
+
+/// How many distinct strings there are.
+const DISTINCT: usize = 3000;
+
+/// Strings of which each comes twice, first in the order of the multiples of 7, each cut at
+/// `DISTINCT`.
+fn strings_twice(alloc: Global) -> Result<Utf8Array<i64>> {
+    let mut builder = MutableUtf8Array::<i64>::with_capacity(alloc, 0)?;
+    for i in 0..2 * DISTINCT {
+        builder.push(Some(format!(in alloc; "{}", i * 7 % DISTINCT)?.as_str()))?;
+    }
+    builder.as_box()
+}
+
+/// Whether these are the indices of the strings, twice over.
+fn are_indices_twice(keys: &[Option<usize>]) -> bool {
+    let wanted = (0..2 * DISTINCT).map(|i| Some(i % DISTINCT));
+    keys.iter().copied().eq(wanted)
+}
+
+/// Whether these are the strings in that order.
+fn are_in_order(alloc: Global, values: &Utf8Array<i32>) -> Result<bool> {
+    for i in 0..values.len() {
+        let wanted = format!(in alloc; "{}", i.wrapping_mul(7) % DISTINCT)?;
+        if values.value(i) != wanted.as_str() {
+            return Ok(false);
+        }
+    }
+    Ok(values.len() == DISTINCT)
+}
+
+#[test]
+fn strings_stand_in_order_of_first_appearance(rt: HostRuntime) -> std::result::Result<(), Fail> {
+    let alloc = rt.alloc();
+    let (keys, values) = encode_strings(alloc, &strings_twice(alloc)?, IntegerType::Int16)?;
+    assert!(rt; are_indices_twice(indices(alloc, &keys)?.as_slice()));
+    assert!(rt; are_in_order(alloc, &values)?);
+    Ok(())
+}

@@ -50,7 +50,7 @@ fn million_ones(alloc: Global) -> Result<String> {
 }
 
 #[test]
-fn a_million_digits_take_no_long(rt: HostRuntime) -> std::result::Result<(), Fail> {
+fn a_million_digits_end_in_time(rt: HostRuntime) -> std::result::Result<(), Fail> {
     let alloc = rt.alloc();
     let digits = million_ones(alloc)?;
     assert!(rt; whole(digits.as_str(), "") == None);

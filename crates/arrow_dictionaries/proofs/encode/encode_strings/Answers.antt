@@ -12,7 +12,7 @@ returns-clause-data_type g c = joined.type_is c.string_keys-keys.result c.string
 
 pub returns-clause-slots : goal.returns-clause-slots
 returns-clause-slots g c =
-    joined.slots_are c.string_keys-keys.result c.string_values-values.result c.both.result (λ a. a.slots) c.args.array.now.slots _ _ c.string_keys-keys.ensures.slots c.string_values-values.ensures.slots (ap (map string_slot) c.as_slice.ensures.keys) c.both.ensures.first c.both.ensures.second
+    joined.slots_are c.string_keys-keys.result c.string_values-values.result c.both.result (λ a. a.slots) c.args.array.now.slots _ _ c.string_keys-keys.ensures.slots c.string_values-values.ensures.slots (ap (map string_slot) c.as_slice.ensures) c.both.ensures.first c.both.ensures.second
 
 pub returns-clause-err : goal.returns-clause-err
-returns-clause-err g c = joined.string_fault c.string_keys-keys.result c.string_values-values.result c.both.result _ (greatest_offset g.P.Offset.IS_LARGE) c.args.array.now.slots _ _ c.string_keys-keys.ensures.slots (ap (map string_slot) c.as_slice.ensures.keys) c.string_keys-keys.ensures.err c.string_values-values.ensures.err c.both.ensures.err
+returns-clause-err g c = joined.string_fault c.string_keys-keys.result c.string_values-values.result c.both.result _ (greatest_offset g.P.Offset.IS_LARGE) c.args.array.now.slots _ _ c.string_keys-keys.ensures.slots (ap (map string_slot) c.as_slice.ensures) c.string_keys-keys.ensures.err c.string_values-values.ensures.err c.both.ensures.err

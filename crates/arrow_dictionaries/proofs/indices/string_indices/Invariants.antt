@@ -5,4 +5,4 @@ use Rattle.arrow_dictionaries.specs.Indices.{index_key, string_slot}
 use Rattle.arrow_dictionaries.proofs.indices.string_indices.Given as goal
 
 abbrev pub invariant-loop-i : goal.invariant-loop-i
-invariant-loop-i g l = EncodesSlots (take l.i l.array.slots) (map index_key l.indices.items) (map string_slot l.distinct.keys)
+invariant-loop-i g l = EncodesSlots (take l.i l.array.slots) (map index_key l.indices.items) (map string_slot l.distinct)

@@ -1,13 +1,13 @@
-use Rattle.std.proofs.Common.{◌≡◌, ◌∙◌, ℕ, List, Some, subst, ap, rules}
-use Rattle.std.specs.Map.{lookup}
+use Rattle.std.proofs.Common.{◌≡◌, ◌∙◌, ap, get_or, rules, subst, sym}
 use Rattle.std.specs.Str.{bytes_eq}
-use Rattle.json_infer.proofs.Entries.{named, types_or_none}
+use Rattle.first_seen.specs.Keys.{index_of}
+use Rattle.json_infer.specs.Columns.{types_named}
+use Rattle.json_infer.proofs.Entries.{named}
 use Rattle.json_infer.proofs.columns.Columns.types_at.Goals as goal
 
 pub returns : goal.returns
 returns c =
     let same : c.in_ok-other.other.now ≡ c.args.name.now = search rules in
-    let found = subst (λ (n : List ℕ). lookup (bytes_eq n) c.self.inside.types.entries ≡ Some c.in_ok-other.types.now) same c.in_ok-other.ensures.value in
-    let e = named (λ s. s.keys) c.self.inside.types.entries c.args.name.now ∙ ap (types_or_none (λ s. s.keys)) found in
-    let v = c.self.view_is in
-    cc
+    named c.self.inside.names c.self.inside.types.items c.args.name.now c.args.index c.as_slice.result.now c.self.invariant (ap (index_of bytes_eq c.self.inside.names) (sym same) ∙ c.in_ok-other.ensures.index)
+    (subst (λ z. z ≡ get_or c.self.inside.types.items c.args.index z) (sym c.as_slice.ensures) c.index.ensures)
+    ∙ ap (types_named c.args.name.now) c.self.view_is
