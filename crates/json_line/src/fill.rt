@@ -1,5 +1,5 @@
 //! Builders whose names are no key of an object take null.
-ghost use Rattle.std.specs.Prelude.{◌≡◌, length, map, OnOk};
+ghost use Rattle.std.specs.Prelude.{◌≡◌, map, OnOk};
 ghost use Rattle.std.specs.List.{AllZip};
 ghost use Rattle.arrow_builders.specs.Children.{fields_of};
 ghost use Rattle.arrow_builders.specs.Shapes.{shape};

@@ -7,13 +7,31 @@ use std::process::Abort;
 #[test]
 fn members_are_read_by_name(rt: HostRuntime) {
     let alloc = rt.alloc();
-    let mut kept = builders(&rt, alloc, DataType::Boolean, DataType::UInt8, DataType::Utf8);
+    let mut kept = builders(
+        &rt,
+        alloc,
+        DataType::Boolean,
+        DataType::UInt8,
+        DataType::Utf8,
+    );
     let one = "{\"b\":2.55e2,\"c\":\"x\\n\",\"d\":[{}],\"a\":true}";
-    let columns = read(&rt, alloc, &mut kept, one, " { \"\\u0061\" : 7 , \"c\":-1.50} ");
+    let columns = read(
+        &rt,
+        alloc,
+        &mut kept,
+        one,
+        " { \"\\u0061\" : 7 , \"c\":-1.50} ",
+    );
     let wanted: [&[u8]; 3] = [b"true,null", b"255,null", b"\"x\\n\",\"-1.50\""];
     assert!(rt; has_texts(&rt, alloc, columns, wanted));
     // Other lines, by builders that were used.
-    let columns = read(&rt, alloc, &mut kept, "{}", "{\"a\":false,\"b\":1,\"c\":\"\"}");
+    let columns = read(
+        &rt,
+        alloc,
+        &mut kept,
+        "{}",
+        "{\"a\":false,\"b\":1,\"c\":\"\"}",
+    );
     let wanted: [&[u8]; 3] = [b"null,false", b"null,1", b"null,\"\""];
     assert!(rt; has_texts(&rt, alloc, columns, wanted));
 }
@@ -33,7 +51,8 @@ fn lists_and_records_are_read_at_every_depth(rt: HostRuntime) {
     let r = field(&rt, alloc, "r", record(&rt, alloc));
     let c = pair(&rt, alloc, field(&rt, alloc, "n", DataType::Int8), r);
     let mut kept = builders(&rt, alloc, a, b, c);
-    let one = "{\"a\":[{\"n\":1,\"p\":[2,3]},{\"p\":[ ],\"u\":[{}],\"n\":4},7,{},null],\"b\":[\"x\",[2],true],\"c\":{\"r\":{\"p\":[5]},\"n\":6}}";
+    let one =
+        "{\"a\":[{\"n\":1,\"p\":[2,3]},{\"p\":[ ],\"u\":[{}],\"n\":4},7,{},null],\"b\":[\"x\",[2],true],\"c\":{\"r\":{\"p\":[5]},\"n\":6}}";
     let columns = read(&rt, alloc, &mut kept, one, "{\"a\":{},\"c\":3,\"b\":[]}");
     let wanted: [&[u8]; 3] = [
         b"[{\"n\":1,\"p\":[2,3]},{\"n\":4,\"p\":[]},null,{\"n\":null,\"p\":null},null],null",

@@ -41,7 +41,9 @@ pub(crate) fn builders(
     let b = field(rt, alloc, "b", b);
     let c = field(rt, alloc, "c", c);
     let fields = vec![in alloc; a, b, c].expect(rt, "memory");
-    LineBuilders::new(alloc, fields).expect(rt, "memory").expect(rt, "readable types")
+    LineBuilders::new(alloc, fields)
+        .expect(rt, "memory")
+        .expect(rt, "readable types")
 }
 
 /// The columns of two lines.

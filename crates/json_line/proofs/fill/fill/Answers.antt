@@ -1,4 +1,3 @@
-use Rattle.std.proofs.Common.{inl, inr, refl}
 use Rattle.json_line.proofs.Rows.{fills, stays}
 use Rattle.json_line.proofs.fill.fill.Goals as goal
 

@@ -1,5 +1,4 @@
-use Rattle.std.proofs.Common.{◌≡◌, ◌∙◌, ◌∷◌, ◌-◌, ◌<◌, suc, length, map, get_or, refl, sym, ap, subst, rules, arith}
-use Rattle.std.specs.Prelude.{Some}
+use Rattle.std.proofs.Common.{◌≡◌, ◌∙◌, ◌-◌, ◌<◌, suc, length, map, get_or, refl, sym, ap, subst, rules, arith}
 use denote.Param.Weighed.{at_most}
 use Rattle.arrow_builders.specs.MutableArrays.{builder_slots}
 use Rattle.arrow_builders.specs.Shapes.{shape}
