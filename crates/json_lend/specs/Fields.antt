@@ -4,7 +4,7 @@ use Rattle.std.specs.Str.{bytes_eq}
 use Rattle.json_tree.specs.Tree.{Json, null, object}
 use Rattle.json_tree.specs.Keys.{value_of}
 use Rattle.json_tree.specs.Layout.{key_index}
-use Rattle.json_tree.specs.Reading.{Outcome, found}
+use Rattle.json_tree.specs.Reading.{Outcome, found, member_at, value_at}
 use Rattle.json_tree.specs.Gives.{Fails}
 use Rattle.json_tree.specs.declared.value.JsonFault.{JsonFault}
 
@@ -25,7 +25,7 @@ values_of members names = map (value_named members) names
 abbrev pub IsObject : Json → Type 0
 IsObject value = (members : List (List ℕ × Json)) × (value ≡ object members)
 
--- The definitions below are for private functions alone, and for `lend_members` over a reader.
+-- The definitions below are for private functions alone, and for `lend_members` and `read_name` over a reader.
 
 -- the index of the key among the names, where it is one of them
 abbrev pub IsIndex : List (List ℕ) → List ℕ → Option ℕ → Type 0
@@ -39,6 +39,11 @@ AreOthers names from to key = (i : ℕ) (name : List ℕ) → from ≤ i → i <
 abbrev pub ReadsIndex : List (List ℕ) → Result (Option ℕ) JsonFault → List ℕ → Outcome (List ℕ) → Type 0
 ReadsIndex names (Ok at) rest outcome = (key : List ℕ) × (outcome ≡ found key rest) × IsIndex names key at
 ReadsIndex names (Err fault) rest outcome = Fails fault outcome
+
+-- what stands before a member's value was passed, and the index of its key among the names, where it is one of them
+abbrev pub BeginsMember : List (List ℕ) → Option ℕ → List ℕ → List ℕ → Type 0
+BeginsMember names at before after =
+    (key : List ℕ) × IsIndex names key at × ((depth : ℕ) (value : Json) (rest : List ℕ) → value_at depth after ≡ found value rest → member_at (value_at depth) before ≡ found (key, value) rest)
 
 -- a value was read, and put at the index, if there is one
 abbrev pub PutAt : Option ℕ → List Json → List Json → Result (Unit {0}) JsonFault → List ℕ → Outcome Json → Type 0

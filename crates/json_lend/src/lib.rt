@@ -18,7 +18,7 @@ mod texts;
 mod values;
 
 pub use lent::{EscapedString, Lent, LentArray, LentObject};
-pub use members::lend_members;
+pub use members::{lend_members, read_name};
 pub use names::are_distinct;
 pub use rows::lend_row;
 pub use skip::skip_value;

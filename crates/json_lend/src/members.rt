@@ -1,11 +1,11 @@
 //! Members of an object that are lent, each at the index of its name (RFC 8259, section 4).
-ghost use Rattle.std.specs.Prelude.{◌≡◌, ◌≢◌, ◌≤◌, ◌<◌, length, map, true, IfErr, IfSome};
+ghost use Rattle.std.specs.Prelude.{◌≡◌, ◌≢◌, ◌≤◌, ◌<◌, length, map, true, IfErr, IfOk, IfSome};
 ghost use Rattle.std.specs.List.{All};
 ghost use Rattle.json_tree.specs.Layout.{distinct};
 ghost use Rattle.json_tree.specs.Reading.{object_at, value_at};
 ghost use Rattle.json_tree.specs.Tree.{null};
 ghost use Rattle.json_lend.specs.Standing.{lent_value};
-ghost use Rattle.json_lend.specs.Fields.{PutAt, ReadsMembers, values_of};
+ghost use Rattle.json_lend.specs.Fields.{BeginsMember, PutAt, ReadsMembers, values_of};
 
 use crate::lent::{Lent, LentObject};
 use crate::names::key_index;
@@ -15,6 +15,27 @@ use arrow_core::Text;
 use json_tree::JsonFault;
 use json_tree::grammar::{closes, goes_on, name_separator};
 use json_tree::reader::Reader;
+
+/// Reads the name of a member and the colon after it, with the white space around them, and tells
+/// the name's index among `names`, which is first looked for at `guess`. The value is next. `Text`
+/// where no name and colon stand there.
+#[inline(always)]
+pub fn read_name<'a>(
+    reader: &mut Reader<'a>,
+    names: &[Text],
+    guess: usize,
+) -> Result<Option<usize>, JsonFault>
+    requires { distinct names.now ≡ true }
+    ensures reads { IfOk result (λ at. BeginsMember names.now at reader.old reader.new) }
+    ensures forward { length reader.new ≤ length reader.old }
+    ensures no_memory { IfErr result (λ e. e ≢ JsonFault.Memory) }
+{
+    reader.skip_spaces();
+    let at = key_index(reader, names, guess)?;
+    name_separator(reader)?;
+    reader.skip_spaces();
+    Ok(at)
+}
 
 // Lends a value to the index, or skips it where there is no index.
 #[inline(always)]

@@ -1,5 +1,5 @@
 -- Rows of several lines, and the columns of them.
-use Rattle.std.proofs.Common.{◌≡◌, ◌∙◌, ℕ, zero, suc, ◌+◌, ◌<◌, ◌≤◌, ◌&&◌, Bool, true, false, List, [], ◌∷◌, ◌++◌, length, get_or, map, take, refl, sym, ap, subst, append_assoc, arith, All}
+use Rattle.std.proofs.Common.{◌≡◌, ◌≢◌, ◌∙◌, ℕ, zero, suc, ◌+◌, ◌<◌, ◌≤◌, ◌&&◌, Bool, true, false, List, [], ◌∷◌, ◌++◌, length, get_or, map, take, refl, sym, ap, subst, append_assoc, arith, All}
 use Rattle.std.specs.List.{AllZip}
 use Rattle.std.proofs.lemmas.List.{append-nil, length-map, map-append, take_more}
 use Rattle.arrow_array.specs.Arrays.{array_slots, array_type}
@@ -13,12 +13,14 @@ use Rattle.arrow_types.specs.declared.slot.Slot.{Slot}
 use Rattle.arrow_types.specs.declared.types.Field.{Field}
 use Rattle.json_tree.specs.Layout.{distinct}
 use Rattle.json_tree.specs.Meaning.{IsJson}
+use Rattle.json_tree.specs.Reading.{found, skip, value_at, First}
 use Rattle.json_tree.specs.Tree.{Json, object}
+use Rattle.json_tree.proofs.Turns.{array-empty, array-end, array-next, array-start, skip-length, ArrayTurn}
 use Rattle.json_flat.specs.Columns.{AreSlotsOf, means}
 use Rattle.json_flat.specs.Meaning.{Layer, Meaning, slot_of}
 use Rattle.json_lend.specs.Fields.{value_named}
 use Rattle.json_line.specs.declared.field_names.FieldNames.{FieldNames}
-use Rattle.json_line.specs.Builders.{line_shape, shape_reading, shapes_of, AllSuit, AreLineBuilders, Takes, TakesAll, TakesRow, TakesRows}
+use Rattle.json_line.specs.Builders.{line_shape, shape_reading, shapes_of, AllSuit, AreLineBuilders, ReadsInto, ReadsItems, Takes, TakesAll, TakesRow, TakesRows}
 use Rattle.json_line.specs.Lines.{are_line_fields, have_line_readings, names_of, values_named, AreColumnsOf, AreObjects, IsColumnOf}
 use Rattle.json_line.specs.Types.{has_line_reading, line_reading}
 use Rattle.json_line.proofs.Shapes.{same_reading, same_type as type_of_shape}
@@ -70,19 +72,35 @@ item-more done v old now new same (added, meant, are) (s, m, e) =
 pub no-items : (b : MutableArray) → TakesAll [] b b
 no-items b = ([], refl, sym (append-nil (builder_slots b)))
 
--- the items before those that are left were taken
-abbrev pub ItemsSoFar : List Json → List Json → MutableArray → MutableArray → Type 0
-ItemsSoFar items left old now = (done : List Json) × (items ≡ done ++ left) × TakesAll done old now
+-- the items that were read so far were taken
+abbrev pub ItemsSoFar : ℕ → List ℕ → List ℕ → MutableArray → MutableArray → Type 0
+ItemsSoFar d b r old now = (n : ℕ) × (done : List Json) × (length r ≤ n) × ArrayTurn d n done r b × TakesAll done old now
 
-pub items-start : (items left : List Json) (b : MutableArray) → left ≡ items → ItemsSoFar items left b b
-items-start items left b e = ([], sym e, no-items b)
+pub items-start : (d : ℕ) (b r : List ℕ) (old : MutableArray) → r ≡ skip b → First (λ x t. x ≢ 93) (skip b) → ItemsSoFar d b r old old
+items-start d b r old e f =
+    let s = array-start d b r e f in
+    (s.0, [], s.1, s.2, no-items old)
 
-pub items-step : (items left more : List Json) (v : Json) (old now new : MutableArray) → shape now ≡ shape old → left ≡ v ∷ more → ItemsSoFar items left old now → Takes v now new → ItemsSoFar items more old new
-items-step items left more v old now new same e (done, is, all) took =
-    (done ++ v ∷ [], is ∙ (ap (λ (xs : List Json). done ++ xs) e ∙ sym (append_assoc done (v ∷ []) more)), item-more done v old now new same all took)
+pub none-read : (d : ℕ) (b r : List ℕ) (old : MutableArray) → skip b ≡ 93 ∷ r → ReadsItems d b r old old
+none-read d b r old e = ([], array-empty d b r e, no-items old)
 
-pub items-end : (items left : List Json) (old now : MutableArray) → left ≡ [] → ItemsSoFar items left old now → TakesAll items old now
-items-end items left old now e (done, is, all) = subst (λ xs. TakesAll xs old now) (sym (is ∙ (ap (λ (xs : List Json). done ++ xs) e ∙ append-nil done))) all
+module _ (d : ℕ) (b r p q s : List ℕ) (old now new : MutableArray) (same : shape now ≡ shape old) (so_far : ItemsSoFar d b r old now) (e : p ≡ skip r) (le : length q ≤ length p) (reads : ReadsInto (value_at d) p q now new) where
+  item : value_at d (skip r) ≡ found reads.0 q
+  item = ap (value_at d) (sym e) ∙ reads.1
+
+  took : TakesAll (so_far.1 ++ reads.0 ∷ []) old new
+  took = item-more so_far.1 reads.0 old now new same so_far.4 reads.2
+
+  short : length q ≤ so_far.0
+  short = omega (arith, le, ap length e, skip-length r, so_far.2)
+
+  pub items-next : skip q ≡ 44 ∷ s → ItemsSoFar d b s old new
+  items-next c =
+      let n = array-next d so_far.0 so_far.1 (so_far.1 ++ reads.0 ∷ []) reads.0 r b q s so_far.3 short item c refl in
+      (n.0, so_far.1 ++ reads.0 ∷ [], n.1, n.2, took)
+
+  pub items-end : skip q ≡ 93 ∷ s → ReadsItems d b s old new
+  items-end c = (so_far.1 ++ reads.0 ∷ [], array-end d so_far.0 so_far.1 (so_far.1 ++ reads.0 ∷ []) reads.0 r b q s so_far.3 short item c refl, took)
 
 -- the rows of the first lines
 abbrev pub RowsSoFar : ℕ → List (List ℕ) → List (List ℕ) → List MutableArray → List MutableArray → Type 0

@@ -1,12 +1,11 @@
 -- Builders that are cleared, and that give their arrays, one after another.
-use Rattle.std.proofs.Common.{◌≡◌, ℕ, zero, suc, ◌≤◌, List, [], ◌∷◌, length, All, arith}
+use Rattle.std.proofs.Common.{◌≡◌, ap, ℕ, zero, suc, ◌≤◌, List, [], ◌∷◌, length, All, arith}
 use Rattle.std.proofs.lemmas.List.Elements.{All-cons, All-nil}
 use Rattle.arrow_builders.specs.MutableArrays.{builder_slots}
 use Rattle.arrow_builders.specs.Shapes.{shape}
-use Rattle.arrow_builders.specs.Tight.{IsTight}
+use Rattle.arrow_builders.specs.Tight.{AllTight, IsTight}
 use Rattle.arrow_builders.specs.declared.array.MutableArray.{MutableArray}
 use Rattle.arrow_builders.proofs.Upto.{Upto}
-use Rattle.json_line.specs.Builders.{AreTight}
 
 -- a builder has no slot, and its shape is the same
 pub record Cleared (old new : MutableArray) : Type 0 where
@@ -25,9 +24,9 @@ all-cleared i (c ∷ cs) [] le h = absurd h
 all-cleared zero (c ∷ cs) (d ∷ ds) le h = absurd (omega arith)
 all-cleared (suc i) (c ∷ cs) (d ∷ ds) le h = All-cons (λ b. builder_slots b ≡ []) d ds h.0.slots (all-cleared i cs ds (omega arith) h.1)
 
-pub all-tight : (i : ℕ) (cs ds : List MutableArray) → length ds ≤ i → Upto Cleared i cs ds → AreTight ds
+pub all-tight : (i : ℕ) (cs ds : List MutableArray) → length ds ≤ i → Upto Cleared i cs ds → AllTight 0 ds
 all-tight i [] [] le h = tt
 all-tight i [] (d ∷ ds) le h = absurd h
 all-tight i (c ∷ cs) [] le h = absurd h
 all-tight zero (c ∷ cs) (d ∷ ds) le h = absurd (omega arith)
-all-tight (suc i) (c ∷ cs) (d ∷ ds) le h = (h.0.tight, all-tight i cs ds (omega arith) h.1)
+all-tight (suc i) (c ∷ cs) (d ∷ ds) le h = (ap length h.0.slots, h.0.tight, all-tight i cs ds (omega arith) h.1)

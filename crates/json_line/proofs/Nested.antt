@@ -5,6 +5,7 @@ use Rattle.std.proofs.lemmas.List.{length-append, length-map}
 use Rattle.arrow_array.specs.Structs.{record_at}
 use Rattle.arrow_flat.specs.Builders.{slots_where}
 use Rattle.arrow_flat.specs.Nested.{items_of, lists_from}
+use Rattle.arrow_flat.proofs.Slots.{length-slots_of}
 use Rattle.arrow_builders.specs.Children.{fields_of}
 use Rattle.arrow_builders.specs.MutableArrays.{builder_slots}
 use Rattle.arrow_builders.specs.Shapes.{Shape, flat, dictionary, lists, fixed_lists, records, no_field, field, shape}
@@ -15,6 +16,7 @@ use Rattle.arrow_builders.proofs.Rows.{shape-record, slots-record, tight-record}
 use Rattle.arrow_builders.proofs.Staying.{drop_front, grown, lists_stay, record_last, records_stay, tight_long}
 use Rattle.arrow_types.specs.declared.slot.Slot.{Slot}
 use Rattle.arrow_types.specs.declared.slot.Slot.TheVariants as slot
+use Rattle.json_tree.specs.Reading.{Outcome, found}
 use Rattle.json_tree.specs.Tree.{Json, array, object}
 use Rattle.json_tree.specs.declared.value.Value.{out-Value}
 use Rattle.json_tree.specs.declared.value.Value.TheVariants as variant
@@ -26,7 +28,7 @@ use Rattle.json_lend.specs.Fields.{value_named}
 use Rattle.json_lend.specs.Standing.{lent_value}
 use Rattle.json_line.specs.declared.field_names.FieldNames.{FieldNames}
 use Rattle.json_line.specs.declared.given_up.GivenUp.{GivenUp}
-use Rattle.json_line.specs.Builders.{shape_members, shape_reading, struct_names, SuitsFields, SuitsItems, Takes, TakesRow}
+use Rattle.json_line.specs.Builders.{shape_members, shape_reading, struct_names, ReadsInto, SuitsFields, SuitsItems, Takes, TakesRow}
 use Rattle.json_line.specs.Types.{list_in, made_of, slots_together, struct_in}
 
 -- ---- several slots
@@ -164,3 +166,20 @@ struct_tight (Ok u) b c d m t v h =
 
 pub children_tight : (b : DynMutableStructArray) → IsTight (Struct b) → AllTight (length b.marks.booleans) b.values.items
 children_tight b h = subst (λ (P : Type 0). P) (tight-record b) h
+
+-- ---- what was read
+
+pub read_into : (r : Result (Unit {0}) GivenUp) (read : List ℕ → Outcome Json) (before after : List ℕ) (v : Json) (old new : MutableArray) → read before ≡ found v after → OnOk r (Takes v old new) → OnOk r (ReadsInto read before after old new)
+read_into (Ok u) read before after v old new is took = (v, is, took)
+read_into (Err g) read before after v old new is took = tt
+
+-- what begins with a bracket, from what follows it
+pub read_behind : (r : Result (Unit {0}) GivenUp) (read other : List ℕ → Outcome Json) (before behind after : List ℕ) (old new : MutableArray) → other before ≡ read behind → OnOk r (ReadsInto read behind after old new) → OnOk r (ReadsInto other before after old new)
+read_behind (Ok u) read other before behind after old new e (v, is, took) = (v, e ∙ is, took)
+read_behind (Err g) read other before behind after old new e h = tt
+
+-- there are as many structs as a builder of structs has slots
+pub struct_count : (b : MutableArray) (S T : DynMutableStructArray) (n : ℕ) → b ≡ Struct S → T ≡ S → n ≡ length (builder_slots b) → length T.marks.booleans ≡ n
+struct_count b S T n e s l =
+    ap (λ (x : DynMutableStructArray). length x.marks.booleans) s
+    ∙ sym (l ∙ ap (λ (x : MutableArray). length (builder_slots x)) e ∙ ap length (slots-record S) ∙ length-slots_of (record_at (map builder_slots S.values.items)) S.marks.booleans (length S.marks.booleans))

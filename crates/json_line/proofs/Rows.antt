@@ -1,28 +1,22 @@
 -- A row, builder by builder.
-use Rattle.std.proofs.Common.{◌≡◌, ◌≢◌, ℕ, zero, suc, ◌+◌, ◌<◌, ◌≤◌, Bool, true, false, eqb, List, [], ◌∷◌, length, set, get_or, map, refl, sym, ap, subst, ◌∙◌, arith}
-use Rattle.std.proofs.lemmas.Bool.Decides.{nat_tests}
-use Rattle.std.proofs.lemmas.List.{get_or-set_other, get_or_default, length-append, length-map}
+use Rattle.std.proofs.Common.{◌≡◌, ◌≢◌, inl, inr, ℕ, zero, suc, ◌+◌, ◌<◌, ◌≤◌, true, List, [], ◌∷◌, length, set, get_or, map, refl, sym, ap, subst, ◌∙◌, arith}
+use Rattle.std.proofs.lemmas.List.{get_or_default, length-append, length-map}
 use Rattle.std.proofs.Math.Seq.{map-set_same}
-use Rattle.std.proofs.lemmas.Grind.{get_or-set_at}
-use Rattle.std.specs.Prelude.{Result, Ok, Err, OnOk}
-use Rattle.json_tree.specs.Tree.{Json, object}
-use Rattle.json_tree.specs.Meaning.{IsJson}
+use Rattle.std.specs.List.{AllZip}
+use Rattle.std.specs.Prelude.{Option, Some, None, IfSome, MatchOption, Result, Ok, Err, OnOk}
+use Rattle.json_tree.specs.Layout.{distinct, put}
+use Rattle.json_tree.specs.Reading.{found, member_at, put_together, skip, value_at, First}
+use Rattle.json_tree.specs.Tree.{Json, null}
+use Rattle.json_tree.proofs.Turns.{object-empty, object-end, object-next, object-start, ObjectTurn}
 use Rattle.arrow_builders.specs.declared.array.MutableArray.{MutableArray}
-use Rattle.json_lend.specs.declared.lent.Lent.{Lent}
-use Rattle.json_lend.specs.declared.lent.Lent.TheVariants as lent
-use Rattle.json_lend.specs.Standing.{lent_value}
-use Rattle.json_lend.specs.Fields.{value_named, values_of}
 use Rattle.arrow_builders.specs.MutableArrays.{builder_slots}
 use Rattle.arrow_builders.specs.Shapes.{Shape, shape}
 use Rattle.arrow_builders.specs.Tight.{AllTight, IsTight}
+use Rattle.arrow_builders.proofs.Upto.{Upto}
+use Rattle.json_lend.specs.Fields.{value_named, values_of, BeginsMember, IsIndex}
+use Rattle.json_lend.proofs.NameLaws.{values-turn}
 use Rattle.json_line.specs.declared.given_up.GivenUp.{GivenUp}
-use Rattle.json_line.specs.Builders.{AreTight, Takes, TakesLents, TakesRow}
-
--- so far the first i builders took the value that is lent at their index, and the others are as they were
-abbrev pub TakesSoFar : ℕ → List Lent → List MutableArray → List MutableArray → Type 0
-TakesSoFar i lents old now =
-    ((k : ℕ) (l : Lent) (b : MutableArray) → k < i → Takes (lent_value (get_or lents k l)) (get_or old k b) (get_or now k b))
-    × ((k : ℕ) (b : MutableArray) → i ≤ k → get_or now k b ≡ get_or old k b)
+use Rattle.json_line.specs.Builders.{AllTakeOrWait, AreTight, Fills, ReadsInto, ReadsMember, ReadsObject, Takes, TakesAt, TakesOrWaits, TakesRow}
 
 -- a builder that is set keeps its shape
 pub shapes-step : (now : List MutableArray) (i : ℕ) (b x : MutableArray) (ss : List Shape) → b ≡ get_or now i b → shape x ≡ shape b → map shape now ≡ ss → map shape (set now i x) ≡ ss
@@ -31,86 +25,154 @@ shapes-step now i b x ss e t h = map-set_same shape now i x b (t ∙ ap shape e)
 pub as-many-shapes : (bs cs : List MutableArray) → map shape cs ≡ map shape bs → length cs ≡ length bs
 as-many-shapes bs cs e = sym (length-map cs shape) ∙ ap length e ∙ length-map bs shape
 
--- and all are tight
-pub tight-step : (bs : List MutableArray) (i : ℕ) (x : MutableArray) → AreTight bs → IsTight x → AreTight (set bs i x)
-tight-step [] i x h t = tt
-tight-step (b ∷ bs) zero x h t = (t, h.1)
-tight-step (b ∷ bs) (suc i) x h t = (h.0, tight-step bs i x h.1 t)
-
 pub tight-at : (bs : List MutableArray) (i : ℕ) (b : MutableArray) → i < length bs → AreTight bs → IsTight (get_or bs i b)
 tight-at [] i b lt h = absurd (omega (arith, lt))
 tight-at (c ∷ bs) zero b lt h = h.0
 tight-at (c ∷ bs) (suc i) b lt h = tight-at bs i b (omega (arith, lt)) h.1
 
--- ---- the children of a builder of structs
-
--- the first children have a slot more than n, and the others n
-abbrev pub PartTight : ℕ → ℕ → List MutableArray → Type 0
-PartTight n zero bs = AllTight n bs
-PartTight n (suc k) [] = Unit {0}
-PartTight n (suc k) (b ∷ bs) = (length (builder_slots b) ≡ n + 1) × IsTight b × PartTight n k bs
-
-pub part-at : (n i : ℕ) (bs : List MutableArray) (d : MutableArray) → PartTight n i bs → i < length bs → (length (builder_slots (get_or bs i d)) ≡ n) × IsTight (get_or bs i d)
-part-at n zero [] d h lt = absurd (omega (arith, lt))
-part-at n zero (b ∷ bs) d h lt = (h.0, h.1)
-part-at n (suc i) [] d h lt = absurd (omega (arith, lt))
-part-at n (suc i) (b ∷ bs) d h lt = part-at n i bs d h.2 (omega (arith, lt))
-
-pub part-next : (n i : ℕ) (bs : List MutableArray) (c : MutableArray) → PartTight n i bs → i < length bs → length (builder_slots c) ≡ n + 1 → IsTight c → PartTight n (suc i) (set bs i c)
-part-next n zero [] c h lt l t = absurd (omega (arith, lt))
-part-next n zero (b ∷ bs) c h lt l t = (l, t, h.2)
-part-next n (suc i) [] c h lt l t = absurd (omega (arith, lt))
-part-next n (suc i) (b ∷ bs) c h lt l t = (h.0, h.1, part-next n i bs c h.2 (omega (arith, lt)) l t)
-
-pub part-all : (n i : ℕ) (bs : List MutableArray) → length bs ≤ i → PartTight n i bs → AllTight (n + 1) bs
-part-all n i [] le h = tt
-part-all n zero (b ∷ bs) le h = absurd (omega (arith, le))
-part-all n (suc i) (b ∷ bs) le h = (h.0, h.1, part-all n i bs (omega (arith, le)) h.2)
-
 -- a slot more
 pub took-one : (v : Json) (b x : MutableArray) → Takes v b x → length (builder_slots x) ≡ length (builder_slots b) + 1
 took-one v b x (s, m, e) = omega (arith, ap length e, length-append (builder_slots b) (s ∷ []))
 
--- ---- rows
+-- the index of a name is within as many
+pub index-within : (names : List (List ℕ)) (key : List ℕ) (at : Option ℕ) (n : ℕ) → IsIndex names key at → length names ≡ n → IfSome at (λ i. i < n)
+index-within names key None n is l = tt
+index-within names key (Some i) n is l = omega (arith, is.1, l)
 
-pub row-start : (lents : List Lent) (old : List MutableArray) → TakesSoFar 0 lents old old
-row-start lents old = (λ k l b h. absurd (omega (arith, h)), λ k b h. refl)
+-- ---- what builders took of an object so far
 
-pub row-step : (i : ℕ) (lents : List Lent) (old now : List MutableArray) (l : Lent) (b x : MutableArray) → i < length old → length now ≡ length old → length old ≡ length lents → b ≡ get_or now i b → l ≡ get_or lents i l
-    → Takes (lent_value l) b x → TakesSoFar i lents old now → TakesSoFar (i + 1) lents old (set now i x)
-row-step i lents old now l b x h e m eb el p s = (λ k l' b' lt. tested k l' b' lt (eqb k i) refl, λ k b' ge. get_or-set_other now i k x b' (λ q. absurd (omega (arith, ge, q))) ∙ s.1 k b' (omega (arith, ge)))
-  where
-    tested : (k : ℕ) (l' : Lent) (b' : MutableArray) → k < i + 1 → (t : Bool) → eqb k i ≡ t → Takes (lent_value (get_or lents k l')) (get_or old k b') (get_or (set now i x) k b')
-    tested k l' b' lt true q =
-        let is : k ≡ i = grind (arith, nat_tests) in
-        let there : get_or (set now i x) k b' ≡ x = get_or-set_at now i k x b' is (omega (arith, h, e)) in
-        let before : get_or old k b' ≡ b = ap (λ n. get_or old n b') is ∙ (sym (s.1 i b' (omega arith)) ∙ (get_or_default now i b' b (omega (arith, h, e)) ∙ sym eb)) in
-        let lent : get_or lents k l' ≡ l = ap (λ n. get_or lents n l') is ∙ (get_or_default lents i l' l (omega (arith, h, m)) ∙ sym el) in
-        rw (there, before, lent) p
-    tested k l' b' lt false q =
-        let is : k ≢ i = grind (arith, nat_tests) in
-        let there : get_or (set now i x) k b' ≡ get_or now k b' = get_or-set_other now i k x b' is in
-        rw there (s.0 k l' b' (grind (arith, nat_tests)))
+waiting : (names : List (List ℕ)) (bs : List MutableArray) → length bs ≡ length names → AllTakeOrWait (values_of [] names) bs bs
+waiting [] [] e = tt
+waiting [] (b ∷ bs) e = absurd (omega (arith, e))
+waiting (n ∷ ns) [] e = absurd (omega (arith, e))
+waiting (n ∷ ns) (b ∷ bs) e = (inr (refl, refl), waiting ns bs (omega (arith, e)))
 
-pub row-end : (i : ℕ) (lents : List Lent) (old now : List MutableArray) → length old ≤ i → TakesSoFar i lents old now → TakesLents lents old now
-row-end i lents old now h s = λ k l b lt. s.0 k l b (omega (arith, h, lt))
+one-tight : (v : Json) (b c : MutableArray) → IsTight b → TakesOrWaits v b c → IsTight c
+one-tight v b c t (inl h) = h.1
+one-tight v b c t (inr h) = subst IsTight (sym h.1) t
 
-get_or-map : {A B : Type 0} (f : A → B) (xs : List A) (k : ℕ) (d : A) → get_or (map f xs) k (f d) ≡ f (get_or xs k d)
-get_or-map f [] k d = refl
-get_or-map f (x ∷ xs) zero d = refl
-get_or-map f (x ∷ xs) (suc k) d = get_or-map f xs k d
+pub tight-so_far : (n : ℕ) (vs : List Json) (bs cs : List MutableArray) → AllTight n bs → AllTakeOrWait vs bs cs → AreTight cs
+tight-so_far n [] [] [] t h = tt
+tight-so_far n [] [] (c ∷ cs) t h = absurd h
+tight-so_far n [] (b ∷ bs) [] t h = absurd h
+tight-so_far n [] (b ∷ bs) (c ∷ cs) t h = absurd h
+tight-so_far n (v ∷ vs) [] [] t h = absurd h
+tight-so_far n (v ∷ vs) [] (c ∷ cs) t h = absurd h
+tight-so_far n (v ∷ vs) (b ∷ bs) [] t h = absurd h
+tight-so_far n (v ∷ vs) (b ∷ bs) (c ∷ cs) t h = (one-tight v b c t.1 h.0, tight-so_far n vs bs cs t.2 h.1)
 
-length-values : (ms : List (List ℕ × Json)) (names : List (List ℕ)) → length (values_of ms names) ≡ length names
-length-values ms [] = refl
-length-values ms (n ∷ ns) = ap suc (length-values ms ns)
+take-one : (n : ℕ) (v w : Json) (b c x : MutableArray) → length (builder_slots b) ≡ n → TakesOrWaits w b c → length (builder_slots c) ≡ n → IsTight x → Takes v c x → TakesOrWaits v b x
+take-one n v w b c x l (inl h) m t p = absurd (omega (arith, took-one w b c h.0, l, m))
+take-one n v w b c x l (inr h) m t p = inl (subst (λ (y : MutableArray). Takes v y x) h.1 p, t)
 
-pub row-of : (names : List (List ℕ)) (ms : List (List ℕ × Json)) (lents : List Lent) (l : Lent) (old new : List MutableArray) → map lent_value lents ≡ values_of ms names → length old ≡ length names → TakesLents lents old new → TakesRow names ms old new
-row-of names ms lents l old new e n r = λ k name b lt.
-    let v : lent_value (get_or lents k l) ≡ value_named ms (get_or names k name) =
-    sym (get_or-map lent_value lents k l) ∙ (ap (λ xs. get_or xs k (lent_value l)) e ∙ (get_or_default (values_of ms names) k (lent_value l) (value_named ms name) (omega (arith, lt, n, length-values ms names)) ∙ get_or-map (value_named ms) names k name)) in
-    subst (λ x. Takes x (get_or old k b) (get_or new k b)) v (r k l b lt)
+take-step : (n i : ℕ) (v : Json) (x : MutableArray) (vs : List Json) (bs cs : List MutableArray) → AllTight n bs → AllTakeOrWait vs bs cs → length (builder_slots (get_or cs i x)) ≡ n → IsTight x → Takes v (get_or cs i x) x → AllTakeOrWait (set vs i v) bs (set cs i x)
+take-step n i v x [] [] [] t h l s p = h
+take-step n i v x [] [] (c ∷ cs) t h l s p = absurd h
+take-step n i v x [] (b ∷ bs) [] t h l s p = absurd h
+take-step n i v x [] (b ∷ bs) (c ∷ cs) t h l s p = absurd h
+take-step n i v x (w ∷ vs) [] [] t h l s p = absurd h
+take-step n i v x (w ∷ vs) [] (c ∷ cs) t h l s p = absurd h
+take-step n i v x (w ∷ vs) (b ∷ bs) [] t h l s p = absurd h
+take-step n zero v x (w ∷ vs) (b ∷ bs) (c ∷ cs) t h l s p = (take-one n v w b c x t.0 h.0 l s p, h.1)
+take-step n (suc i) v x (w ∷ vs) (b ∷ bs) (c ∷ cs) t h l s p = (h.0, take-step n i v x vs bs cs t.2 h.1 l s p)
 
-pub line-read : (r : Result (Unit {0}) GivenUp) (b : List ℕ) (names : List (List ℕ)) (lents : List Lent) (old new : List MutableArray) → (members : List (List ℕ × Json)) × IsJson (object members) b × (map lent_value lents ≡ values_of members names) → length old ≡ length names
-    → OnOk r (TakesLents lents old new) → OnOk r ((members : List (List ℕ × Json)) × IsJson (object members) b × TakesRow names members old new)
-line-read (Ok u) b names lents old new row n p = (row.0, row.1, row-of names row.0 lents lent.Null old new row.2 n p)
-line-read (Err g) b names lents old new row n p = tt
+after-member : (n : ℕ) (at : Option ℕ) (names : List (List ℕ)) (ms : List (List ℕ × Json)) (k : List ℕ) (v : Json) (bs cs ds : List MutableArray) → distinct names ≡ true → IsIndex names k at → AllTight n bs → AllTakeOrWait (values_of ms names) bs cs → MatchOption at (ds ≡ cs) (TakesAt n v cs ds)
+    → AllTakeOrWait (values_of (put ms (k, v)) names) bs ds
+after-member n None names ms k v bs cs ds d is t h e =
+    subst (λ vs. AllTakeOrWait vs bs ds) (values-turn None names ms k v (values_of ms names) (values_of ms names) d is refl refl) (subst (λ xs. AllTakeOrWait (values_of ms names) bs xs) (sym e) h)
+after-member n (Some i) names ms k v bs cs ds d is t h (x, e, l, s, p) =
+    subst (λ vs. AllTakeOrWait vs bs ds) (values-turn (Some i) names ms k v (values_of ms names) (set (values_of ms names) i v) d is refl refl)
+    (subst (λ xs. AllTakeOrWait (set (values_of ms names) i v) bs xs) (sym e) (take-step n i v x (values_of ms names) bs cs t h l s p))
+
+abbrev pub MembersSoFar : ℕ → List (List ℕ) → List ℕ → List ℕ → List MutableArray → List MutableArray → Type 0
+MembersSoFar d names b r bs cs =
+    (n : ℕ) × (raw : List (List ℕ × Json)) × (length r ≤ n) × ObjectTurn d n raw r b × AllTakeOrWait (values_of (put_together raw) names) bs cs
+
+pub members-start : (d : ℕ) (names : List (List ℕ)) (b r : List ℕ) (bs : List MutableArray) → length bs ≡ length names → r ≡ skip b → First (λ x t. x ≢ 125) (skip b) → MembersSoFar d names b r bs bs
+members-start d names b r bs l e f =
+    let s = object-start d b r e f in
+    (s.0, [], s.1, s.2, waiting names bs l)
+
+pub no-members : (d : ℕ) (names : List (List ℕ)) (b r : List ℕ) (bs : List MutableArray) → length bs ≡ length names → skip b ≡ 125 ∷ r → ReadsObject d names b r bs bs
+no-members d names b r bs l e = ([], object-empty d b r e, waiting names bs l)
+
+module _ (d count : ℕ) (at : Option ℕ) (names : List (List ℕ)) (b r p q s : List ℕ) (bs cs ds : List MutableArray) (are : distinct names ≡ true) (t : AllTight count bs)
+    (so_far : MembersSoFar d names b r bs cs) (begins : BeginsMember names at r p) (le : length q ≤ length r) (reads : ReadsMember d count at p q cs ds) where
+  abbrev Members : List (List ℕ × Json)
+  Members = put (put_together so_far.1) (begins.0, reads.0)
+
+  member : member_at (value_at d) r ≡ found (begins.0, reads.0) q
+  member = begins.2 d reads.0 q reads.1
+
+  took : AllTakeOrWait (values_of Members names) bs ds
+  took = after-member count at names (put_together so_far.1) begins.0 reads.0 bs cs ds are begins.1 t so_far.4 reads.2
+
+  short : length q ≤ so_far.0
+  short = omega (arith, le, so_far.2)
+
+  pub members-next : skip q ≡ 44 ∷ s → MembersSoFar d names b s bs ds
+  members-next e =
+      let n = object-next d so_far.0 so_far.1 (put_together so_far.1) Members (begins.0, reads.0) r b q s so_far.3 refl short member e refl in
+      (n.0, n.1, n.2, n.4, subst (λ ms. AllTakeOrWait (values_of ms names) bs ds) (sym n.3) took)
+
+  pub members-end : skip q ≡ 125 ∷ s → ReadsObject d names b s bs ds
+  members-end e = (Members, object-end d so_far.0 so_far.1 (put_together so_far.1) Members (begins.0, reads.0) r b q s so_far.3 refl short member e refl, took)
+
+-- what the builder at an index took
+pub read-at : (r : Result (Unit {0}) GivenUp) (d n : ℕ) (at : Option ℕ) (i : ℕ) (p q : List ℕ) (bs ds : List MutableArray) (b x : MutableArray) → at ≡ Some i → i < length bs → ds ≡ set bs i x → b ≡ get_or bs i b
+    → OnOk r (ReadsInto (value_at d) p q b x) → OnOk r (length (builder_slots b) ≡ n) → OnOk r (IsTight x) → OnOk r (ReadsMember d n at p q bs ds)
+read-at (Ok u) d n at i p q bs ds b x a lt e v (value, is, took) l t =
+    let here : get_or bs i x ≡ b = get_or_default bs i x b lt ∙ sym v in
+    let takes : TakesAt n value bs ds i = (x, e, ap (λ (y : MutableArray). length (builder_slots y)) here ∙ l, t, subst (λ (y : MutableArray). Takes value y x) (sym here) took) in
+    (value, is, subst (λ o. MatchOption o (ds ≡ bs) (TakesAt n value bs ds)) (sym a) takes)
+read-at (Err g) d n at i p q bs ds b x a lt e v h l t = tt
+
+pub read-at-same : (r : Result (Unit {0}) GivenUp) (d n : ℕ) (at : Option ℕ) (i : ℕ) (p q : List ℕ) (bs ds : List MutableArray) (b x : MutableArray) → at ≡ Some i → i < length bs → ds ≡ set bs i x → b ≡ get_or bs i b
+    → OnOk r (ReadsInto (value_at d) p q (get_or bs i b) x) → OnOk r (length (builder_slots (get_or bs i b)) ≡ n) → OnOk r (IsTight x) → OnOk r (ReadsMember d n at p q bs ds)
+read-at-same r d n at i p q bs ds b x a lt e v h l t = read-at r d n at i p q bs ds (get_or bs i b) x a lt e (get_or_default bs i b (get_or bs i b) lt) h l t
+
+-- ---- those whose names are no key
+
+pub stays : (n : ℕ) (b : MutableArray) (l : ℕ) → l ≡ length (builder_slots b) → l ≢ n → Fills n b b
+stays n b l e h = inr ((λ k. h (e ∙ k)), refl)
+
+pub fills : (r : Result (Unit {0}) GivenUp) (n : ℕ) (b x : MutableArray) (l : ℕ) → l ≡ length (builder_slots b) → l ≡ n → OnOk r (Takes null b x) → OnOk r (IsTight x) → OnOk r (Fills n b x)
+fills (Ok u) n b x l e h p t = inl (sym e ∙ h, p, t)
+fills (Err g) n b x l e h p t = tt
+
+pub fills-all : (n i : ℕ) (cs ds : List MutableArray) → length ds ≤ i → Upto (Fills n) i cs ds → AllZip (Fills n) cs ds
+fills-all n i [] [] le h = tt
+fills-all n i [] (d ∷ ds) le h = absurd h
+fills-all n i (c ∷ cs) [] le h = absurd h
+fills-all n zero (c ∷ cs) (d ∷ ds) le h = absurd (omega (arith, le))
+fills-all n (suc i) (c ∷ cs) (d ∷ ds) le h = (h.0, fills-all n i cs ds (omega (arith, le)) h.1)
+
+filled-one : (n : ℕ) (v : Json) (b c d : MutableArray) → length (builder_slots b) ≡ n → TakesOrWaits v b c → Fills n c d → Takes v b d × (length (builder_slots d) ≡ n + 1) × IsTight d
+filled-one n v b c d l (inl h) (inl f) = absurd (omega (arith, took-one v b c h.0, l, f.0))
+filled-one n v b c d l (inl h) (inr f) =
+    let p : Takes v b d = subst (λ (x : MutableArray). Takes v b x) (sym f.1) h.0 in
+    (p, omega (arith, took-one v b d p, l), subst IsTight (sym f.1) h.1)
+filled-one n v b c d l (inr h) (inl f) =
+    let p : Takes v b d = subst (λ (x : MutableArray). Takes v x d) h.1 (subst (λ w. Takes w c d) (sym h.0) f.1) in
+    (p, omega (arith, took-one v b d p, l), f.2)
+filled-one n v b c d l (inr h) (inr f) = absurd (f.0 (ap (λ (x : MutableArray). length (builder_slots x)) h.1 ∙ l))
+
+took-first : (name : List ℕ) (names : List (List ℕ)) (ms : List (List ℕ × Json)) (b d : MutableArray) (bs ds : List MutableArray) → Takes (value_named ms name) b d → TakesRow names ms bs ds → TakesRow (name ∷ names) ms (b ∷ bs) (d ∷ ds)
+took-first name names ms b d bs ds p r zero x y lt = p
+took-first name names ms b d bs ds p r (suc k) x y lt = r k x y (omega (arith, lt))
+
+-- each builder took the value of its name
+pub row-filled : (n : ℕ) (names : List (List ℕ)) (ms : List (List ℕ × Json)) (bs cs ds : List MutableArray) → AllTight n bs → AllTakeOrWait (values_of ms names) bs cs → AllZip (Fills n) cs ds → TakesRow names ms bs ds × AllTight (n + 1) ds
+row-filled n [] ms [] [] [] t h z = (λ k name b lt. absurd (omega (arith, lt)), tt)
+row-filled n [] ms [] [] (d ∷ ds) t h z = absurd z
+row-filled n [] ms [] (c ∷ cs) ds t h z = absurd h
+row-filled n [] ms (b ∷ bs) [] ds t h z = absurd h
+row-filled n [] ms (b ∷ bs) (c ∷ cs) ds t h z = absurd h
+row-filled n (name ∷ names) ms [] [] ds t h z = absurd h
+row-filled n (name ∷ names) ms [] (c ∷ cs) ds t h z = absurd h
+row-filled n (name ∷ names) ms (b ∷ bs) [] ds t h z = absurd h
+row-filled n (name ∷ names) ms (b ∷ bs) (c ∷ cs) [] t h z = absurd z
+row-filled n (name ∷ names) ms (b ∷ bs) (c ∷ cs) (d ∷ ds) t h z =
+    let one = filled-one n (value_named ms name) b c d t.0 h.0 z.0 in
+    let rest = row-filled n names ms bs cs ds t.2 h.1 z.1 in
+    (took-first name names ms b d bs ds one.0 rest.0, (one.1, one.2, rest.1))

@@ -1,5 +1,5 @@
 -- The builders of columns, the names that are kept beside them, and what builders take. Contracts of private functions alone cite this file.
-use Rattle.std.specs.Prelude.{◌≡◌, ◌<◌, ◌++◌, ◌∷◌, [], ℕ, true, List, length, map, get_or, Result, OnOk}
+use Rattle.std.specs.Prelude.{◌≡◌, ◌≢◌, ◌<◌, ◌⊎◌, ◌++◌, ◌∷◌, [], ℕ, true, List, length, map, get_or, set, Option, MatchOption, Result, OnOk}
 use Rattle.arrow_builders.specs.Children.{fields_of}
 use Rattle.arrow_builders.specs.MutableArrays.{builder_slots}
 use Rattle.arrow_builders.specs.Shapes.{Shape, flat, lists, records, no_field, field, shape as shape_of}
@@ -11,13 +11,12 @@ use Rattle.arrow_types.specs.declared.slot.Slot.{Slot}
 use Rattle.arrow_types.specs.declared.types.DataType.{DataType, List', LargeList', Struct', Row_of-Field, end_of-Field, more_of-Field}
 use Rattle.arrow_types.specs.declared.types.Field.{Field}
 use Rattle.json_tree.specs.Layout.{distinct}
-use Rattle.json_tree.specs.Tree.{Json}
+use Rattle.json_tree.specs.Reading.{Outcome, found, array_at, object_at, value_at}
+use Rattle.json_tree.specs.Tree.{Json, null, array, object}
 use Rattle.json_tree.specs.declared.value.Value.{out-Value}
 use Rattle.json_flat.specs.Columns.{AreSlotsOf, Pushes}
 use Rattle.json_flat.specs.Meaning.{Layer, Meaning, null_in}
-use Rattle.json_lend.specs.declared.lent.Lent.{Lent}
-use Rattle.json_lend.specs.Standing.{lent_value}
-use Rattle.json_lend.specs.Fields.{value_named}
+use Rattle.json_lend.specs.Fields.{value_named, values_of}
 use Rattle.json_line.specs.declared.field_names.FieldNames.{FieldNames, Flat, Items', Fields', Row_of-FieldNames, end_of-FieldNames, more_of-FieldNames}
 use Rattle.json_line.specs.declared.given_up.GivenUp.{GivenUp}
 use Rattle.json_line.specs.Lines.{are_line_fields, names_of, values_named}
@@ -128,11 +127,6 @@ abbrev pub TakesAll : List Json → MutableArray → MutableArray → Type 0
 TakesAll values old new =
     (added : List Slot) × AreSlotsOf (shape_reading (shape_of old)) values added × (builder_slots new ≡ builder_slots old ++ added)
 
--- each builder took the value that is lent at its index
-abbrev pub TakesLents : List Lent → List MutableArray → List MutableArray → Type 0
-TakesLents lents old new =
-    (k : ℕ) (l : Lent) (b : MutableArray) → k < length old → Takes (lent_value (get_or lents k l)) (get_or old k b) (get_or new k b)
-
 -- each builder took the value of its name among the members
 abbrev pub TakesRow : List (List ℕ) → List (List ℕ × Json) → List MutableArray → List MutableArray → Type 0
 TakesRow names members old new =
@@ -142,3 +136,43 @@ TakesRow names members old new =
 abbrev pub TakesRows : List (List ℕ) → List (List (List ℕ × Json)) → List MutableArray → List MutableArray → Type 0
 TakesRows names rows old new =
     (k : ℕ) (name : List ℕ) (b : MutableArray) → k < length old → TakesAll (values_named rows (get_or names k name)) (get_or old k b) (get_or new k b)
+
+-- ---- what is read into builders
+
+-- a value was read, and a builder took it
+abbrev pub ReadsInto : (List ℕ → Outcome Json) → List ℕ → List ℕ → MutableArray → MutableArray → Type 0
+ReadsInto read before after old new = (value : Json) × (read before ≡ found value after) × Takes value old new
+
+-- an array was read, and a builder took its items
+abbrev pub ReadsItems : ℕ → List ℕ → List ℕ → MutableArray → MutableArray → Type 0
+ReadsItems depth before after old new = (items : List Json) × (array_at (value_at depth) before ≡ found (array items) after) × TakesAll items old new
+
+-- the builder at the index had so many slots, and took the value; the others stay
+abbrev pub TakesAt : ℕ → Json → List MutableArray → List MutableArray → ℕ → Type 0
+TakesAt count value old new i =
+    (b : MutableArray) × (new ≡ set old i b) × (length (builder_slots (get_or old i b)) ≡ count) × IsTight b × Takes value (get_or old i b) b
+
+-- a member's value was read, and the builder at the index, if there is one, took it
+abbrev pub ReadsMember : ℕ → ℕ → Option ℕ → List ℕ → List ℕ → List MutableArray → List MutableArray → Type 0
+ReadsMember depth count at before after old new =
+    (value : Json) × (value_at depth before ≡ found value after) × MatchOption at (new ≡ old) (TakesAt count value old new)
+
+-- a builder took the value, or there is no value yet and it stays
+abbrev pub TakesOrWaits : Json → MutableArray → MutableArray → Type 0
+TakesOrWaits value old new = (Takes value old new × IsTight new) ⊎ ((value ≡ null) × (new ≡ old))
+
+-- the same of each builder and its value
+abbrev pub AllTakeOrWait : List Json → List MutableArray → List MutableArray → Type 0
+AllTakeOrWait [] [] [] = Unit {0}
+AllTakeOrWait (value ∷ values) (old ∷ olds) (new ∷ news) = TakesOrWaits value old new × AllTakeOrWait values olds news
+AllTakeOrWait _ _ _ = ⊥
+
+-- an object was read, and each builder whose name is a key took its value
+abbrev pub ReadsObject : ℕ → List (List ℕ) → List ℕ → List ℕ → List MutableArray → List MutableArray → Type 0
+ReadsObject depth names before after old new =
+    (members : List (List ℕ × Json)) × (object_at (value_at depth) before ≡ found (object members) after) × AllTakeOrWait (values_of members names) old new
+
+-- a builder that had so many slots took null, and another stays
+abbrev pub Fills : ℕ → MutableArray → MutableArray → Type 0
+Fills count old new =
+    ((length (builder_slots old) ≡ count) × Takes null old new × IsTight new) ⊎ ((length (builder_slots old) ≢ count) × (new ≡ old))

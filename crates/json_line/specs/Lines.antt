@@ -25,7 +25,7 @@ pub record IsColumnOf (rows : List (List (List ℕ × Json))) (field : Field) (c
   pub data_type : array_type column ≡ field.data_type
   pub slots : AreSlotsOf (line_reading field.data_type) (values_named rows field.name) (array_slots column)
 
--- the lines are objects, and these are the columns of their members, one for each field
+-- each line is an object, and there is a column for each field, of the members with its name
 pub record AreColumnsOf (fields : List Field) (lines : List (List ℕ)) (columns : List Array) : Type 0 where
   pub rows : List (List (List ℕ × Json))
   pub objects : AreObjects rows lines

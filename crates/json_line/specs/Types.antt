@@ -15,13 +15,13 @@ use Rattle.json_tree.specs.declared.value.Value.TheOpen as layer
 use Rattle.json_flat.specs.Meaning.{Meaning, Layer, slot_of, text_timestamp, unfit, null_in, truth_in, whole_in, int64_in, moment_in, text_in, bytes_in}
 use Rattle.json_lend.specs.Fields.{value_named}
 
--- ---- values without values in them
+-- ---- null, booleans, numbers and strings
 
 abbrev pub is_timestamp : DataType → Bool
 is_timestamp (Timestamp unit timezone) = true
 is_timestamp _ = false
 
--- what a value means in a column of a type whose values lie in memory so, a timestamp or another
+-- what a value means in a column whose slots lie in memory so, of timestamps or of another type
 abbrev pub kind_reading : Bool → PhysicalType → Layer → Meaning
 kind_reading of_timestamps physical.Boolean = truth_in
 kind_reading of_timestamps (physical.Primitive primitive.Int8) = whole_in (negsuc 127) (pos 127)
@@ -38,7 +38,7 @@ kind_reading of_timestamps physical.Binary = bytes_in
 kind_reading of_timestamps physical.LargeBinary = bytes_in
 kind_reading of_timestamps _ = null_in
 
--- ---- values with values in them
+-- ---- arrays and objects
 
 -- the slots of several values, where each means one
 abbrev pub slots_together : List Meaning → Option (List Slot)

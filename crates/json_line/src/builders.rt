@@ -5,7 +5,8 @@ ghost use Rattle.arrow_array.specs.Arrays.{array_slots, array_type};
 ghost use Rattle.arrow_builders.specs.MutableArrays.{builder_slots, builder_type};
 ghost use Rattle.arrow_builders.specs.Shapes.{shape};
 ghost use Rattle.arrow_core.specs.Errors.{OnlyOutOfMemory};
-ghost use Rattle.json_line.specs.Builders.{AreLineBuilders, AreTight};
+ghost use Rattle.arrow_builders.specs.Tight.{AllTight};
+ghost use Rattle.json_line.specs.Builders.{AreLineBuilders};
 ghost use Rattle.json_line.specs.Lines.{are_line_fields as are_line_fields_of, AreColumnsOf};
 
 use crate::field_names::{FieldNames, names_below, names_of};
@@ -50,7 +51,7 @@ impl Model for LineBuilders {
 fn clear_all(builders: &mut [MutableArray])
     ensures shapes { map shape builders.new ≡ map shape builders.old }
     ensures slots { All (λ b. builder_slots b ≡ []) builders.new }
-    ensures tight { AreTight builders.new }
+    ensures tight { AllTight 0 builders.new }
 {
     for i in 0..builders.len() {
         builders[i].clear();

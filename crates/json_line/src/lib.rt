@@ -8,6 +8,7 @@ mod builders;
 mod content;
 mod ends;
 mod field_names;
+mod fill;
 mod flat;
 mod given_up;
 mod integer;
@@ -15,7 +16,7 @@ mod line;
 mod made;
 mod plain;
 mod push;
-mod room;
+mod single;
 mod types;
 
 pub use builders::LineBuilders;

@@ -1,121 +1,143 @@
 //! Lines into builders.
-ghost use Rattle.std.specs.Prelude.{◌≡◌, List, ℕ, length, map, true, OnOk};
+ghost use Rattle.std.specs.Prelude.{◌≡◌, ◌≤◌, ◌<◌, ◌+◌, List, ℕ, length, map, true, IfSome, OnOk};
 ghost use Rattle.arrow_builders.specs.Children.{fields_of};
 ghost use Rattle.arrow_builders.specs.Shapes.{shape};
+ghost use Rattle.arrow_builders.specs.Tight.{AllTight};
 ghost use Rattle.json_tree.specs.Layout.{distinct};
 ghost use Rattle.json_tree.specs.Meaning.{IsJson};
 ghost use Rattle.json_tree.specs.Tree.{Json, object};
-ghost use Rattle.json_line.specs.Builders.{AllSuit, AreTight, TakesLents, TakesRow, TakesRows};
+ghost use Rattle.json_line.specs.Builders.{AllSuit, AreTight, ReadsMember, ReadsObject, TakesRow, TakesRows};
 ghost use Rattle.json_line.specs.Lines.{AreObjects};
 
 use crate::field_names::FieldNames;
+use crate::fill::fill_columns;
 use crate::given_up::GivenUp;
-use crate::push::push_lent;
-use crate::room::make_room;
+use crate::push::push_once;
 use arrow_builders::MutableArray;
 use arrow_core::Text;
-use json_lend::{Lent, lend_row};
+use json_lend::{read_name, skip_value};
+use json_tree::grammar::{closes, goes_on};
+use json_tree::reader::Reader;
 use std::alloc::Global;
 
-// Appends a slot to each builder.
+// A member's value, to the builder at the index, or skipped where there is no index.
 #[inline(always)]
-fn push_row<'a>(
+fn read_column<'a>(
     alloc: Global,
+    reader: &mut Reader<'a>,
+    depth: usize,
+    at: Option<usize>,
     below: &[FieldNames],
     builders: &mut [MutableArray],
-    found: &[Lent<'a>],
+    count: usize,
 ) -> Result<(), GivenUp>
+    requires within { IfSome at (λ i. i < length builders.old) }
     requires suits { AllSuit below.now (fields_of (map shape builders.old)) }
-    requires room { length builders.old ≡ length found.now }
     requires tight { AreTight builders.old }
     ensures shapes { map shape builders.new ≡ map shape builders.old }
-    ensures tight { OnOk result (AreTight builders.new) }
-    ensures ok { OnOk result (TakesLents found.now builders.old builders.new) }
+    ensures forward { length reader.new ≤ length reader.old }
+    ensures ok { OnOk result
+        (ReadsMember depth count at reader.old reader.new builders.old builders.new) }
 {
-    let mut i = 0;
-    while i < builders.len() {
-        push_lent(alloc, &below[i], &mut builders[i], &found[i])?;
-        i += 1;
+    match at {
+        Some(i) => push_once(alloc, reader, depth, &below[i], &mut builders[i], count),
+        None => {
+            skip_value(reader, depth)?;
+            Ok(())
+        }
     }
-    Ok(())
 }
 
-/// Reads a line that is an object into builders, one for each name: each takes the slot that the
-/// value of its name means, which is null where no member has the name. `below` are the names beneath
-/// each, and `found` is room for the values. After `GivenUp` the builders have any slots.
+// Each member, one after another, and the closing bracket. A builder whose name is no key stays.
 #[inline(always)]
-fn push_line<'a>(
+fn read_columns<'a>(
     alloc: Global,
-    line: &'a str,
+    reader: &mut Reader<'a>,
+    depth: usize,
     names: &[Text],
     below: &[FieldNames],
-    found: &mut [Lent<'a>],
     builders: &mut [MutableArray],
+    count: usize,
 ) -> Result<(), GivenUp>
     requires distinct { distinct names.now ≡ true }
-    requires room { length found.old ≡ length names.now }
     requires fits { length builders.old ≡ length names.now }
     requires suits { AllSuit below.now (fields_of (map shape builders.old)) }
-    requires tight { AreTight builders.old }
+    requires tight { AllTight count builders.old }
     ensures shapes { map shape builders.new ≡ map shape builders.old }
-    ensures tight { OnOk result (AreTight builders.new) }
+    ensures forward { length reader.new ≤ length reader.old }
+    ensures ok { OnOk result
+        (ReadsObject depth names.now reader.old reader.new builders.old builders.new) }
+{
+    if closes(reader, b'}') {
+        return Ok(());
+    }
+    let mut guess = 0;
+    loop {
+        let at = read_name(reader, names, guess)?;
+        read_column(alloc, reader, depth, at, below, builders, count)?;
+        if let Some(i) = at {
+            guess = i + 1;
+        }
+        if !goes_on(reader, b'}')? {
+            return Ok(());
+        }
+    }
+}
+
+/// Reads a line that is an object into builders, one for each name, each of which has `count` slots:
+/// each takes the slot that the value of its name means, which is null where no member has the name.
+/// `below` are the names beneath each. After `GivenUp` the builders have any slots.
+#[inline(always)]
+fn push_line(
+    alloc: Global,
+    line: &str,
+    names: &[Text],
+    below: &[FieldNames],
+    builders: &mut [MutableArray],
+    count: usize,
+) -> Result<(), GivenUp>
+    requires distinct { distinct names.now ≡ true }
+    requires fits { length builders.old ≡ length names.now }
+    requires suits { AllSuit below.now (fields_of (map shape builders.old)) }
+    requires tight { AllTight count builders.old }
+    ensures shapes { map shape builders.new ≡ map shape builders.old }
+    ensures tight { OnOk result (AllTight (count + 1) builders.new) }
     ensures ok { OnOk result ((members : List (List ℕ × Json)) × IsJson (object members) line.now
         × TakesRow names.now members builders.old builders.new) }
 {
-    match lend_row(line, names, found) {
-        Ok(is_row) => {
-            if !is_row {
-                return Err(GivenUp);
-            }
-            push_row(alloc, below, builders, found)
-        }
-        Err(_) => Err(GivenUp),
+    let mut reader = Reader::new(line.as_bytes());
+    reader.skip_spaces();
+    if !reader.takes(b'{') {
+        return Err(GivenUp);
+    }
+    read_columns(alloc, &mut reader, 127, names, below, builders, count)?;
+    fill_columns(alloc, below, builders, count)?;
+    reader.skip_spaces();
+    match reader.peek() {
+        None => Ok(()),
+        Some(_) => Err(GivenUp),
     }
 }
 
-// Reads lines, one after another. `found` is room for the values.
-fn push_all<'a>(
+/// Reads lines that are objects into empty builders, one for each name: each takes for each line the
+/// slot that the value of its name means. After `GivenUp` the builders have any slots.
+pub(crate) fn push_lines(
     alloc: Global,
-    lines: &'a [Text],
+    lines: &[Text],
     names: &[Text],
     below: &[FieldNames],
-    found: &mut [Lent<'a>],
     builders: &mut [MutableArray],
 ) -> Result<(), GivenUp>
     requires distinct { distinct names.now ≡ true }
-    requires room { length found.old ≡ length names.now }
     requires fits { length builders.old ≡ length names.now }
     requires suits { AllSuit below.now (fields_of (map shape builders.old)) }
-    requires tight { AreTight builders.old }
+    requires tight { AllTight 0 builders.old }
     ensures shapes { map shape builders.new ≡ map shape builders.old }
-    ensures tight { OnOk result (AreTight builders.new) }
     ensures ok { OnOk result ((rows : List (List (List ℕ × Json))) × AreObjects rows lines.now
         × TakesRows names.now rows builders.old builders.new) }
 {
-    for line in lines {
-        push_line(alloc, line.as_str(), names, below, found, builders)?;
+    for i in 0..lines.len() {
+        push_line(alloc, lines[i].as_str(), names, below, builders, i)?;
     }
     Ok(())
-}
-
-/// Reads lines that are objects into builders, one for each name: each takes for each line the slot
-/// that the value of its name means. After `GivenUp` the builders have any slots.
-pub(crate) fn push_lines<'a>(
-    alloc: Global,
-    lines: &'a [Text],
-    names: &[Text],
-    below: &[FieldNames],
-    builders: &mut [MutableArray],
-) -> Result<(), GivenUp>
-    requires distinct { distinct names.now ≡ true }
-    requires fits { length builders.old ≡ length names.now }
-    requires suits { AllSuit below.now (fields_of (map shape builders.old)) }
-    requires tight { AreTight builders.old }
-    ensures shapes { map shape builders.new ≡ map shape builders.old }
-    ensures tight { OnOk result (AreTight builders.new) }
-    ensures ok { OnOk result ((rows : List (List (List ℕ × Json))) × AreObjects rows lines.now
-        × TakesRows names.now rows builders.old builders.new) }
-{
-    let mut found = make_room(alloc, names.len())?;
-    push_all(alloc, lines, names, below, &mut found, builders)
 }

@@ -1,80 +1,127 @@
-//! Values that are lent go to builders of any kind.
-ghost use Rattle.std.specs.Prelude.{◌≡◌, ◌++◌, ◌∷◌, [], ◌+◌, length, map, true, OnOk};
+//! Values go to builders of any kind as they are read.
+ghost use Rattle.std.specs.Prelude.{◌≡◌, ◌≤◌, ◌<◌, ◌∷◌, length, map, true, IfSome, MatchBool, OnOk};
 ghost use Rattle.arrow_builders.specs.Children.{fields_of};
 ghost use Rattle.arrow_builders.specs.MutableArrays.{builder_slots};
 ghost use Rattle.arrow_builders.specs.Shapes.{shape};
 ghost use Rattle.arrow_builders.specs.Tight.{AllTight, IsTight};
 ghost use Rattle.arrow_builders.specs.declared.array.MutableArray.{LargeList, List, Struct};
-ghost use Rattle.arrow_types.specs.declared.slot.Slot.TheVariants.{Null as NullSlot};
 ghost use Rattle.json_tree.specs.Layout.{distinct};
-ghost use Rattle.json_tree.specs.Tree.{array, object};
-ghost use Rattle.json_lend.specs.Standing.{lent_value};
-ghost use Rattle.json_line.specs.Builders.{struct_names, AllSuit, Suits, SuitsFields, SuitsItems, Takes, TakesAll, TakesLents};
+ghost use Rattle.json_tree.specs.Reading.{array_at, object_at, value_at};
+ghost use Rattle.json_line.specs.Builders.{struct_names, AllSuit, AreTight, ReadsInto, ReadsItems, ReadsMember, ReadsObject, Suits, SuitsFields, SuitsItems};
 
-use crate::ends::{end_large_list, end_list, end_struct, push_null};
+use crate::ends::{end_large_list, end_list, end_struct};
 use crate::field_names::FieldNames;
-use crate::flat::push_flat;
+use crate::fill::fill_fields;
 use crate::given_up::GivenUp;
-use crate::room::make_room;
+use crate::single::{push_no_list, push_no_struct, push_single};
 use arrow_builders::{
     DynMutableLargeListArray, DynMutableListArray, DynMutableStructArray, MutableArray,
 };
 use arrow_core::Text;
-use json_lend::{Lent, LentArray, LentObject};
+use json_lend::{read_name, skip_value};
+use json_tree::grammar::{closes, goes_on};
+use json_tree::reader::Reader;
 use std::alloc::Global;
 
-/// Appends the slot that a value means under the builder's type, with what stands beneath. `names`
-/// are those of the type.
-///
-/// `GivenUp` may come at any time, and then the builder has any slots: where the value doesn't fit
-/// the builder, and where there is no memory.
+// Whether this bracket is next and may be opened. Then it is passed.
+#[inline(always)]
+fn opens<'a>(reader: &mut Reader<'a>, bracket: u8, depth: usize) -> bool
+    ensures { MatchBool result ((reader.old ≡ bracket ∷ reader.new) × (0 < depth))
+        (reader.new ≡ reader.old) }
+{
+    depth > 0 && reader.takes(bracket)
+}
+
+// Reads the value that is next, in which at most `depth` brackets are open at once, and appends the
+// slot that it means under the builder's type, with what stands beneath. `names` are those of the
+// type.
+//
+// `GivenUp` may come at any time, and then the builder has any slots: where no value stands there,
+// where it doesn't fit the builder, where a key stands twice in an object, and where there is no
+// memory.
 #[cycle(push)]
 #[inline(always)]
-pub(crate) fn push_lent<'a>(
+fn push_value<'a>(
     alloc: Global,
+    reader: &mut Reader<'a>,
+    depth: usize,
     names: &FieldNames,
     builder: &mut MutableArray,
-    lent: &Lent<'a>,
 ) -> Result<(), GivenUp>
     requires suits { Suits names.now (shape builder.old) }
     requires tight { IsTight builder.old }
     ensures same_shape { shape builder.new ≡ shape builder.old }
     ensures tight { OnOk result (IsTight builder.new) }
-    ensures ok { OnOk result (Takes (lent_value lent.now) builder.old builder.new) }
+    ensures forward { length reader.new ≤ length reader.old }
+    ensures ok { OnOk result
+        (ReadsInto (value_at depth) reader.old reader.new builder.old builder.new) }
 {
     match names {
-        FieldNames::Flat => push_flat(alloc, builder, lent),
-        FieldNames::Items(item) => match lent {
-            Lent::Array(items) => push_array(alloc, item, builder, items),
-            _ => push_null(builder),
-        },
-        FieldNames::Fields(own, below) => match lent {
-            Lent::Object(members) => {
-                push_object(alloc, own.as_slice(), below.as_slice(), builder, members)
+        FieldNames::Flat => push_single(alloc, reader, depth, builder),
+        FieldNames::Items(item) => {
+            if opens(reader, b'[', depth) {
+                return push_array(alloc, reader, depth - 1, item, builder);
             }
-            _ => push_null(builder),
-        },
+            push_no_list(reader, depth, builder)
+        }
+        FieldNames::Fields(own, below) => {
+            if opens(reader, b'{', depth) {
+                let (own, below) = (own.as_slice(), below.as_slice());
+                return push_object(alloc, reader, depth - 1, own, below, builder);
+            }
+            push_no_struct(reader, depth, builder)
+        }
     }
 }
 
-// An array, to a builder of lists.
+/// The same, where the builder has `count` slots. Where it has others, it took a value of the same
+/// name before, and the value is given up.
+#[cycle(push)]
+#[inline(always)]
+pub(crate) fn push_once<'a>(
+    alloc: Global,
+    reader: &mut Reader<'a>,
+    depth: usize,
+    names: &FieldNames,
+    builder: &mut MutableArray,
+    count: usize,
+) -> Result<(), GivenUp>
+    requires suits { Suits names.now (shape builder.old) }
+    requires tight { IsTight builder.old }
+    ensures same_shape { shape builder.new ≡ shape builder.old }
+    ensures tight { OnOk result (IsTight builder.new) }
+    ensures forward { length reader.new ≤ length reader.old }
+    ensures ok { OnOk result
+        (ReadsInto (value_at depth) reader.old reader.new builder.old builder.new) }
+    ensures once { OnOk result (length (builder_slots builder.old) ≡ count) }
+{
+    if builder.len() != count {
+        return Err(GivenUp);
+    }
+    push_value(alloc, reader, depth, names, builder)
+}
+
+// What follows the opening bracket of an array, to a builder of lists.
 #[cycle(push)]
 #[inline(always)]
 fn push_array<'a>(
     alloc: Global,
+    reader: &mut Reader<'a>,
+    depth: usize,
     names: &FieldNames,
     builder: &mut MutableArray,
-    items: &LentArray<'a>,
 ) -> Result<(), GivenUp>
     requires suits { SuitsItems names.now (shape builder.old) }
     requires tight { IsTight builder.old }
     ensures same_shape { shape builder.new ≡ shape builder.old }
     ensures tight { OnOk result (IsTight builder.new) }
-    ensures ok { OnOk result (Takes (array items.now) builder.old builder.new) }
+    ensures forward { length reader.new ≤ length reader.old }
+    ensures ok { OnOk result
+        (ReadsInto (array_at (value_at depth)) reader.old reader.new builder.old builder.new) }
 {
     match builder {
-        MutableArray::List(lists) => push_list(alloc, names, lists, items),
-        MutableArray::LargeList(lists) => push_large_list(alloc, names, lists, items),
+        MutableArray::List(lists) => push_list(alloc, reader, depth, names, lists),
+        MutableArray::LargeList(lists) => push_large_list(alloc, reader, depth, names, lists),
         _ => Err(GivenUp),
     }
 }
@@ -84,17 +131,20 @@ fn push_array<'a>(
 #[inline(never)]
 fn push_list<'a>(
     alloc: Global,
+    reader: &mut Reader<'a>,
+    depth: usize,
     names: &FieldNames,
     lists: &mut DynMutableListArray,
-    items: &LentArray<'a>,
 ) -> Result<(), GivenUp>
     requires suits { Suits names.now (shape lists.old.values.value) }
     requires tight { IsTight (List lists.old) }
     ensures same_shape { shape (List lists.new) ≡ shape (List lists.old) }
     ensures tight { OnOk result (IsTight (List lists.new)) }
-    ensures ok { OnOk result (Takes (array items.now) (List lists.old) (List lists.new)) }
+    ensures forward { length reader.new ≤ length reader.old }
+    ensures ok { OnOk result (ReadsInto (array_at (value_at depth)) reader.old reader.new
+        (List lists.old) (List lists.new)) }
 {
-    push_items(alloc, names, lists.mut_values(), items)?;
+    push_items(alloc, reader, depth, names, lists.mut_values())?;
     end_list(lists)
 }
 
@@ -103,133 +153,182 @@ fn push_list<'a>(
 #[inline(never)]
 fn push_large_list<'a>(
     alloc: Global,
+    reader: &mut Reader<'a>,
+    depth: usize,
     names: &FieldNames,
     lists: &mut DynMutableLargeListArray,
-    items: &LentArray<'a>,
 ) -> Result<(), GivenUp>
     requires suits { Suits names.now (shape lists.old.values.value) }
     requires tight { IsTight (LargeList lists.old) }
     ensures same_shape { shape (LargeList lists.new) ≡ shape (LargeList lists.old) }
     ensures tight { OnOk result (IsTight (LargeList lists.new)) }
-    ensures ok { OnOk result (Takes (array items.now) (LargeList lists.old) (LargeList lists.new)) }
+    ensures forward { length reader.new ≤ length reader.old }
+    ensures ok { OnOk result (ReadsInto (array_at (value_at depth)) reader.old reader.new
+        (LargeList lists.old) (LargeList lists.new)) }
 {
-    push_items(alloc, names, lists.mut_values(), items)?;
+    push_items(alloc, reader, depth, names, lists.mut_values())?;
     end_large_list(lists)
 }
 
-// Each item, one after another.
+// Each item, one after another, and the closing bracket.
 #[cycle(push)]
 fn push_items<'a>(
     alloc: Global,
+    reader: &mut Reader<'a>,
+    depth: usize,
     names: &FieldNames,
     builder: &mut MutableArray,
-    items: &LentArray<'a>,
 ) -> Result<(), GivenUp>
     requires suits { Suits names.now (shape builder.old) }
     requires tight { IsTight builder.old }
     ensures same_shape { shape builder.new ≡ shape builder.old }
     ensures tight { OnOk result (IsTight builder.new) }
-    ensures ok { OnOk result (TakesAll items.now builder.old builder.new) }
+    ensures forward { length reader.new ≤ length reader.old }
+    ensures ok { OnOk result (ReadsItems depth reader.old reader.new builder.old builder.new) }
 {
-    let mut left = items.again();
-    while let Some(item) = left.next_item() {
-        push_lent(alloc, names, builder, &item)?;
+    if closes(reader, b']') {
+        return Ok(());
     }
-    Ok(())
+    loop {
+        reader.skip_spaces();
+        push_value(alloc, reader, depth, names, builder)?;
+        if !goes_on(reader, b']')? {
+            return Ok(());
+        }
+    }
 }
 
-// An object, to a builder of structs.
+// What follows the opening bracket of an object, to a builder of structs.
 #[cycle(push)]
 #[inline(always)]
 fn push_object<'a>(
     alloc: Global,
+    reader: &mut Reader<'a>,
+    depth: usize,
     own: &[Text],
     below: &[FieldNames],
     builder: &mut MutableArray,
-    members: &LentObject<'a>,
 ) -> Result<(), GivenUp>
     requires suits { SuitsFields own.now below.now (shape builder.old) }
     requires tight { IsTight builder.old }
     ensures same_shape { shape builder.new ≡ shape builder.old }
     ensures tight { OnOk result (IsTight builder.new) }
-    ensures ok { OnOk result (Takes (object members.now) builder.old builder.new) }
+    ensures forward { length reader.new ≤ length reader.old }
+    ensures ok { OnOk result
+        (ReadsInto (object_at (value_at depth)) reader.old reader.new builder.old builder.new) }
 {
+    let count = builder.len();
     match builder {
-        MutableArray::Struct(structs) => push_struct(alloc, own, below, structs, members),
+        MutableArray::Struct(structs) => {
+            push_struct(alloc, reader, depth, own, below, structs, count)
+        }
         _ => Err(GivenUp),
     }
 }
 
-// Each child takes the value of its name, and then the struct of them is pushed.
+// Each child takes the value of its name, or null, and then the struct of them is pushed. There are
+// `count` structs.
 #[cycle(push)]
 #[inline(never)]
 fn push_struct<'a>(
     alloc: Global,
+    reader: &mut Reader<'a>,
+    depth: usize,
     own: &[Text],
     below: &[FieldNames],
     structs: &mut DynMutableStructArray,
-    members: &LentObject<'a>,
+    count: usize,
 ) -> Result<(), GivenUp>
     requires names { own.now ≡ struct_names structs.old.marks.data_type }
     requires distinct { distinct own.now ≡ true }
     requires suits { AllSuit below.now (fields_of (map shape structs.old.values.items)) }
     requires tight { IsTight (Struct structs.old) }
+    requires count { length structs.old.marks.booleans ≡ count }
     ensures same_shape { shape (Struct structs.new) ≡ shape (Struct structs.old) }
     ensures tight { OnOk result (IsTight (Struct structs.new)) }
-    ensures ok { OnOk result (Takes (object members.now) (Struct structs.old) (Struct structs.new)) }
+    ensures forward { length reader.new ≤ length reader.old }
+    ensures ok { OnOk result (ReadsInto (object_at (value_at depth)) reader.old reader.new
+        (Struct structs.old) (Struct structs.new)) }
 {
     if own.len() != below.len() {
         return Err(GivenUp);
     }
-    let mut found = make_room(alloc, own.len())?;
-    push_members(alloc, own, below, structs, members, &mut found)
-}
-
-// The same, with room for the values.
-#[cycle(push)]
-fn push_members<'a>(
-    alloc: Global,
-    own: &[Text],
-    below: &[FieldNames],
-    structs: &mut DynMutableStructArray,
-    members: &LentObject<'a>,
-    found: &mut [Lent<'a>],
-) -> Result<(), GivenUp>
-    requires names { own.now ≡ struct_names structs.old.marks.data_type }
-    requires distinct { distinct own.now ≡ true }
-    requires suits { AllSuit below.now (fields_of (map shape structs.old.values.items)) }
-    requires tight { IsTight (Struct structs.old) }
-    requires wide { length own.now ≡ length below.now }
-    requires room { length found.old ≡ length own.now }
-    ensures same_shape { shape (Struct structs.new) ≡ shape (Struct structs.old) }
-    ensures tight { OnOk result (IsTight (Struct structs.new)) }
-    ensures ok { OnOk result (Takes (object members.now) (Struct structs.old) (Struct structs.new)) }
-{
-    members.lend_members(own, found);
-    push_fields(alloc, below, structs, found)?;
+    read_fields(alloc, reader, depth, own, below, structs, count)?;
+    fill_fields(alloc, below, structs, count)?;
     end_struct(structs)
 }
 
-// Each child takes the value that is lent at its index.
+// Each member, one after another, and the closing bracket. A child whose name is no key stays.
 #[cycle(push)]
-fn push_fields<'a>(
+#[inline(always)]
+fn read_fields<'a>(
     alloc: Global,
+    reader: &mut Reader<'a>,
+    depth: usize,
+    own: &[Text],
     below: &[FieldNames],
     structs: &mut DynMutableStructArray,
-    found: &[Lent<'a>],
+    count: usize,
 ) -> Result<(), GivenUp>
+    requires distinct { distinct own.now ≡ true }
     requires suits { AllSuit below.now (fields_of (map shape structs.old.values.items)) }
-    requires room { length found.now ≡ length below.now }
-    requires tight { AllTight (length structs.old.marks.booleans) structs.old.values.items }
+    requires tight { AllTight count structs.old.values.items }
+    requires wide { length own.now ≡ length below.now }
     ensures marks { structs.new.marks ≡ structs.old.marks }
     ensures shapes { map shape structs.new.values.items ≡ map shape structs.old.values.items }
-    ensures tight { OnOk result
-        (AllTight (length structs.old.marks.booleans + 1) structs.new.values.items) }
-    ensures ok { OnOk result
-        (TakesLents found.now structs.old.values.items structs.new.values.items) }
+    ensures forward { length reader.new ≤ length reader.old }
+    ensures ok { OnOk result (ReadsObject depth own.now reader.old reader.new
+        structs.old.values.items structs.new.values.items) }
 {
-    for i in 0..below.len() {
-        push_lent(alloc, &below[i], structs.mut_values(i), &found[i])?;
+    if closes(reader, b'}') {
+        return Ok(());
     }
-    Ok(())
+    let mut guess = 0;
+    loop {
+        let at = read_name(reader, own, guess)?;
+        read_field(alloc, reader, depth, at, below, structs, count)?;
+        if let Some(i) = at {
+            guess = i + 1;
+        }
+        if !goes_on(reader, b'}')? {
+            return Ok(());
+        }
+    }
+}
+
+// A member's value, to the child at the index, or skipped where there is no index.
+#[cycle(push)]
+#[inline(always)]
+fn read_field<'a>(
+    alloc: Global,
+    reader: &mut Reader<'a>,
+    depth: usize,
+    at: Option<usize>,
+    below: &[FieldNames],
+    structs: &mut DynMutableStructArray,
+    count: usize,
+) -> Result<(), GivenUp>
+    requires within { IfSome at (λ i. i < length below.now) }
+    requires suits { AllSuit below.now (fields_of (map shape structs.old.values.items)) }
+    requires tight { AreTight structs.old.values.items }
+    ensures marks { structs.new.marks ≡ structs.old.marks }
+    ensures shapes { map shape structs.new.values.items ≡ map shape structs.old.values.items }
+    ensures forward { length reader.new ≤ length reader.old }
+    ensures ok { OnOk result (ReadsMember depth count at reader.old reader.new
+        structs.old.values.items structs.new.values.items) }
+{
+    match at {
+        Some(i) => push_once(
+            alloc,
+            reader,
+            depth,
+            &below[i],
+            structs.mut_values(i),
+            count,
+        ),
+        None => {
+            skip_value(reader, depth)?;
+            Ok(())
+        }
+    }
 }

@@ -1,18 +1,20 @@
-use Rattle.std.proofs.Common.{◌≡◌, ◌∙◌, length, map, get_or, refl, sym, ap, subst, rules, arith, add-one}
+use Rattle.std.proofs.Common.{◌≡◌, ◌∙◌, ◌-◌, ◌<◌, suc, length, map, get_or, refl, sym, ap, subst, rules, arith}
 use denote.Param.Weighed.{at_most}
 use Rattle.arrow_builders.specs.MutableArrays.{builder_slots}
 use Rattle.arrow_builders.specs.Shapes.{shape}
 use Rattle.arrow_builders.specs.Tight.{IsTight}
-use Rattle.arrow_builders.specs.declared.array.MutableArray.{MutableArray}
+use Rattle.arrow_builders.specs.declared.array.MutableArray.{MutableArray, LargeList, List, Struct}
 use Rattle.arrow_builders.proofs.Rows.{shape_same}
-use Rattle.json_lend.specs.declared.lent.Lent.TheVariants as lent
-use Rattle.json_lend.specs.Standing.{lent_value}
+use Rattle.json_tree.specs.Reading.{array_at, object_at, value_at}
+use Rattle.json_tree.specs.Tree.{array, object}
+use Rattle.json_tree.proofs.Turns.{value-array}
+use Rattle.json_lend.proofs.SkipLaws.{value-object}
 use Rattle.json_line.proofs.field_names.FieldNames.TheLaws.{the_size}
 use Rattle.json_line.specs.declared.field_names.FieldNames.TheViews.{the_lemmas}
 use Rattle.json_line.specs.Builders.{shape_reading, Suits}
-use Rattle.json_line.proofs.Batches.{items-end, items-start, items-step}
-use Rattle.json_line.proofs.Nested.{children_tight, list_taken, null_for_list, null_for_struct, struct_taken, struct_tight}
-use Rattle.json_line.proofs.Rows.{as-many-shapes, part-all, part-at, part-next, row-end, row-of, row-start, row-step, shapes-step, took-one}
+use Rattle.json_line.proofs.Batches.{items-end, items-next, items-start, none-read}
+use Rattle.json_line.proofs.Nested.{children_tight, list_taken, read_behind, read_into, struct_count, struct_taken, struct_tight}
+use Rattle.json_line.proofs.Rows.{as-many-shapes, index-within, members-end, members-next, members-start, no-members, read-at, row-filled, shapes-step, tight-at, tight-so_far}
 use Rattle.json_line.proofs.Suited.{fields_suit, lent_suits, lent_tight, lists_suit, suits_at, suits_length, suits_same}
 use Rattle.json_line.proofs.push.+push.Goals as goal
 
@@ -26,7 +28,10 @@ push_list-push_items-requires t c =
 
 pub push_list-returns-clause-ok : goal.push_list-returns-clause-ok
 push_list-returns-clause-ok t c =
-    list_taken c.end_list.result (shape_reading (shape c.args.lists.now.values.value)) c.args.items.now (builder_slots c.args.lists.now.values.value) (builder_slots c.push_items.new.builder) _ _ _ c.args.lists.now.lists.lens c.requires.tight.0 (rw c.mut_values.ensures.value at c.in_ok-push_items.ensures.ok) refl refl c.end_list.ensures.ok
+    let p = c.in_ok-push_items.ensures.ok in
+    let took = rw c.mut_values.ensures.value at p.2 in
+    read_into c.end_list.result (array_at (value_at c.args.depth)) c.args.reader.now c.push_items.new.reader (array p.0) (List c.args.lists.now) (List c.end_list.new.lists) p.1
+    (list_taken c.end_list.result (shape_reading (shape c.args.lists.now.values.value)) p.0 (builder_slots c.args.lists.now.values.value) (builder_slots c.push_items.new.builder) _ _ _ c.args.lists.now.lists.lens c.requires.tight.0 took refl refl c.end_list.ensures.ok)
 
 pub push_large_list-push_items-requires : goal.push_large_list-push_items-requires
 push_large_list-push_items-requires t c =
@@ -36,174 +41,245 @@ push_large_list-push_items-requires t c =
 
 pub push_large_list-returns-clause-ok : goal.push_large_list-returns-clause-ok
 push_large_list-returns-clause-ok t c =
-    list_taken c.end_large_list.result (shape_reading (shape c.args.lists.now.values.value)) c.args.items.now (builder_slots c.args.lists.now.values.value) (builder_slots c.push_items.new.builder) _ _ _ c.args.lists.now.lists.lens c.requires.tight.0 (rw c.mut_values.ensures.value at c.in_ok-push_items.ensures.ok) refl refl c.end_large_list.ensures.ok
+    let p = c.in_ok-push_items.ensures.ok in
+    let took = rw c.mut_values.ensures.value at p.2 in
+    read_into c.end_large_list.result (array_at (value_at c.args.depth)) c.args.reader.now c.push_items.new.reader (array p.0) (LargeList c.args.lists.now) (LargeList c.end_large_list.new.lists) p.1
+    (list_taken c.end_large_list.result (shape_reading (shape c.args.lists.now.values.value)) p.0 (builder_slots c.args.lists.now.values.value) (builder_slots c.push_items.new.builder) _ _ _ c.args.lists.now.lists.lens c.requires.tight.0 took refl refl c.end_large_list.ensures.ok)
 
 -- ---- items
 
-pub push_items-loop-item-init : goal.push_items-loop-item-init
-push_items-loop-item-init t c = record { same_shape = refl; tight = c.requires.tight; taken = items-start c.args.items.now _ c.args.builder.now c.again-left.ensures }
+pub push_items-returns-then-closes-clause-ok : goal.push_items-returns-then-closes-clause-ok
+push_items-returns-then-closes-clause-ok t c = none-read c.args.depth c.args.reader.now c.closes.new.reader c.args.builder.now c.if-closes.ensures.found
 
-pub push_items-push_lent-requires : goal.push_items-push_lent-requires
-push_items-push_lent-requires t c =
-    let inv = c.loop-item.invariant in
+pub push_items-loop-reader-init : goal.push_items-loop-reader-init
+push_items-loop-reader-init t c =
+    let f = c.if-closes.ensures in
+    record { same_shape = refl; tight = c.requires.tight; forward = f.forward; reads = items-start c.args.depth c.args.reader.now c.closes.new.reader c.args.builder.now f.found.0 f.found.1 }
+
+pub push_items-push_value-requires : goal.push_items-push_value-requires
+push_items-push_value-requires t c =
+    let inv = c.loop-reader.invariant in
     let d = c.decreases in
     (omega arith, (subst (Suits c.args.names.now) (sym inv.same_shape) c.requires.suits, inv.tight))
 
-pub push_items-loop-item-preserved : goal.push_items-loop-item-preserved
-push_items-loop-item-preserved t c =
-    let inv = c.loop-item.invariant in
-    let e = c.in_ok-push_lent.ensures in
+pub push_items-returns-in_err-push_value-clause-same_shape : goal.push_items-returns-in_err-push_value-clause-same_shape
+push_items-returns-in_err-push_value-clause-same_shape t c = c.push_value.ensures.same_shape ∙ c.loop-reader.invariant.same_shape
+
+pub push_items-returns-in_err-goes_on-clause-same_shape : goal.push_items-returns-in_err-goes_on-clause-same_shape
+push_items-returns-in_err-goes_on-clause-same_shape t c = c.push_value.ensures.same_shape ∙ c.loop-reader.invariant.same_shape
+
+pub push_items-returns-then-not-branch-clause-same_shape : goal.push_items-returns-then-not-branch-clause-same_shape
+push_items-returns-then-not-branch-clause-same_shape t c = c.push_value.ensures.same_shape ∙ c.loop-reader.invariant.same_shape
+
+pub push_items-returns-then-not-branch-clause-ok : goal.push_items-returns-then-not-branch-clause-ok
+push_items-returns-then-not-branch-clause-ok t c =
+    let inv = c.loop-reader.invariant in
+    let f = rw c.if-not-branch.true at c.in_ok-goes_on.ensures.found in
+    items-end c.args.depth c.args.reader.now c.loop-reader.reader c.skip_spaces.new.self c.push_value.new.reader c.goes_on.new.reader c.args.builder.now c.loop-reader.builder c.push_value.new.builder inv.same_shape inv.reads c.skip_spaces.ensures.skipped c.push_value.ensures.forward c.in_ok-push_value.ensures.ok f.0
+
+pub push_items-loop-reader-preserved : goal.push_items-loop-reader-preserved
+push_items-loop-reader-preserved t c =
+    let inv = c.loop-reader.invariant in
+    let e = c.in_ok-push_value.ensures in
+    let f = rw c.if-not-branch.false at c.in_ok-goes_on.ensures.found in
     record {
       same_shape = e.same_shape ∙ inv.same_shape;
       tight = e.tight;
-      taken = items-step c.args.items.now c.loop-item.left _ (lent_value c.in-Some.item) c.args.builder.now c.loop-item.builder c.push_lent.new.builder inv.same_shape c.in-Some.ensures inv.taken e.ok;
+      forward = omega (arith, c.in_ok-goes_on.ensures.forward, e.forward, c.skip_spaces.ensures.forward, inv.forward);
+      reads = items-next c.args.depth c.args.reader.now c.loop-reader.reader c.skip_spaces.new.self c.push_value.new.reader c.goes_on.new.reader c.args.builder.now c.loop-reader.builder c.push_value.new.builder inv.same_shape inv.reads c.skip_spaces.ensures.skipped e.forward e.ok f;
     }
-
-pub push_items-returns-clause-ok : goal.push_items-returns-clause-ok
-push_items-returns-clause-ok t c = items-end c.args.items.now c.loop-item.left c.args.builder.now c.loop-item.builder c.in_default.ensures.0 c.loop-item.invariant.taken
 
 -- ---- values
 
-pub push_lent-push_object-requires : goal.push_lent-push_object-requires
-push_lent-push_object-requires t c =
-    let own = c.as_slice.ensures.value in
-    let below = c.as_slice-in-Object.ensures.value in
-    ((let d = c.decreases in let e = ap the_size c.in-Fields.is in let a = below in search (rules, the_lemmas)), (fields_suit c.args.names.now c.in-Fields.own c.in-Fields.below c.as_slice.result.now c.as_slice-in-Object.result.now (shape c.args.builder.now) c.in-Fields.is own below c.requires.suits, c.requires.tight))
+pub push_value-push_object-requires : goal.push_value-push_object-requires
+push_value-push_object-requires t c =
+    let own = c.as_slice-own.ensures.value in
+    let below = c.as_slice-below.ensures.value in
+    ((let d = c.decreases in let e = ap the_size c.in-Fields.is in let a = below in search (rules, the_lemmas)), (fields_suit c.args.names.now c.in-Fields.own c.in-Fields.below c.as_slice-own.result.now c.as_slice-below.result.now (shape c.args.builder.now) c.in-Fields.is own below c.requires.suits, c.requires.tight))
 
-pub push_lent-returns-in_default : goal.push_lent-returns-in_default
-push_lent-returns-in_default t c =
-    let e = c.push_null.ensures in
-    let suits = lists_suit c.args.names.now c.in-Items.item.value c.in-Items.item (shape c.args.builder.now) c.in-Items.is refl c.requires.suits in
-    record {
-      same_shape = e.same_shape;
-      tight = e.tight;
-      ok = null_for_list c.push_null.result c.in-Items.item.value c.args.lent.now c.args.builder.now c.push_null.new.builder suits c.in_default.not-Array e.ok;
-    }
+pub push_value-push_no_list-requires-clause-suits : goal.push_value-push_no_list-requires-clause-suits
+push_value-push_no_list-requires-clause-suits t c = (c.in-Items.item.value, lists_suit c.args.names.now c.in-Items.item.value c.in-Items.item (shape c.args.builder.now) c.in-Items.is refl c.requires.suits)
 
-pub push_lent-returns-in_default-lent : goal.push_lent-returns-in_default-lent
-push_lent-returns-in_default-lent t c =
-    let e = c.push_null-in_default-lent.ensures in
-    let suits = fields_suit c.args.names.now c.in-Fields.own c.in-Fields.below c.in-Fields.own.items c.in-Fields.below.items (shape c.args.builder.now) c.in-Fields.is refl refl c.requires.suits in
-    record {
-      same_shape = e.same_shape;
-      tight = e.tight;
-      ok = null_for_struct c.push_null-in_default-lent.result c.in-Fields.own.items c.in-Fields.below.items c.args.lent.now c.args.builder.now c.push_null-in_default-lent.new.builder suits c.in_default-lent.not-Object e.ok;
-    }
+pub push_value-push_no_struct-requires-clause-suits : goal.push_value-push_no_struct-requires-clause-suits
+push_value-push_no_struct-requires-clause-suits t c = (c.in-Fields.own.items, c.in-Fields.below.items, fields_suit c.args.names.now c.in-Fields.own c.in-Fields.below c.in-Fields.own.items c.in-Fields.below.items (shape c.args.builder.now) c.in-Fields.is refl refl c.requires.suits)
+
+pub push_value-returns-then-opens-clause-ok : goal.push_value-returns-then-opens-clause-ok
+push_value-returns-then-opens-clause-ok t c =
+    let f = c.if-opens.ensures in
+    let n : c.args.depth ≡ suc (c.args.depth - 1) = omega (arith, f.1) in
+    let p = c.push_array in
+    read_behind p.result (array_at (value_at (c.args.depth - 1))) (value_at c.args.depth) c.args.reader.now c.opens.new.reader p.new.reader c.args.builder.now p.new.builder (value-array c.args.depth (c.args.depth - 1) c.args.reader.now c.opens.new.reader n f.0) p.ensures.ok
+
+pub push_value-returns-then-opens-2-clause-ok : goal.push_value-returns-then-opens-2-clause-ok
+push_value-returns-then-opens-2-clause-ok t c =
+    let f = c.if-opens-2.ensures in
+    let n : c.args.depth ≡ suc (c.args.depth - 1) = omega (arith, f.1) in
+    let p = c.push_object in
+    let behind = c.opens-in-Fields.new.reader in
+    read_behind p.result (object_at (value_at (c.args.depth - 1))) (value_at c.args.depth) c.args.reader.now behind p.new.reader c.args.builder.now p.new.builder (value-object c.args.depth (c.args.depth - 1) c.args.reader.now behind n f.0) p.ensures.ok
+
+-- ---- structs
 
 pub push_object-push_struct-requires : goal.push_object-push_struct-requires
 push_object-push_struct-requires t c =
     let d = c.decreases in
-    let s = lent_suits c.args.own.now c.args.below.now c.args.builder.now c.in-Struct.structs _ c.in-Struct.is c.in-Struct.structs-is c.requires.suits in
-    (omega arith, (s.0, (s.1, (s.2, lent_tight c.args.own.now c.args.below.now c.args.builder.now c.in-Struct.structs _ c.in-Struct.is c.in-Struct.structs-is c.requires.tight))))
+    let b = c.args.builder.now in
+    let s = lent_suits c.args.own.now c.args.below.now b c.in-Struct.structs _ c.in-Struct.is c.in-Struct.structs-is c.requires.suits in (
+      omega arith,
+      (s.0, (s.1, (s.2, (lent_tight c.args.own.now c.args.below.now b c.in-Struct.structs _ c.in-Struct.is c.in-Struct.structs-is c.requires.tight, struct_count b c.in-Struct.structs _ c.len-count.result c.in-Struct.is c.in-Struct.structs-is c.len-count.ensures)))),
+    )
 
--- ---- structs
-
-pub push_struct-push_members-requires : goal.push_struct-push_members-requires
-push_struct-push_members-requires t c =
+pub push_struct-read_fields-requires : goal.push_struct-read_fields-requires
+push_struct-read_fields-requires t c =
     let d = c.decreases in
-    (omega arith, (c.requires.names, (c.requires.distinct, (c.requires.suits, (c.requires.tight, (search rules, search rules))))))
+    (omega arith, (c.requires.distinct, (c.requires.suits, (rw c.requires.count at (children_tight c.args.structs.now c.requires.tight), search rules))))
 
-pub push_members-push_fields-requires : goal.push_members-push_fields-requires
-push_members-push_fields-requires t c =
-    let d = c.decreases in
-    (omega arith, (c.requires.suits, (omega (arith, c.requires.wide, c.requires.room), children_tight c.args.structs.now c.requires.tight)))
+pub push_struct-fill_fields-requires-clause-suits : goal.push_struct-fill_fields-requires-clause-suits
+push_struct-fill_fields-requires-clause-suits t c = suits_same c.args.below.now c.args.structs.now.values.items c.read_fields.new.structs.values.items c.read_fields.ensures.shapes c.requires.suits
 
-pub push_members-returns-in_err-push_fields-clause-same_shape : goal.push_members-returns-in_err-push_fields-clause-same_shape
-push_members-returns-in_err-push_fields-clause-same_shape t c =
-    let e = c.in_err-push_fields.ensures in
-    shape_same c.args.structs.now c.push_fields.new.structs (ap (λ m. m.data_type) e.marks) e.shapes
+pub push_struct-fill_fields-requires-clause-tight : goal.push_struct-fill_fields-requires-clause-tight
+push_struct-fill_fields-requires-clause-tight t c =
+    let all = rw c.requires.count at (children_tight c.args.structs.now c.requires.tight) in
+    tight-so_far c.args.count _ c.args.structs.now.values.items c.read_fields.new.structs.values.items all c.in_ok-read_fields.ensures.ok.2
 
-pub push_members-returns-clause-same_shape : goal.push_members-returns-clause-same_shape
-push_members-returns-clause-same_shape t c =
-    let e = c.in_ok-push_fields.ensures in
+pub push_struct-returns-in_err-read_fields-clause-same_shape : goal.push_struct-returns-in_err-read_fields-clause-same_shape
+push_struct-returns-in_err-read_fields-clause-same_shape t c =
+    let e = c.in_err-read_fields.ensures in
+    shape_same c.args.structs.now c.read_fields.new.structs (ap (λ m. m.data_type) e.marks) e.shapes
+
+pub push_struct-returns-in_err-fill_fields-clause-same_shape : goal.push_struct-returns-in_err-fill_fields-clause-same_shape
+push_struct-returns-in_err-fill_fields-clause-same_shape t c =
+    let e = c.read_fields.ensures in
+    let f = c.in_err-fill_fields.ensures in
+    shape_same c.args.structs.now c.fill_fields.new.structs (ap (λ m. m.data_type) (f.marks ∙ e.marks)) (f.shapes ∙ e.shapes)
+
+pub push_struct-returns-clause-same_shape : goal.push_struct-returns-clause-same_shape
+push_struct-returns-clause-same_shape t c =
+    let e = c.read_fields.ensures in
+    let f = c.fill_fields.ensures in
     let q = c.end_struct.ensures in
-    shape_same c.args.structs.now c.end_struct.new.structs (q.data_type ∙ ap (λ m. m.data_type) e.marks) (ap (λ v. map shape v.items) q.values ∙ e.shapes)
+    shape_same c.args.structs.now c.end_struct.new.structs (q.data_type ∙ ap (λ m. m.data_type) (f.marks ∙ e.marks)) (ap (λ v. map shape v.items) q.values ∙ (f.shapes ∙ e.shapes))
 
-pub push_members-returns-clause-tight : goal.push_members-returns-clause-tight
-push_members-returns-clause-tight t c =
-    let e = c.in_ok-push_fields.ensures in
+pub push_struct-returns-clause-tight : goal.push_struct-returns-clause-tight
+push_struct-returns-clause-tight t c =
+    let b = c.args.structs.now in
+    let n = c.requires.count in
+    let r = c.in_ok-read_fields.ensures.ok in
     let q = c.end_struct.ensures in
-    struct_tight c.end_struct.result c.args.structs.now c.push_fields.new.structs c.end_struct.new.structs e.marks e.tight q.values q.booleans
+    let all = row-filled c.args.count c.args.own.now r.0 b.values.items c.read_fields.new.structs.values.items c.fill_fields.new.structs.values.items (rw n at (children_tight b c.requires.tight)) r.2 c.in_ok-fill_fields.ensures.ok in
+    struct_tight c.end_struct.result b c.fill_fields.new.structs c.end_struct.new.structs (c.fill_fields.ensures.marks ∙ c.read_fields.ensures.marks) (rw n all.1) q.values q.booleans
 
-pub push_members-returns-clause-ok : goal.push_members-returns-clause-ok
-push_members-returns-clause-ok t c =
-    let e = c.in_ok-push_fields.ensures in
+pub push_struct-returns-clause-ok : goal.push_struct-returns-clause-ok
+push_struct-returns-clause-ok t c =
     let b = c.args.structs.now in
     let own = c.args.own.now in
+    let new = c.fill_fields.new.structs in
+    let r = c.in_ok-read_fields.ensures.ok in
+    let all = row-filled c.args.count own r.0 b.values.items c.read_fields.new.structs.values.items new.values.items (rw c.requires.count at (children_tight b c.requires.tight)) r.2 c.in_ok-fill_fields.ensures.ok in
     let n = suits_length c.args.below.now b.values.items c.requires.suits in
-    let wide : length b.values.items ≡ length own = omega (arith, n, c.requires.wide) in
-    struct_taken c.end_struct.result b c.push_fields.new.structs own c.args.members.now _ e.marks c.requires.tight c.requires.names wide (as-many-shapes b.values.items c.push_fields.new.structs.values.items e.shapes)
-    (row-of own c.args.members.now c.lend_members.new.found lent.Null b.values.items c.push_fields.new.structs.values.items c.lend_members.ensures wide e.ok) c.end_struct.ensures.ok
+    let same : length own ≡ length c.args.below.now = search rules in
+    let wide : length b.values.items ≡ length own = omega (arith, n, same) in
+    let shapes = c.fill_fields.ensures.shapes ∙ c.read_fields.ensures.shapes in
+    read_into c.end_struct.result (object_at (value_at c.args.depth)) c.args.reader.now c.read_fields.new.reader (object r.0) (Struct b) (Struct c.end_struct.new.structs) r.1
+    (struct_taken c.end_struct.result b new own r.0 _ (c.fill_fields.ensures.marks ∙ c.read_fields.ensures.marks) c.requires.tight c.requires.names wide (as-many-shapes b.values.items new.values.items shapes) all.0 c.end_struct.ensures.ok)
 
-pub push_fields-loop-i-init : goal.push_fields-loop-i-init
-push_fields-loop-i-init t c = record { marks = refl; shapes = refl; tight = c.requires.tight; row = row-start c.args.found.now c.args.structs.now.values.items }
+pub read_fields-returns-then-closes-clause-ok : goal.read_fields-returns-then-closes-clause-ok
+read_fields-returns-then-closes-clause-ok t c =
+    let n = suits_length c.args.below.now c.args.structs.now.values.items c.requires.suits in
+    no-members c.args.depth c.args.own.now c.args.reader.now c.closes.new.reader c.args.structs.now.values.items (omega (arith, n, c.requires.wide)) c.if-closes.ensures.found
 
-pub push_fields-mut_values-requires : goal.push_fields-mut_values-requires
-push_fields-mut_values-requires t c =
-    let n = as-many-shapes _ _ c.loop-i.invariant.shapes in
+pub read_fields-loop-at-init : goal.read_fields-loop-at-init
+read_fields-loop-at-init t c =
+    let f = c.if-closes.ensures in
+    let n = suits_length c.args.below.now c.args.structs.now.values.items c.requires.suits in
+    record {
+      marks = refl;
+      shapes = refl;
+      forward = f.forward;
+      reads = members-start c.args.depth c.args.own.now c.args.reader.now c.closes.new.reader c.args.structs.now.values.items (omega (arith, n, c.requires.wide)) f.found.0 f.found.1;
+    }
+
+pub read_fields-read_field-requires : goal.read_fields-read_field-requires
+read_fields-read_field-requires t c =
+    let d = c.decreases in
+    let i = c.loop-at.invariant in
+    let begins = c.in_ok-at.ensures.reads in
+    let old = c.args.structs.now.values.items in
+    let now = c.loop-at.structs.values.items in (
+      omega arith,
+      (index-within c.args.own.now begins.0 c.in_ok-at.at (length c.args.below.now) begins.1 c.requires.wide, (suits_same c.args.below.now old now i.shapes c.requires.suits, tight-so_far c.args.count _ old now c.requires.tight i.reads.4)),
+    )
+
+pub read_fields-returns-in_err-read_field-clause-shapes : goal.read_fields-returns-in_err-read_field-clause-shapes
+read_fields-returns-in_err-read_field-clause-shapes t c = c.read_field.ensures.shapes ∙ c.loop-at.invariant.shapes
+
+pub read_fields-returns-in_err-read_field-clause-marks : goal.read_fields-returns-in_err-read_field-clause-marks
+read_fields-returns-in_err-read_field-clause-marks t c = c.read_field.ensures.marks ∙ c.loop-at.invariant.marks
+
+pub read_fields-returns-in_err-goes_on-clause-shapes : goal.read_fields-returns-in_err-goes_on-clause-shapes
+read_fields-returns-in_err-goes_on-clause-shapes t c = c.read_field.ensures.shapes ∙ c.loop-at.invariant.shapes
+
+pub read_fields-returns-in_err-goes_on-clause-marks : goal.read_fields-returns-in_err-goes_on-clause-marks
+read_fields-returns-in_err-goes_on-clause-marks t c = c.read_field.ensures.marks ∙ c.loop-at.invariant.marks
+
+pub read_fields-returns-then-not-branch-clause-shapes : goal.read_fields-returns-then-not-branch-clause-shapes
+read_fields-returns-then-not-branch-clause-shapes t c = c.read_field.ensures.shapes ∙ c.loop-at.invariant.shapes
+
+pub read_fields-returns-then-not-branch-clause-marks : goal.read_fields-returns-then-not-branch-clause-marks
+read_fields-returns-then-not-branch-clause-marks t c = c.read_field.ensures.marks ∙ c.loop-at.invariant.marks
+
+pub read_fields-returns-then-not-branch-clause-ok : goal.read_fields-returns-then-not-branch-clause-ok
+read_fields-returns-then-not-branch-clause-ok t c =
+    let i = c.loop-at.invariant in
+    let f = rw c.if-not-branch.true at c.in_ok-goes_on.ensures.found in
+    members-end c.args.depth c.args.count c.in_ok-at.at c.args.own.now c.args.reader.now c.loop-at.reader c.read_name.new.reader c.read_field.new.reader c.goes_on.new.reader c.args.structs.now.values.items c.loop-at.structs.values.items c.read_field.new.structs.values.items
+    c.requires.distinct c.requires.tight i.reads c.in_ok-at.ensures.reads (omega (arith, c.read_field.ensures.forward, c.in_ok-at.ensures.forward)) c.in_ok-read_field.ensures.ok f.0
+
+pub read_fields-loop-at-preserved : goal.read_fields-loop-at-preserved
+read_fields-loop-at-preserved t c =
+    let i = c.loop-at.invariant in
+    let f = rw c.if-not-branch.false at c.in_ok-goes_on.ensures.found in
+    record {
+      marks = c.read_field.ensures.marks ∙ i.marks;
+      shapes = c.read_field.ensures.shapes ∙ i.shapes;
+      forward = omega (arith, c.in_ok-goes_on.ensures.forward, c.read_field.ensures.forward, c.in_ok-at.ensures.forward, i.forward);
+      reads = members-next c.args.depth c.args.count c.in_ok-at.at c.args.own.now c.args.reader.now c.loop-at.reader c.read_name.new.reader c.read_field.new.reader c.goes_on.new.reader c.args.structs.now.values.items c.loop-at.structs.values.items c.read_field.new.structs.values.items
+          c.requires.distinct c.requires.tight i.reads c.in_ok-at.ensures.reads (omega (arith, c.read_field.ensures.forward, c.in_ok-at.ensures.forward)) c.in_ok-read_field.ensures.ok f;
+    }
+
+pub read_field-mut_values-requires : goal.read_field-mut_values-requires
+read_field-mut_values-requires t c =
     let s = suits_length c.args.below.now c.args.structs.now.values.items c.requires.suits in
-    let v = c.loop-i.structs.values.ok in
-    omega (arith, s, n, v.0, c.loop-i-test.true)
+    let lt = rw c.in-Some.is at c.requires.within in
+    let v = c.args.structs.now.values.ok in
+    omega (arith, s, v.0, lt)
 
-pub push_fields-push_lent-requires : goal.push_fields-push_lent-requires
-push_fields-push_lent-requires t c =
-    let inv = c.loop-i.invariant in
-    let v = c.mut_values.ensures.value in
-    let i = c.loop-i.i in
+pub read_field-push_once-requires : goal.read_field-push_once-requires
+read_field-push_once-requires t c =
+    let i = c.in-Some.i in
     let ns = c.args.below.now in
-    let bs = c.loop-i.structs.values.items in
+    let bs = c.args.structs.now.values.items in
     let names = c.index-below-i.result in
     let b = c.mut_values.result.now in
-    let us = suits_same ns c.args.structs.now.values.items bs inv.shapes c.requires.suits in
-    let n = suits_length ns bs us in
-    let lt = c.loop-i-test.true in
+    let v = c.mut_values.ensures.value in
+    let n = suits_length ns bs c.requires.suits in
+    let lt : i < length ns = rw c.in-Some.is at c.requires.within in
     let m = at_most the_size ns i names lt in
     let d = c.decreases in
     let is = c.index-below-i.is in
     let q = ap the_size is in
-    let suits = subst (λ n. Suits n (shape b)) (sym is) (subst (λ (x : MutableArray). Suits (get_or ns i names) (shape x)) (sym v) (suits_at ns bs i names b lt us)) in
-    let tight = subst IsTight (sym v) (part-at _ i bs b inv.tight (omega (arith, n, lt))).1 in
+    let suits = subst (λ n. Suits n (shape b)) (sym is) (subst (λ (x : MutableArray). Suits (get_or ns i names) (shape x)) (sym v) (suits_at ns bs i names b lt c.requires.suits)) in
+    let tight = subst IsTight (sym v) (tight-at bs i b (omega (arith, n, lt)) c.requires.tight) in
     (omega arith, (suits, tight))
 
-pub push_fields-returns-in_err-push_lent-clause-shapes : goal.push_fields-returns-in_err-push_lent-clause-shapes
-push_fields-returns-in_err-push_lent-clause-shapes t c =
-    shapes-step c.loop-i.structs.values.items c.loop-i.i c.mut_values.result.now c.push_lent.new.builder _ c.mut_values.ensures.value c.in_err-push_lent.ensures.same_shape c.loop-i.invariant.shapes
+pub read_field-returns-in-Some-clause-shapes : goal.read_field-returns-in-Some-clause-shapes
+read_field-returns-in-Some-clause-shapes t c =
+    shapes-step c.args.structs.now.values.items c.in-Some.i c.mut_values.result.now c.push_once.new.builder _ c.mut_values.ensures.value c.push_once.ensures.same_shape refl
 
-pub push_fields-loop-i-preserved : goal.push_fields-loop-i-preserved
-push_fields-loop-i-preserved t c =
-    let inv = c.loop-i.invariant in
-    let v = c.mut_values.ensures.value in
-    let i = c.loop-i.i in
-    let ns = c.args.below.now in
-    let old = c.args.structs.now.values.items in
-    let bs = c.loop-i.structs.values.items in
-    let b = c.mut_values.result.now in
-    let x = c.push_lent.new.builder in
-    let e = c.in_ok-push_lent.ensures in
-    let l = c.index-found-i.result in
-    let us = suits_same ns old bs inv.shapes c.requires.suits in
-    let n = suits_length ns bs us in
-    let m = as-many-shapes old bs inv.shapes in
-    let s = suits_length ns old c.requires.suits in
-    let lt = c.loop-i-test.true in
-    let one = took-one (lent_value l) b x e.ok in
-    let was = part-at _ i bs b inv.tight (omega (arith, n, lt)) in
-    let long : length (builder_slots b) ≡ length (builder_slots (get_or bs i b)) = ap (λ (y : MutableArray). length (builder_slots y)) v in
-    record {
-      marks = inv.marks;
-      shapes = shapes-step bs i b x _ v e.same_shape inv.shapes;
-      tight = rw (add-one i) (part-next _ i bs x inv.tight (omega (arith, n, lt)) (omega (arith, one, long, was.0)) e.tight);
-      row = row-step i c.args.found.now old bs l b x (omega (arith, lt, s)) m (omega (arith, s, c.requires.room)) v c.index-found-i.is e.ok inv.row;
-    }
-
-pub push_fields-returns-clause-tight : goal.push_fields-returns-clause-tight
-push_fields-returns-clause-tight t c =
-    let inv = c.loop-i.invariant in
-    let s = suits_length c.args.below.now c.args.structs.now.values.items c.requires.suits in
-    let m = as-many-shapes c.args.structs.now.values.items c.loop-i.structs.values.items inv.shapes in
-    part-all _ c.loop-i.i c.loop-i.structs.values.items (omega (arith, s, m, c.loop-i-test.false)) inv.tight
-
-pub push_fields-returns-clause-ok : goal.push_fields-returns-clause-ok
-push_fields-returns-clause-ok t c =
-    let s = suits_length c.args.below.now c.args.structs.now.values.items c.requires.suits in
-    row-end c.loop-i.i c.args.found.now c.args.structs.now.values.items c.loop-i.structs.values.items (omega (arith, s, c.loop-i-test.false)) c.loop-i.invariant.row
+pub read_field-returns-in-Some-clause-ok : goal.read_field-returns-in-Some-clause-ok
+read_field-returns-in-Some-clause-ok t c =
+    let e = c.push_once.ensures in
+    let bs = c.args.structs.now.values.items in
+    let n = suits_length c.args.below.now bs c.requires.suits in
+    let lt = rw c.in-Some.is at c.requires.within in
+    read-at c.push_once.result c.args.depth c.args.count c.args.at c.in-Some.i c.args.reader.now c.push_once.new.reader bs _ c.mut_values.result.now c.push_once.new.builder c.in-Some.is (omega (arith, n, lt)) refl c.mut_values.ensures.value e.ok e.once e.tight

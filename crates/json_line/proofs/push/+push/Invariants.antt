@@ -1,25 +1,29 @@
--- The items before those that are left, and the first children, took their values.
-use Rattle.std.proofs.Common.{◌≡◌, length, map}
+-- The items, and the members, that were read so far were taken.
+use Rattle.std.proofs.Common.{◌≡◌, ◌≤◌, length, map}
 use Rattle.arrow_builders.specs.Shapes.{shape}
 use Rattle.arrow_builders.specs.Tight.{IsTight}
 use Rattle.json_line.proofs.Batches.{ItemsSoFar}
-use Rattle.json_line.proofs.Rows.{PartTight, TakesSoFar}
+use Rattle.json_line.proofs.Rows.{MembersSoFar}
 use Rattle.json_line.proofs.push.+push.Given as goal
 
-abbrev pub invariant-push_items-loop-item : goal.invariant-push_items-loop-item
-invariant-push_items-loop-item l = record {
+abbrev pub invariant-push_items-loop-reader : goal.invariant-push_items-loop-reader
+invariant-push_items-loop-reader l = record {
   same_shape : shape l.builder ≡ shape l.fn.builder;
   tight : IsTight l.builder;
-  taken : ItemsSoFar l.items l.left l.fn.builder l.builder;
+  forward : length l.reader ≤ length l.fn.reader;
+  reads : ItemsSoFar l.depth l.fn.reader l.reader l.fn.builder l.builder;
 }
 
-abbrev pub decreases-push_items-loop-item : goal.decreases-push_items-loop-item
-decreases-push_items-loop-item l = length l.left
+abbrev pub decreases-push_items-loop-reader : goal.decreases-push_items-loop-reader
+decreases-push_items-loop-reader l = length l.reader
 
-abbrev pub invariant-push_fields-loop-i : goal.invariant-push_fields-loop-i
-invariant-push_fields-loop-i l = record {
+abbrev pub invariant-read_fields-loop-at : goal.invariant-read_fields-loop-at
+invariant-read_fields-loop-at l = record {
   marks : l.structs.marks ≡ l.fn.structs.marks;
   shapes : map shape l.structs.values.items ≡ map shape l.fn.structs.values.items;
-  tight : PartTight (length l.fn.structs.marks.booleans) l.i l.structs.values.items;
-  row : TakesSoFar l.i l.found l.fn.structs.values.items l.structs.values.items;
+  forward : length l.reader ≤ length l.fn.reader;
+  reads : MembersSoFar l.depth l.own l.fn.reader l.reader l.fn.structs.values.items l.structs.values.items;
 }
+
+abbrev pub decreases-read_fields-loop-at : goal.decreases-read_fields-loop-at
+decreases-read_fields-loop-at l = length l.reader

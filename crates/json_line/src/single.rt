@@ -1,0 +1,78 @@
+//! Values that are lent, and then pushed.
+ghost use Rattle.std.specs.Prelude.{◌≡◌, ◌≤◌, ℕ, List, length, OnOk};
+ghost use Rattle.arrow_builders.specs.Shapes.{shape};
+ghost use Rattle.arrow_builders.specs.Tight.{IsTight};
+ghost use Rattle.json_tree.specs.Reading.{value_at};
+ghost use Rattle.json_line.specs.declared.field_names.FieldNames.{FieldNames};
+ghost use Rattle.json_line.specs.Builders.{ReadsInto, SuitsFields, SuitsItems};
+
+use crate::ends::push_null;
+use crate::flat::push_flat;
+use crate::given_up::GivenUp;
+use arrow_builders::MutableArray;
+use json_lend::{Lent, lend};
+use json_tree::reader::Reader;
+use std::alloc::Global;
+
+/// Reads a value, to a builder without children.
+#[inline(always)]
+pub(crate) fn push_single<'a>(
+    alloc: Global,
+    reader: &mut Reader<'a>,
+    depth: usize,
+    builder: &mut MutableArray,
+) -> Result<(), GivenUp>
+    ensures same_shape { shape builder.new ≡ shape builder.old }
+    ensures tight { OnOk result (IsTight builder.new) }
+    ensures forward { length reader.new ≤ length reader.old }
+    ensures ok { OnOk result
+        (ReadsInto (value_at depth) reader.old reader.new builder.old builder.new) }
+{
+    let lent = lend(reader, depth)?;
+    push_flat(alloc, builder, &lent)
+}
+
+/// Reads a value, to a builder of lists, which takes a null. An array is given up.
+#[inline(never)]
+pub(crate) fn push_no_list<'a>(
+    reader: &mut Reader<'a>,
+    depth: usize,
+    builder: &mut MutableArray,
+) -> Result<(), GivenUp>
+    requires suits { (names : FieldNames) × SuitsItems names (shape builder.old) }
+    requires tight { IsTight builder.old }
+    ensures same_shape { shape builder.new ≡ shape builder.old }
+    ensures tight { OnOk result (IsTight builder.new) }
+    ensures forward { length reader.new ≤ length reader.old }
+    ensures ok { OnOk result
+        (ReadsInto (value_at depth) reader.old reader.new builder.old builder.new) }
+{
+    let lent = lend(reader, depth)?;
+    match lent {
+        Lent::Array(_) => Err(GivenUp),
+        _ => push_null(builder),
+    }
+}
+
+/// Reads a value, to a builder of structs, which takes a null. An object is given up.
+#[inline(never)]
+pub(crate) fn push_no_struct<'a>(
+    reader: &mut Reader<'a>,
+    depth: usize,
+    builder: &mut MutableArray,
+) -> Result<(), GivenUp>
+    requires suits { (own : List (List ℕ)) × (below : List FieldNames)
+        × SuitsFields own below (shape builder.old) }
+    requires tight { IsTight builder.old }
+    ensures same_shape { shape builder.new ≡ shape builder.old }
+    ensures tight { OnOk result (IsTight builder.new) }
+    ensures forward { length reader.new ≤ length reader.old }
+    ensures ok { OnOk result
+        (ReadsInto (value_at depth) reader.old reader.new builder.old builder.new) }
+{
+    let lent = lend(reader, depth)?;
+    match lent {
+        Lent::Object(_) => Err(GivenUp),
+        _ => push_null(builder),
+    }
+}

@@ -1,0 +1,82 @@
+//! Lines that are read without a tree, and lines that are given up.
+use crate::samples::{builders, field, has_texts, large_list, list, pair, read};
+use arrow_types::{DataType, TimeUnit};
+use std::alloc::Global;
+use std::process::Abort;
+
+#[test]
+fn members_are_read_by_name(rt: HostRuntime) {
+    let alloc = rt.alloc();
+    let mut kept = builders(
+        &rt,
+        alloc,
+        DataType::Boolean,
+        DataType::UInt8,
+        DataType::Utf8,
+    );
+    let one = "{\"b\":2.55e2,\"c\":\"x\\n\",\"d\":[{}],\"a\":true}";
+    let columns = read(
+        &rt,
+        alloc,
+        &mut kept,
+        one,
+        " { \"\\u0061\" : 7 , \"c\":-1.50} ",
+    );
+    let wanted: [&[u8]; 3] = [b"true,null", b"255,null", b"\"x\\n\",\"-1.50\""];
+    assert!(rt; has_texts(&rt, alloc, columns, wanted));
+    // Other lines, by builders that were used.
+    let columns = read(
+        &rt,
+        alloc,
+        &mut kept,
+        "{}",
+        "{\"a\":false,\"b\":1,\"c\":\"\"}",
+    );
+    let wanted: [&[u8]; 3] = [b"null,false", b"null,1", b"null,\"\""];
+    assert!(rt; has_texts(&rt, alloc, columns, wanted));
+}
+
+/// A Struct of `n`, Int32, and `p`, a List of Int64.
+fn record(rt: &impl Abort, alloc: Global) -> DataType {
+    let n = field(rt, alloc, "n", DataType::Int32);
+    let p = field(rt, alloc, "p", list(rt, alloc, DataType::Int64));
+    pair(rt, alloc, n, p)
+}
+
+#[test]
+fn lists_and_records_are_read_at_every_depth(rt: HostRuntime) {
+    let alloc = rt.alloc();
+    let a = list(&rt, alloc, record(&rt, alloc));
+    let b = large_list(&rt, alloc, DataType::Utf8);
+    let r = field(&rt, alloc, "r", record(&rt, alloc));
+    let c = pair(&rt, alloc, field(&rt, alloc, "n", DataType::Int8), r);
+    let mut kept = builders(&rt, alloc, a, b, c);
+    let one =
+        "{\"a\":[{\"n\":1,\"p\":[2,3]},{\"p\":[ ],\"u\":[{}],\"n\":4},7,{},null],\"b\":[\"x\",[2],true],\"c\":{\"r\":{\"p\":[5]},\"n\":6}}";
+    let columns = read(&rt, alloc, &mut kept, one, "{\"a\":{},\"c\":3,\"b\":[]}");
+    let wanted: [&[u8]; 3] = [
+        b"[{\"n\":1,\"p\":[2,3]},{\"n\":4,\"p\":[]},null,{\"n\":null,\"p\":null},null],null",
+        b"[\"x\",null,\"true\"],[]",
+        b"{\"n\":6,\"r\":{\"n\":null,\"p\":[5]}},null",
+    ];
+    assert!(rt; has_texts(&rt, alloc, columns, wanted));
+}
+
+#[test]
+fn some_lines_are_given_up(rt: HostRuntime) {
+    let alloc = rt.alloc();
+    let moment = DataType::Timestamp(TimeUnit::Second, None);
+    let mut kept = builders(&rt, alloc, moment, DataType::Int16, DataType::Date32);
+    for line in [
+        "{\"a\":\"x\"}",
+        "{\"b\":1,\"b\":2}",
+        "{\"b\":32768}",
+        "[]",
+        "{\"c\":1",
+    ] {
+        assert!(rt; read(&rt, alloc, &mut kept, "{}", line).is_err(), "{line}");
+    }
+    let columns = read(&rt, alloc, &mut kept, "{\"a\":1}", "{\"b\":2}");
+    let wanted: [&[u8]; 3] = [b"\"1970-01-01 00:00:01\",null", b"null,2", b"null,null"];
+    assert!(rt; has_texts(&rt, alloc, columns, wanted));
+}
