@@ -3,4 +3,5 @@ pub mod Items
 pub mod KnownSchemas
 pub mod Lines
 pub mod Members
+pub mod RowLines
 pub mod Types

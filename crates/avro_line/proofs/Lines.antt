@@ -45,7 +45,7 @@ pub record IsHere (is_first : Bool) (a : AvroField) (avro_fields : List AvroFiel
   pub are_within : AreWithin field.data_type within
   pub prepared : ArePreparedFrom false avro_fields others after
 
-is_here : (b : Bool) (a : AvroField) (avros : List AvroField) (fs : List Field) (columns : List Column) (column : Column) (within after : List Column) → ArePreparedFrom b (a ∷ avros) fs columns → IsNextColumn columns column within after → IsHere b a avros fs column within after
+pub is_here : (b : Bool) (a : AvroField) (avros : List AvroField) (fs : List Field) (columns : List Column) (column : Column) (within after : List Column) → ArePreparedFrom b (a ∷ avros) fs columns → IsNextColumn columns column within after → IsHere b a avros fs column within after
 is_here b a avros [] columns column within after h n = absurd h.typed
 is_here b a avros (f ∷ fs) columns column within after h n =
     let named : AreNamedFrom b (f.name ∷ map (λ g. g.name) fs) (f.data_type ∷ map (λ g. g.data_type) fs) (column ∷ n.0) = subst (AreNamedFrom b (f.name ∷ map (λ g. g.name) fs) (f.data_type ∷ map (λ g. g.data_type) fs)) n.1 h.named in
@@ -64,7 +64,7 @@ is_here b a avros (f ∷ fs) columns column within after h n =
 abbrev pub opening_of : Bool → List ℕ
 opening_of is_first = if is_first then codes "{" else codes ","
 
-keyed : (b : Bool) (name v out key with_key now : List ℕ) → with_key ≡ out ++ key → key ≡ key_of b name → now ≡ with_key ++ v → now ≡ (out ++ opening_of b) ++ member name v
+pub keyed : (b : Bool) (name v out key with_key now : List ℕ) → with_key ≡ out ++ key → key ≡ key_of b name → now ≡ with_key ++ v → now ≡ (out ++ opening_of b) ++ member name v
 keyed b name v out key with_key now e k d =
     d ∙ ap (λ z. z ++ v) (e ∙ ap (λ z. out ++ z) k) ∙ regroup out (opening_of b) (json_string name) (codes ":") v
   where
@@ -131,7 +131,7 @@ fields_next avro_fields columns k a rest_columns column within after_columns bef
     }
 
 -- no fields have a column
-some_field : (avro_fields : List AvroField) (fields : List Field) (columns : List Column) → (length columns ≡ 0 → ⊥) → ArePrepared avro_fields fields columns → 0 < length fields
+pub some_field : (avro_fields : List AvroField) (fields : List Field) (columns : List Column) → (length columns ≡ 0 → ⊥) → ArePrepared avro_fields fields columns → 0 < length fields
 some_field avros [] columns some p = absurd (some p.named)
 some_field avros (f ∷ fs) columns some p = omega arith
 
@@ -144,7 +144,7 @@ no_fields b k avros fs columns e p =
     nothing [] q = refl
     nothing (f ∷ fs) q = absurd q.typed
 
-closed : (fs : List Field) (xs : List Slot) (old body new : List ℕ) → 0 < length fs → length xs ≡ length fs → body ≡ old ++ begun (codes "{") (field_members fs xs) → new ≡ body ++ codes "}" → new ≡ old ++ object (field_members fs xs)
+pub closed : (fs : List Field) (xs : List Slot) (old body new : List ℕ) → 0 < length fs → length xs ≡ length fs → body ≡ old ++ begun (codes "{") (field_members fs xs) → new ≡ body ++ codes "}" → new ≡ old ++ object (field_members fs xs)
 closed [] xs old body new some many e d = absurd (omega (arith, some))
 closed (f ∷ fs) [] old body new some many e d = absurd (omega (arith, many))
 closed (f ∷ fs) (x ∷ xs) old body new some many e d =
