@@ -1,5 +1,5 @@
 -- Booleans, numbers and strings that were shown.
-use Rattle.std.proofs.Common.{◌≡◌, ℕ, zero, suc, ◌<◌, ◌≤◌, ◌==◌, ℤ, pos, negsuc, Bool, true, false, List, [], ◌∷◌, ◌++◌, length, take, drop, codes, Option, Some, None, Result, Ok, Err, OnOk, refl, sym, ap, ◌∙◌, subst, w32, arith}
+use Rattle.std.proofs.Common.{◌≡◌, ℕ, zero, suc, ◌≤◌, ◌==◌, ℤ, pos, negsuc, true, false, List, ◌∷◌, ◌++◌, length, take, drop, codes, Option, Some, None, Result, Ok, Err, OnOk, refl, sym, ap, ◌∙◌, subst, w32, arith}
 use mir.Val.{SFits}
 use Rattle.std.specs.Prelude.{if◌then◌else◌}
 use Rattle.std.specs.Str.{is_utf8, IsUtf8}
@@ -9,7 +9,6 @@ use Rattle.std.proofs.lemmas.Str.{is_utf8-from_IsUtf8}
 use Rattle.arrow_base.specs.WrittenString.{json_string}
 use Rattle.arrow_types.specs.declared.slot.Slot.{Slot}
 use Rattle.arrow_types.specs.declared.slot.Slot.TheVariants as slot
-use Rattle.arrow_types.specs.declared.types.DataType.{DataType}
 use Rattle.arrow_types.specs.declared.types.DataType.TheVariants.{Boolean, Utf8}
 use Rattle.avro_schema.specs.declared.schema.IntLogical.{IntLogical}
 use Rattle.avro_schema.specs.declared.schema.IntLogical.TheVariants as int_logical
@@ -17,11 +16,10 @@ use Rattle.avro_schema.specs.declared.schema.LongLogical.{LongLogical}
 use Rattle.avro_schema.specs.declared.schema.LongLogical.TheVariants as long_logical
 use Rattle.avro_schema.specs.declared.schema.Schema.{Schema, Int, Long}
 use Rattle.avro_grammar.specs.AndThen.{◌>>=◌}
-use Rattle.avro_grammar.specs.Inferred.{inferred}
 use Rattle.avro_grammar.specs.Types.{int_type, long_type}
 use Rattle.avro_reference.specs.Lengths.{as_length, length_at}
 use Rattle.avro_reference.specs.Prefix.{number_at, bytes_at, counted_at, sized_at}
-use Rattle.avro_reference.specs.Read.{boolean_at, is_int, int_at, long_at, string_at, read}
+use Rattle.avro_reference.specs.Read.{boolean_at, is_int, int_at, long_at, string_at}
 use Rattle.json_text.specs.declared.integers.IntegerForm.{IntegerForm}
 use Rattle.json_text.specs.Columns.{IsForm}
 use Rattle.avro_line.specs.Values.{ShowsSlot, AddsInteger, IsPlainForm, ShowsIntegers, ShowsFlat}

@@ -1,5 +1,5 @@
 -- Items of an array that were shown, one after another.
-use Rattle.std.proofs.Common.{◌≡◌, ℕ, zero, suc, ◌+◌, ◌-◌, ◌<◌, ◌≤◌, ◌==◌, ℤ, pos, negsuc, Bool, true, false, ◌&&◌, List, [], ◌∷◌, ◌++◌, length, map, codes, Option, Some, None, Result, Ok, Err, OnOk, refl, sym, ap, ◌∙◌, subst, append_assoc, append-nil, add-one, arith}
+use Rattle.std.proofs.Common.{◌≡◌, ℕ, suc, ◌+◌, ◌-◌, ◌<◌, ◌≤◌, ◌==◌, ℤ, pos, negsuc, Bool, true, false, List, [], ◌∷◌, ◌++◌, length, map, codes, Option, Some, None, Result, Ok, Err, OnOk, refl, sym, ap, ◌∙◌, subst, append_assoc, append-nil, arith}
 use Rattle.std.specs.Prelude.{if◌then◌else◌}
 use Rattle.std.specs.List.{list_all}
 use Rattle.std.proofs.lemmas.Bool.Decides.{nat_tests}
@@ -16,10 +16,10 @@ use Rattle.avro_reference.specs.Read.{push_one, items, block_items, blocks, arra
 use Rattle.json_text.specs.declared.columns.Column.{Column}
 use Rattle.json_text.specs.declared.integers.IntegerForm.{IntegerForm}
 use Rattle.json_text.specs.Columns.{AreWithin, IsForm}
-use Rattle.json_text.specs.JsonText.{array, joined, text}
+use Rattle.json_text.specs.JsonText.{joined, text}
 use Rattle.json_text.specs.Refusals.{in_range}
 use Rattle.json_text.proofs.Records.{and_both}
-use Rattle.avro_line.specs.Values.{ShowsSlot, ShowsValue, ShowsItems, ShowsItemsOf, ShowsList, ShowsArray}
+use Rattle.avro_line.specs.Values.{ShowsSlot, ShowsValue, ShowsItems, ShowsItemsOf, ShowsArray}
 
 -- ---- texts with commas between them
 

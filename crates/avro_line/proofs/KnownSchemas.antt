@@ -1,5 +1,5 @@
 -- Schemas of which nothing is an enum.
-use Rattle.std.proofs.Common.{◌≡◌, ℕ, ◌+◌, ◌<◌, ◌≤◌, Bool, true, false, List, length, get_or, All, subst, sym, arith}
+use Rattle.std.proofs.Common.{◌≡◌, Bool, List, All, subst, sym}
 use Rattle.std.specs.Prelude.{IsTrue}
 use Rattle.avro_schema.specs.declared.schema.AvroField.{AvroField}
 use Rattle.avro_schema.specs.declared.schema.Record.{Record as TheRecord, out-Record}

@@ -1,34 +1,25 @@
 -- Fields of records and rows that were shown, one after another, and rows.
-use Rattle.std.proofs.Common.{◌≡◌, ℕ, zero, suc, ◌+◌, ◌-◌, ◌<◌, ◌≤◌, ◌==◌, Bool, true, false, ◌&&◌, List, [], ◌∷◌, ◌++◌, length, map, take, drop, get_or, codes, Option, Some, None, Result, Ok, Err, OnOk, refl, sym, ap, ◌∙◌, subst, append_assoc, append-nil, arith}
+use Rattle.std.proofs.Common.{◌≡◌, ℕ, suc, ◌+◌, ◌<◌, Bool, true, false, List, [], ◌∷◌, ◌++◌, length, map, drop, get_or, codes, Option, Some, refl, sym, ap, ◌∙◌, subst, append_assoc, append-nil, arith}
 use Rattle.std.specs.Prelude.{if◌then◌else◌, option_and_then}
-use Rattle.std.specs.List.{list_all}
 use Rattle.std.proofs.Math.Seq.{drop-length}
 use Rattle.arrow_base.specs.WrittenString.{json_string}
 use Rattle.arrow_types.specs.declared.slot.Slot.{Slot}
 use Rattle.arrow_types.specs.declared.slot.Slot.TheVariants as slot
-use Rattle.arrow_types.specs.declared.types.DataType.{DataType}
 use Rattle.arrow_types.specs.declared.types.DataType.TheVariants as types
 use Rattle.arrow_types.specs.declared.types.Field.{Field}
 use Rattle.avro_schema.specs.declared.schema.AvroField.{AvroField}
-use Rattle.avro_schema.specs.declared.schema.Schema.{Schema}
 use Rattle.avro_grammar.specs.Inferred.{inferred}
-use Rattle.avro_grammar.specs.Parts.{Many}
-use Rattle.avro_grammar.specs.Rows.{Pieces, no_pieces, with_kept, with_skipped, Row, Rows}
-use Rattle.avro_grammar.specs.ValidBlock.{kept}
-use Rattle.avro_reference.specs.Listed.{read_fields_of, read_record_of}
+use Rattle.avro_reference.specs.Listed.{read_fields_of}
 use Rattle.avro_reference.specs.Read.{push_one, read}
-use Rattle.avro_reference.proofs.SkippedValues.{skip_sound}
-use Rattle.avro_reference.proofs.Values.{read_sound}
 use Rattle.json_text.specs.declared.columns.Column.{Column}
 use Rattle.json_text.specs.Columns.{AreNamedFrom, AreWithin, IsForm, key_bytes, key_of}
 use Rattle.json_text.specs.JsonText.{field_members, joined, member, object, text}
-use Rattle.json_text.specs.Refusals.{all_in_range, in_range}
+use Rattle.json_text.specs.Refusals.{all_in_range}
 use Rattle.json_text.proofs.Beneath.{struct_in_range}
 use Rattle.json_text.proofs.ColumnLemmas.{here}
 use Rattle.json_text.proofs.Forms.{struct_is}
 use Rattle.json_text.proofs.Records.{and_both}
-use Rattle.json_write.specs.Rows.{lines, members, names_of, row_object, texts}
-use Rattle.avro_line.specs.Rows.{ArePreparedFrom, ArePrepared, SkipsTo, ShowsRow, ShowsLine, ShowsTable, ShowsLines, ShowsRows}
+use Rattle.avro_line.specs.Rows.{ArePreparedFrom, ArePrepared}
 use Rattle.avro_line.specs.Values.{ShowsSlot, ShowsValue, ShowsRecord, IsNextColumn}
 use Rattle.avro_line.proofs.Items.{begun, begun_more}
 

@@ -1,6 +1,5 @@
 -- Arrays, unions and records that were shown, by the schemas that have them.
-use Rattle.std.proofs.Common.{◌≡◌, ℕ, pos, nat_abs, Bool, true, false, List, [], ◌∷◌, ◌++◌, length, Option, Some, None, Result, Ok, Err, OnOk, ◌⊎◌, inl, inr, refl, sym, ap, ◌∙◌, subst}
-use Rattle.std.specs.Prelude.{if◌then◌else◌}
+use Rattle.std.proofs.Common.{◌≡◌, ℕ, pos, Bool, true, false, List, [], ◌∷◌, ◌++◌, Some, Result, Ok, Err, OnOk, ◌⊎◌, inl, inr, refl, sym, ap, ◌∙◌, subst}
 use Rattle.arrow_types.specs.declared.slot.Slot.TheVariants as slot
 use Rattle.arrow_types.specs.declared.types.DataType.{DataType}
 use Rattle.arrow_types.specs.declared.types.DataType.TheVariants as types
@@ -8,7 +7,6 @@ use Rattle.avro_schema.specs.declared.schema.AvroField.{AvroField}
 use Rattle.avro_schema.specs.declared.schema.Record.{Record as TheRecord, out-Record}
 use Rattle.avro_schema.specs.declared.schema.Schema.{Schema, Array, Union, Record}
 use Rattle.avro_grammar.specs.Encodes.{IsNull, is_null}
-use Rattle.avro_grammar.specs.Inferred.{inferred}
 use Rattle.avro_grammar.specs.TypeLaws.{inferred_member_of}
 use Rattle.avro_grammar.proofs.Basics.{null_is, null_told}
 use Rattle.avro_grammar.proofs.InferredLemmas.{inferred_composites}

@@ -1,12 +1,11 @@
 -- Rows that were shown: field by field, and one after another.
-use Rattle.std.proofs.Common.{◌≡◌, ℕ, zero, suc, ◌+◌, ◌-◌, ◌<◌, ◌≤◌, ◌==◌, Bool, true, false, ◌&&◌, List, [], ◌∷◌, ◌++◌, length, map, drop, get_or, codes, Option, Some, refl, sym, ap, ◌∙◌, subst, append_assoc, append-nil, add-one, arith}
-use Rattle.std.specs.List.{flat_map, list_all}
+use Rattle.std.proofs.Common.{◌≡◌, ℕ, suc, ◌+◌, ◌-◌, ◌<◌, ◌≤◌, Bool, true, false, List, [], ◌∷◌, ◌++◌, length, map, drop, get_or, codes, refl, sym, ap, ◌∙◌, subst, append_assoc, append-nil, add-one, arith}
 use Rattle.std.proofs.Math.Seq.{drop-cons, drop-length}
 use Rattle.arrow_types.specs.declared.slot.Slot.{Slot}
 use Rattle.arrow_types.specs.declared.types.Field.{Field}
 use Rattle.avro_schema.specs.declared.schema.AvroField.{AvroField}
 use Rattle.avro_grammar.specs.Parts.{Many}
-use Rattle.avro_grammar.specs.Rows.{Pieces, no_pieces, with_kept, with_skipped, Row, Rows}
+use Rattle.avro_grammar.specs.Rows.{Pieces, no_pieces, with_kept, with_skipped, Row}
 use Rattle.avro_grammar.specs.ValidBlock.{kept}
 use Rattle.avro_reference.specs.Read.{read}
 use Rattle.avro_reference.proofs.SkippedValues.{skip_sound}
@@ -18,7 +17,7 @@ use Rattle.json_text.specs.Refusals.{all_in_range}
 use Rattle.json_text.proofs.ColumnLemmas.{here}
 use Rattle.json_text.proofs.Records.{and_both}
 use Rattle.json_write.specs.Rows.{lines, members, names_of, row_object, texts}
-use Rattle.avro_line.specs.Rows.{ArePreparedFrom, ArePrepared, SkipsTo, ShowsRow, ShowsLine, ShowsTable, ShowsLines, ShowsRows, ShowsRowsOf}
+use Rattle.avro_line.specs.Rows.{ArePreparedFrom, ArePrepared, SkipsTo, ShowsRow, ShowsLine, ShowsTable, ShowsLines, ShowsRowsOf}
 use Rattle.avro_line.specs.Values.{ShowsSlot, ShowsValue, IsNextColumn}
 use Rattle.avro_line.proofs.Items.{begun, begun_more}
 use Rattle.avro_line.proofs.Lines.{opening_of, keyed, is_here, some_field, closed}
@@ -151,9 +150,9 @@ row_ended avro_fields projection columns k left before rest old out new some sam
     (subst (λ (avros : List AvroField). ArePreparedFrom u.is_first (kept avros (drop k projection)) u.others left) no_fields u.prepared) in
     let none = none_left u.is_first u.others left prepared in
     let all = u.left rest out
-        (subst (λ (avros : List AvroField). RowFrom avros (drop k projection) u.others (opening_of u.is_first) rest rest out out) (sym no_fields)
-        (subst (λ (ks : List Bool). RowFrom [] ks u.others (opening_of u.is_first) rest rest out out) (sym no_flags)
-        (subst (λ (fs : List Field). RowFrom [] [] fs (opening_of u.is_first) rest rest out out) (sym none) (row_none (opening_of u.is_first) rest out)))) in
+    (subst (λ (avros : List AvroField). RowFrom avros (drop k projection) u.others (opening_of u.is_first) rest rest out out) (sym no_fields)
+    (subst (λ (ks : List Bool). RowFrom [] ks u.others (opening_of u.is_first) rest rest out out) (sym no_flags)
+    (subst (λ (fs : List Field). RowFrom [] [] fs (opening_of u.is_first) rest rest out out) (sym none) (row_none (opening_of u.is_first) rest out)))) in
     record {
       pieces = all.pieces;
       prefix = all.prefix;
