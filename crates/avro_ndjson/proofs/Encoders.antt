@@ -63,7 +63,7 @@ module _ (keep : Option (List ℕ)) (xs : List AvroField) (fs : List Field) (pro
   fits : Fits fs xs
   fits = columns_are_fit xs fs columns
 
-  lengths : length fs ≡ length xs
+  pub lengths : length fs ≡ length xs
   lengths = as_many fs xs fits
 
   pub flags : length fs ≡ length projection

@@ -11,10 +11,10 @@ use Rattle.avro_ndjson.specs.Plan.{IsPlan}
 -- Its fields are the kept ones, of which there is one, of the types of their schemas, and each of their types has a JSON
 -- text and the offsets of zones. Rows are shown without columns by the same fields.
 pub record IsEncoder (encoder : BlockEncoder) : Type 0 where
+  pub typed : AllZip (λ a f. inferred a.schema ≡ Some f.data_type) (kept encoder.decoder.avro_fields encoder.decoder.projection) encoder.lines.fields
   pub kept : encoder.lines.fields ≡ kept encoder.decoder.fields encoder.decoder.projection
   pub some : 0 < length encoder.lines.fields
   pub texts : All (λ f. has_text f.data_type ≡ true) encoder.lines.fields
   pub offsets : All (λ f. has_offsets f.data_type ≡ true) encoder.lines.fields
   pub possible : CanBeDecoded encoder.decoder
-  pub typed : AllZip (λ a f. inferred a.schema ≡ Some f.data_type) (kept encoder.decoder.avro_fields encoder.decoder.projection) encoder.lines.fields
   pub plan : IfSome encoder.plan (IsPlan encoder.decoder.avro_fields encoder.decoder.projection encoder.lines.fields)

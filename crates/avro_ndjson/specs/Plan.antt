@@ -14,7 +14,7 @@ pub record IsReady (plan : RowPlan) : Type 0 where
 
 -- it is made of these Avro fields and the columns of the kept fields, which hold no enum that a column can't
 pub record IsPlan (avro_fields : List AvroField) (projection : List Bool) (kept : List Field) (plan : RowPlan) : Type 0 where
-  pub avro_fields : plan.avro_fields.items ≡ avro_fields
-  pub projection : plan.projection.items ≡ projection
+  pub same_fields : plan.avro_fields.items ≡ avro_fields
+  pub same_projection : plan.projection.items ≡ projection
   pub columns : AreFields kept plan.columns.items
   pub symbols : KeptEnumsFit avro_fields projection
