@@ -1,7 +1,7 @@
 -- Why no encoder of a file's blocks is made, and what it is where it is made.
 use Rattle.std.proofs.Common.{◌≡◌, ◌≢◌, ◌∙◌, ◌⊎◌, inl, inr, ℕ, zero, suc, ◌+◌, ◌<◌, ◌≤◌, Bool, true, false, List, [], ◌∷◌, length, get_or, map, All, Option, Some, None, refl, sym, ap, subst, arith}
-use Rattle.std.specs.Prelude.{◌||◌}
-use Rattle.std.specs.List.{range_with_len}
+use Rattle.std.specs.Prelude.{◌||◌, IfSome}
+use Rattle.std.specs.List.{AllZip, range_with_len}
 use Rattle.std.proofs.lemmas.List.{get_or-map}
 use Rattle.std.proofs.lemmas.List.FromFn.{length-range_with_len, get_or-range_with_len}
 use Rattle.arrow_base.specs.Outside.{is_among}
@@ -11,13 +11,15 @@ use Rattle.arrow_core.specs.declared.error.Reason.TheVariants as reason
 use Rattle.arrow_types.specs.declared.types.Field.{Field}
 use Rattle.json_text.specs.Refusals.{has_text, has_offsets}
 use Rattle.avro_schema.specs.declared.schema.AvroField.{AvroField}
-use Rattle.avro_grammar.specs.Inferred.{inferred_columns}
+use Rattle.avro_grammar.specs.Inferred.{inferred, inferred_columns, own_doc}
 use Rattle.avro_grammar.specs.Types.{Fits}
 use Rattle.avro_grammar.specs.ValidBlock.{kept, KeepNoFloat}
 use Rattle.avro_grammar.proofs.KeptLemmas.{kept_by_index}
-use Rattle.avro_decode.specs.Decoder.{Projected, projected, ProjectionRefused}
+use Rattle.avro_decode.specs.Decoder.{CanBeDecoded, Projected, projected, ProjectionRefused}
+use Rattle.avro_line.proofs.Types.{HaveTypes, columns_typed}
 use Rattle.avro_ndjson.specs.Encoder.{IsEncoder}
 use Rattle.avro_ndjson.specs.declared.lines.BlockEncoder.{BlockEncoder}
+use Rattle.avro_ndjson.specs.Plan.{IsPlan}
 use Rattle.avro_ndjson.specs.Keep.{is_kept, projection_of, AreNumbers, NamesFields}
 use Rattle.avro_ndjson.specs.Refusals.{AreCarried, AreChosen, CannotBeShown}
 use Rattle.avro_ndjson.specs.Shown.{kept_of}
@@ -48,11 +50,20 @@ first_item : {A : Type 0} (xs : List A) (i : ℕ) → i < length xs → A
 first_item [] i lt = absurd (omega (arith, lt))
 first_item (x ∷ xs) i lt = x
 
+-- what is kept of two lists stands at the same places
+kept_zip : {A B : Type 0} (R : A → B → Type 0) (xs : List A) (ys : List B) (projection : List Bool) → AllZip R xs ys → AllZip R (kept xs projection) (kept ys projection)
+kept_zip R [] [] projection h = tt
+kept_zip R [] (y ∷ ys) projection h = absurd h
+kept_zip R (x ∷ xs) [] projection h = absurd h
+kept_zip R (x ∷ xs) (y ∷ ys) [] h = tt
+kept_zip R (x ∷ xs) (y ∷ ys) (true ∷ projection) h = (h.0, kept_zip R xs ys projection h.1)
+kept_zip R (x ∷ xs) (y ∷ ys) (false ∷ projection) h = kept_zip R xs ys projection h.1
+
 module _ (keep : Option (List ℕ)) (xs : List AvroField) (fs : List Field) (projection : List Bool) (chosen : AreChosen keep xs) (columns : inferred_columns xs ≡ Some fs) (same : projection ≡ kept_of keep xs) where
   fits : Fits fs xs
   fits = columns_are_fit xs fs columns
 
-  lengths : length fs ≡ length xs
+  pub lengths : length fs ≡ length xs
   lengths = as_many fs xs fits
 
   pub flags : length fs ≡ length projection
@@ -81,12 +92,19 @@ module _ (keep : Option (List ℕ)) (xs : List AvroField) (fs : List Field) (pro
       subst (λ (gs : List Field). All (λ f. has_offsets f.data_type ≡ true) gs) (sym are)
       ((kept_by_index (λ (f : Field). has_offsets f.data_type ≡ true) fs projection).1 (λ k d lt e. columns_offsets true fs xs fits k d lt))
 
-  pub made_encoder : (encoder : BlockEncoder) → encoder.decoder ≡ projected fs xs projection → encoder.lines.fields ≡ kept fs projection → All (λ f. has_text f.data_type ≡ true) encoder.lines.fields → IsEncoder encoder
-  made_encoder encoder d k texts = record {
+  kept_typed : HaveTypes (kept xs projection) (kept fs projection)
+  kept_typed = kept_zip (λ (a : AvroField) (f : Field). inferred a.schema ≡ Some f.data_type) xs fs projection (columns_typed own_doc xs fs columns)
+
+  pub made_encoder : (encoder : BlockEncoder) → encoder.decoder ≡ projected fs xs projection → encoder.lines.fields ≡ kept fs projection → All (λ f. has_text f.data_type ≡ true) encoder.lines.fields
+      → CanBeDecoded (projected fs xs projection) → IfSome encoder.plan (IsPlan xs projection (kept fs projection)) → IsEncoder encoder
+  made_encoder encoder d k texts possible plan = record {
     kept = k ∙ ap (λ (p : Projected). kept p.fields p.projection) (sym d);
     some = some_kept encoder.lines.fields k;
     texts = texts;
     offsets = kept_offsets encoder.lines.fields k;
+    possible = subst CanBeDecoded (sym d) possible;
+    typed = subst (λ (p : Projected). HaveTypes (kept p.avro_fields p.projection) encoder.lines.fields) (sym d) (subst (HaveTypes (kept xs projection)) (sym k) kept_typed);
+    plan = subst (λ (p : Projected). IfSome encoder.plan (IsPlan p.avro_fields p.projection encoder.lines.fields)) (sym d) (subst (λ (gs : List Field). IfSome encoder.plan (IsPlan xs projection gs)) (sym k) plan);
   }
 
 -- the numbers are those of fields, and some

@@ -9,6 +9,7 @@ pub mod Offsets
 pub mod OneBlock
 pub mod OneError
 pub mod OneMetadata
+pub mod Planned
 pub mod Reasons
 pub mod Steps
 pub mod Tables

@@ -1,6 +1,7 @@
 pub mod Encoder
 pub mod Keep
 pub mod Laws
+pub mod Plan
 pub mod Refusals
 pub mod Shown
 pub mod Taken

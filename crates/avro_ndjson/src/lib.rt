@@ -6,6 +6,7 @@ mod keep;
 mod laws;
 mod lines;
 mod ndjson;
+mod plan;
 
 pub use laws::conversion_answers;
 pub use ndjson::avro_to_ndjson;

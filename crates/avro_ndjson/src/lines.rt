@@ -12,6 +12,7 @@ ghost use Rattle.avro_ndjson.specs.Taken.{BlockIsWrong};
 
 use crate::fields::{check_carried, check_texts, kept_fields};
 use crate::keep::projection_of;
+use crate::plan::{RowPlan, plan_rows};
 use arrow_base::{Error, Reason, Result};
 use avro_blocks::EncodesBlocks;
 use avro_decode::Decoder;
@@ -26,6 +27,8 @@ pub(crate) struct BlockEncoder {
     decoder: Decoder,
     // Of the fields that are kept, by whose names rows are written.
     lines: LineEncoder,
+    // Where rows can be shown without columns.
+    plan: Option<RowPlan>,
 }
 
 /// Whether numbers are given, and none of them.
@@ -69,10 +72,15 @@ impl BlockEncoder {
             fields: avro_fields,
             ..
         } = root;
+        let plan = plan_rows(alloc, avro_fields.as_slice(), &projection, kept.as_slice())?;
         let decoder = Decoder::new(alloc, schema.fields.into_vec(), avro_fields, projection)?;
         check_texts(kept.as_slice())?;
         let lines = LineEncoder::new(alloc, kept)?;
-        Ok(BlockEncoder { decoder, lines })
+        Ok(BlockEncoder {
+            decoder,
+            lines,
+            plan,
+        })
     }
 
     /// Appends the lines of a block's rows.
@@ -88,8 +96,34 @@ impl BlockEncoder {
             (the_block block.now.number_of_rows block.now.bytes)) }
         ensures same { self.new ≡ self.old }
     {
+        if self.push_rows(out, block) {
+            return Ok(());
+        }
         let chunk = self.decoder.decode(block)?;
         self.lines.push(out, &chunk)
+    }
+
+    /// Appends the lines of a block's rows without columns, and says whether it could; else `out` is
+    /// as it was. It does so where nothing was appended before: a block that is given up may leave
+    /// anything.
+    fn push_rows(&self, out: &mut Vec<u8>, block: &Block) -> bool
+        requires { IsEncoder self.now }
+        ensures shown { IsTrue result → AppendsBlock (ShowsBlock self.now.decoder)
+            (the_block block.now.number_of_rows block.now.bytes) out.old.items out.new.items }
+        ensures few { IsTrue result → block.now.number_of_rows ≤ length block.now.bytes }
+        ensures given_up { IsFalse result → out.new.items ≡ out.old.items }
+    {
+        let Some(plan) = &self.plan else {
+            return false;
+        };
+        if !out.is_empty() {
+            return false;
+        }
+        if plan.push_block(out, block).is_ok() {
+            return true;
+        }
+        out.clear();
+        false
     }
 }
 

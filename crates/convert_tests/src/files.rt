@@ -46,3 +46,17 @@ pub static NAMES: &[u8] =
 
 /// The line that Python's `json` makes of it.
 pub static NAMES_LINE: &[u8] = b"{\"a\\\"b\\\\c\\n\\u0001\xc3\xa9\":3}\x0a";
+
+/// The header of a file of longs, where null is the second member, and of arrays of records of a
+/// boolean and an array of ints.
+pub static NESTED: &[u8] =
+    b"Obj\x01\x02\x16avro.schema\xe2\x03{\"type\":\"record\",\"name\":\"t\",\"fields\":[{\"name\":\"a\",\"type\":[\"long\",\"null\"]},{\"name\":\"b\",\"type\":{\"type\":\"array\",\"items\":{\"type\":\"record\",\"name\":\"r\",\"fields\":[{\"name\":\"c\",\"type\":\"boolean\"},{\"name\":\"d\",\"type\":{\"type\":\"array\",\"items\":\"int\"}}]}}}]}\x00\x01\x01\x01\x01\x01\x01\x01\x01\x01\x01\x01\x01\x01\x01\x01\x01";
+
+/// A block of that file: 5 and two records, and null and none. Each array is one block.
+pub static NESTED_BLOCK: &[u8] =
+    b"\x04\x1a\x00\x0a\x04\x01\x04\x02\x01\x00\x00\x00\x00\x02\x00\x01\x01\x01\x01\x01\x01\x01\x01\x01\x01\x01\x01\x01\x01\x01\x01";
+
+/// A block of that file: null and one record. Its array states its size, and the ints are in two
+/// blocks.
+pub static NESTED_SIZED: &[u8] =
+    b"\x02\x14\x02\x01\x0c\x00\x02\x06\x02\x08\x00\x00\x01\x01\x01\x01\x01\x01\x01\x01\x01\x01\x01\x01\x01\x01\x01\x01";

@@ -2,7 +2,7 @@
 
 use crate::files::{
     BINARY, BLOCK, DATES, EVENTS, FALSE_COUNT, FLOAT, HEADER, MAP, NAMES, NAMES_LINE, NANOSECONDS,
-    NO_FIELD,
+    NESTED, NESTED_BLOCK, NESTED_SIZED, NO_FIELD,
 };
 use crate::written::{WRITTEN, WRITTEN_LINES};
 use arrow_base::{Bytes, Error, Items, MemorySink, MemorySource, Reason, Result};
@@ -83,6 +83,43 @@ fn rows_become_lines(rt: HostRuntime) {
     assert!(rt; gives(&rt, alloc, &[EVENTS], Some(&[1]), PLAIN, Ok(3), users));
     let nano = b"{\"a\":\"1970-01-01 00:00:00.000000001\"}\n";
     assert!(rt; gives(&rt, alloc, &[NANOSECONDS], None, PLAIN, Ok(1), nano));
+}
+
+#[test]
+fn arrays_become_lines_in_blocks_or_with_sizes(rt: HostRuntime) {
+    let alloc = rt.alloc();
+    let first =
+        b"{\"a\":5,\"b\":[{\"c\":true,\"d\":[1,-1]},{\"c\":false,\"d\":[]}]}\n{\"a\":null,\"b\":[]}\n";
+    let both =
+        b"{\"a\":5,\"b\":[{\"c\":true,\"d\":[1,-1]},{\"c\":false,\"d\":[]}]}\n{\"a\":null,\"b\":[]}\n{\"a\":null,\"b\":[{\"c\":false,\"d\":[3,4]}]}\n";
+    let file = [NESTED, NESTED_BLOCK, NESTED_SIZED];
+    assert!(rt;
+        gives(
+            &rt,
+            alloc,
+            &[NESTED, NESTED_BLOCK],
+            None,
+            PLAIN,
+            Ok(2),
+            first
+        )
+    );
+    assert!(rt; gives(&rt, alloc, &file, None, PLAIN, Ok(3), both));
+    let numbers = b"{\"a\":5}\n{\"a\":null}\n{\"a\":null}\n";
+    assert!(rt; gives(&rt, alloc, &file, Some(&[0]), PLAIN, Ok(3), numbers));
+    let arrays =
+        b"{\"b\":[{\"c\":true,\"d\":[1,-1]},{\"c\":false,\"d\":[]}]}\n{\"b\":[]}\n{\"b\":[{\"c\":false,\"d\":[3,4]}]}\n";
+    assert!(rt; gives(&rt, alloc, &file, Some(&[1]), PLAIN, Ok(3), arrays));
+}
+
+#[test]
+fn a_late_row_leaves_no_line_of_its_block(rt: HostRuntime) {
+    let alloc = rt.alloc();
+    let header = DATES.get(..131).unwrap_or(DATES);
+    let days =
+        b"\x04\x10\xc0\x82\xe6\x02\xc2\x82\xe6\x02\x01\x01\x01\x01\x01\x01\x01\x01\x01\x01\x01\x01\x01\x01\x01\x01";
+    let range = Err(Error::InvalidArgumentError(Reason::DateRange));
+    assert!(rt; gives(&rt, alloc, &[header, days], None, PLAIN, range, b""));
 }
 
 #[test]

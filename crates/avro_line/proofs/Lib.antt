@@ -1,0 +1,7 @@
+pub mod Flats
+pub mod Items
+pub mod KnownSchemas
+pub mod Lines
+pub mod Members
+pub mod RowLines
+pub mod Types
