@@ -1,7 +1,8 @@
 //! What is answered where rows aren't shown without columns.
 use std::alloc::AllocError;
 
-/// The rows are to be read into columns. It may be answered at any time, and says nothing of the bytes.
+/// The rows are to be read into columns. It may be answered at any time, and says nothing of the
+/// bytes.
 #[derive(Clone, Copy, PartialEq, Eq, Debug)]
 pub struct GivenUp;
 

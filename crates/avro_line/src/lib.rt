@@ -1,5 +1,5 @@
-//! Rows of a block as JSON lines, without columns: each value's text is appended as the value is read. What is unusual
-//! is given up, and says nothing of the bytes.
+//! Rows of a block as JSON lines, without columns: each value's text is appended as the value is
+//! read. What is unusual is given up, and says nothing of the bytes.
 #![tactic(auto)]
 
 mod flat;

@@ -11,14 +11,15 @@ use avro_skip::skip_value;
 use json_text::{Column, push, push_key};
 use std::marker::PhantomData;
 
-/// Appends the lines of a block's rows: for each an object (RFC 8259) with a member for each kept field, in order, and a
-/// line feed. The bytes are the rows and nothing else (Avro 1.11, "Object Container Files"). The columns are those that
-/// `json_text::push_column` makes of the kept fields, one after another, of the types of their schemas.
+/// Appends the lines of a block's rows: for each an object (RFC 8259) with a member for each kept
+/// field, in order, and a line feed. The bytes are the rows and nothing else (Avro 1.11, "Object
+/// Container Files"). The columns are those that `json_text::push_column` makes of the kept fields,
+/// one after another, of the types of their schemas.
 ///
-/// `GivenUp` may come at any time, and then anything may have been appended: at bytes that aren't such rows, at a date
-/// that is in no year from 0 to 9999, at a value that isn't a boolean, a number, a string, or an array, a record or a
-/// nullable one of these, at an array of several blocks or of one that states its size, where no field is kept, and
-/// where there is no memory.
+/// `GivenUp` may come at any time, and then anything may have been appended: at bytes that aren't
+/// such rows, at a date that is in no year from 0 to 9999, at a value that isn't a boolean, a
+/// number, a string, or an array, a record or a nullable one of these, at an array of several
+/// blocks or of one that states its size, where no field is kept, and where there is no memory.
 pub fn push_rows(
     out: &mut Vec<u8>,
     bytes: &[u8],

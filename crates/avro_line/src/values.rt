@@ -11,12 +11,12 @@ use avro_reference::{Ahead, read_length};
 use avro_schema::{AvroField, AvroSchema};
 use json_text::{Column, IntegerForm, push, push_comma, push_key, push_null};
 
-/// Appends the text of one value of a schema (Avro 1.11, "Binary Encoding"), by the form of its integers and the columns
-/// within its type.
+/// Appends the text of one value of a schema (Avro 1.11, "Binary Encoding"), by the form of its
+/// integers and the columns within its type.
 ///
 /// `GivenUp` may come at any time, and then anything may have been appended.
-// It is inlined wherever a value is read, so that a flat one, beneath a union too, takes no call into
-// the cycle: `push_array` and `push_record`, which the others go through, are not.
+// It is inlined wherever a value is read, so that a flat one, beneath a union too, takes no call
+// into the cycle: `push_array` and `push_record`, which the others go through, are not.
 #[cycle(values)]
 #[inline(always)]
 pub(crate) fn push_value<A: Ahead>(
@@ -76,8 +76,8 @@ fn push_union<A: Ahead>(
     push_no_union(out, cursor, member, form, columns)
 }
 
-/// Appends the text of an array: of one block of items, or of none. More blocks, and those that state their size, are
-/// given up.
+/// Appends the text of an array: of one block of items, or of none. More blocks, and those that
+/// state their size, are given up.
 #[cycle(values)]
 #[inline(never)]
 fn push_array<A: Ahead>(
