@@ -59,7 +59,7 @@ slots_length table k (a ∷ arrays) e (suc j) d l = slots_length table (k + 1) a
     tail_is q = cc
 
 -- a table's block, where it has rows and where it has none
-some_block : (marker : List ℕ) (fields : List AvroField) (table : List (List Slot)) (n : ℕ) → length table ≡ n → (n ≡ 0 → ⊥) → canonical_block marker (the_block n (plain_table fields table)) ≡ table_block marker fields table
+pub some_block : (marker : List ℕ) (fields : List AvroField) (table : List (List Slot)) (n : ℕ) → length table ≡ n → (n ≡ 0 → ⊥) → canonical_block marker (the_block n (plain_table fields table)) ≡ table_block marker fields table
 some_block marker fields [] n e some = absurd (some (sym e))
 some_block marker fields (row ∷ table) n e some = ap (λ k. canonical_block marker (the_block k (plain_table fields (row ∷ table)))) (sym e)
 
