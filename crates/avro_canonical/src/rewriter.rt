@@ -126,7 +126,8 @@ impl BlockRewriter {
         let columns = infer_schema(alloc, &root)?;
         let nameless = to_record(alloc, &columns);
         let Record {
-            fields: sources, ..
+            fields: sources,
+            ..
         } = root.try_clone(alloc)?;
         let Record {
             fields: avro_fields,

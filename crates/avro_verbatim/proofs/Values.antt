@@ -1,6 +1,7 @@
 -- Slots of unions, arrays and records, and rows, in their canonical encoding.
-use Rattle.std.proofs.Common.{◌≡◌, ◌∙◌, inl, inr, ℕ, suc, ◌+◌, ◌^◌, ◌<◌, ◌≤◌, ℤ, pos, List, [], ◌∷◌, ◌++◌, length, drop, get_or, flat_map, refl, sym, ap, subst, append_assoc, drop-cons, add-one, arith}
-use Rattle.std.proofs.lemmas.List.{drop_all}
+use Rattle.std.proofs.Common.{◌≡◌, ◌∙◌, inl, inr, ℕ, suc, ◌+◌, ◌-◌, ◌^◌, ◌<◌, ◌≤◌, ℤ, pos, List, [], ◌∷◌, ◌++◌, length, take, drop, get_or, flat_map, refl, sym, ap, subst, append_assoc, length-append, length-drop, drop-cons, add-one, arith}
+use Rattle.std.proofs.lemmas.List.{drop_all, take_all}
+use Rattle.std.proofs.Math.Seq.{drop-append_seam}
 use Rattle.arrow_types.specs.declared.slot.Slot.{Slot}
 use Rattle.arrow_types.specs.declared.slot.Slot.TheVariants as slot
 use Rattle.avro_schema.specs.declared.schema.AvroField.{AvroField}
@@ -146,6 +147,30 @@ record_begins r bytes rest h =
       joined = h.joined ∙ ap (λ (zs : List ℕ). zs ++ rest) (sym (plain_record_is r (slot.Struct xs) ∙ ap (plain_fields_of (out-Record r).fields) (parts_struct xs)));
     }
 
-pub of_record : (s : Schema) (r : TheRecord) (fs : List AvroField) (bytes rest : List ℕ) → s ≡ Record r → fs ≡ (out-Record r).fields → BeginsWithFields fs bytes rest → BeginsWithSlot s bytes rest
+of_record : (s : Schema) (r : TheRecord) (fs : List AvroField) (bytes rest : List ℕ) → s ≡ Record r → fs ≡ (out-Record r).fields → BeginsWithFields fs bytes rest → BeginsWithSlot s bytes rest
 of_record s r fs bytes rest e x h =
     subst (λ (z : Schema). BeginsWithSlot z bytes rest) (sym e) (record_begins r bytes rest (subst (λ (gs : List AvroField). BeginsWithFields gs bytes rest) x h))
+
+-- the bytes from a place on, as a slice of them is told
+pub from_place : (bytes : List ℕ) (n : ℕ) → take (length bytes - n) (drop n bytes) ≡ drop n bytes
+from_place bytes n = take_all (length bytes - n) (drop n bytes) (omega (arith, length-drop n bytes))
+
+pub record_taken : (s : Schema) (r : TheRecord) (fs : List AvroField) (bytes : List ℕ) (n : ℕ) → s ≡ Record r → fs ≡ (out-Record r).fields → BeginsWithFields fs bytes (drop n bytes) → BeginsWithSlot s bytes (take (length bytes - n) (drop n bytes))
+record_taken s r fs bytes n e x h = subst (λ (xs : List ℕ). BeginsWithSlot s bytes xs) (sym (from_place bytes n)) (of_record s r fs bytes (drop n bytes) e x h)
+
+-- ---- how many bytes were taken
+
+module _ {A : Type 0} (P : A → Type 0) (encode : A → List ℕ) (bytes rest : List ℕ) (h : BeginsWith P encode bytes rest) where
+  all_bytes : length bytes ≡ length (encode h.value) + length rest
+  all_bytes = ap length h.joined ∙ length-append (encode h.value) rest
+
+  pub no_longer : length rest ≤ length bytes
+  no_longer = omega (arith, all_bytes)
+
+  left_is : drop (length bytes - length rest) bytes ≡ rest
+  left_is =
+      let same : length bytes - length rest ≡ length (encode h.value) = omega (arith, all_bytes) in
+      (λ i. drop (same i) (h.joined i)) ∙ drop-append_seam (encode h.value) rest
+
+  pub taken : (length bytes - length rest ≤ length bytes) × BeginsWith P encode bytes (drop (length bytes - length rest) bytes)
+  taken = (omega arith, subst (λ (xs : List ℕ). BeginsWith P encode bytes xs) (sym left_is) h)

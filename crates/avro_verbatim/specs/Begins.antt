@@ -1,5 +1,5 @@
 -- What bytes begin with, in its canonical encoding, and what follows it. Private contracts alone cite these.
-use Rattle.std.specs.Prelude.{◌≡◌, ℕ, ◌^◌, ◌<◌, ℤ, List, ◌++◌, length, flat_map}
+use Rattle.std.specs.Prelude.{◌≡◌, ℕ, ◌^◌, ◌<◌, ◌≤◌, ℤ, List, ◌++◌, length, drop, flat_map}
 use Rattle.std.specs.List.{AllByRecursion}
 use Rattle.avro_schema.specs.declared.schema.AvroField.{AvroField}
 use Rattle.avro_schema.specs.declared.schema.Schema.{Schema}
@@ -43,3 +43,10 @@ BeginsWithItems item = BeginsWithMany (Pairs item) (plain item)
 
 abbrev pub BeginsWithRows : List AvroField → ℕ → List ℕ → List ℕ → Type 0
 BeginsWithRows fields = BeginsWithMany (PairsFieldsOf fields) (plain_fields_of fields)
+
+-- the first n bytes are a slot of the schema
+abbrev pub TakesSlot : Schema → ℕ → List ℕ → Type 0
+TakesSlot s n bytes = (n ≤ length bytes) × BeginsWithSlot s bytes (drop n bytes)
+
+abbrev pub TakesFields : List AvroField → ℕ → List ℕ → Type 0
+TakesFields fields n bytes = (n ≤ length bytes) × BeginsWithFields fields bytes (drop n bytes)

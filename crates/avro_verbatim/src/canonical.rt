@@ -4,7 +4,7 @@ ghost use Rattle.std.specs.Prelude.{◌≤◌, length, IfSome, IsTrue};
 ghost use Rattle.avro_schema.specs.declared.schema.Schema.{Array, Union};
 ghost use Rattle.avro_grammar.specs.Carried.{IsNoUnion};
 ghost use Rattle.avro_grammar.specs.Encodes.{IsNull};
-ghost use Rattle.avro_verbatim.specs.Begins.{BeginsWithFields, BeginsWithItems, BeginsWithRows, BeginsWithSlot};
+ghost use Rattle.avro_verbatim.specs.Begins.{BeginsWithFields, BeginsWithItems, BeginsWithRows, BeginsWithSlot, TakesFields, TakesSlot};
 ghost use Rattle.avro_verbatim.specs.Canonical.{AreCanonicalRows};
 
 use crate::flat::skip_flat;
@@ -38,14 +38,16 @@ fn skip_rows<'a>(bytes: &'a [u8], number_of_rows: usize, fields: &[AvroField]) -
 {
     let mut rest = bytes;
     for _ in 0..number_of_rows {
-        rest = skip_fields(rest, fields)?;
+        let len = fields_len(rest, fields)?;
+        rest = &rest[len..];
     }
     Some(rest)
 }
 
 /// What follows the canonical encoding of a value that the bytes begin with.
 // It is inlined wherever a value is looked at, so that a flat one, beneath a union too, takes no
-// call into the cycle: `skip_fields` and `skip_array`, which the others go through, are not.
+// call into the cycle: `fields_len` and `array_len`, which the others go through, are not. These
+// answer a length, since a slice in an option is handed back in memory.
 #[cycle(canonical)]
 #[inline(always)]
 fn skip_value<'a>(bytes: &'a [u8], schema: &AvroSchema) -> Option<&'a [u8]>
@@ -64,8 +66,14 @@ fn skip_no_union<'a>(bytes: &'a [u8], schema: &AvroSchema) -> Option<&'a [u8]>
     ensures { IfSome result (λ rest. BeginsWithSlot schema.now bytes.now rest.now) }
 {
     match schema {
-        AvroSchema::Record(record) => skip_fields(bytes, record.fields.as_slice()),
-        AvroSchema::Array(item) => skip_array(bytes, item.get()),
+        AvroSchema::Record(record) => {
+            let len = fields_len(bytes, record.fields.as_slice())?;
+            Some(&bytes[len..])
+        }
+        AvroSchema::Array(item) => {
+            let len = array_len(bytes, item.get())?;
+            Some(&bytes[len..])
+        }
         _ => skip_flat(bytes, schema),
     }
 }
@@ -102,30 +110,30 @@ fn is_null_first(first: &AvroSchema, second: &AvroSchema) -> bool
     matches!(first, AvroSchema::Null) && !matches!(second, AvroSchema::Union(_))
 }
 
-/// What follows a record's fields, in order.
+/// How many bytes a record's fields have, in order, that the bytes begin with.
 #[cycle(canonical)]
 #[inline(never)]
-fn skip_fields<'a>(bytes: &'a [u8], fields: &[AvroField]) -> Option<&'a [u8]>
-    ensures { IfSome result (λ rest. BeginsWithFields fields.now bytes.now rest.now) }
+fn fields_len(bytes: &[u8], fields: &[AvroField]) -> Option<usize>
+    ensures { IfSome result (λ len. TakesFields fields.now len bytes.now) }
 {
     let mut rest = bytes;
     for i in 0..fields.len() {
         rest = skip_value(rest, &fields[i].schema)?;
     }
-    Some(rest)
+    Some(bytes.len() - rest.len())
 }
 
-/// What follows an array: the number 0, or one block of items with their count, and then the number
-/// 0 (Avro 1.11, "Arrays").
+/// How many bytes an array has that the bytes begin with: the number 0, or one block of items with
+/// their count, and then the number 0 (Avro 1.11, "Arrays").
 #[cycle(canonical)]
 #[inline(never)]
-fn skip_array<'a>(bytes: &'a [u8], item: &AvroSchema) -> Option<&'a [u8]>
-    ensures { IfSome result (λ rest. BeginsWithSlot (Array item.now) bytes.now rest.now) }
+fn array_len(bytes: &[u8], item: &AvroSchema) -> Option<usize>
+    ensures { IfSome result (λ len. TakesSlot (Array item.now) len bytes.now) }
 {
     let (number, items) = split_number(bytes)?;
     let count = length_of(number)?;
     if count == 0 {
-        return Some(items);
+        return Some(bytes.len() - items.len());
     }
     // Items without a byte aren't counted through.
     if count > items.len() {
@@ -133,7 +141,7 @@ fn skip_array<'a>(bytes: &'a [u8], item: &AvroSchema) -> Option<&'a [u8]>
     }
     let after = skip_items(items, item, count)?;
     match after.split_first() {
-        Some((end, rest)) if *end == 0 => Some(rest),
+        Some((end, rest)) if *end == 0 => Some(bytes.len() - rest.len()),
         _ => None,
     }
 }

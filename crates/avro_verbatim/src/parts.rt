@@ -29,6 +29,7 @@ fn signed(byte: u8) -> i64
 }
 
 /// The same of a number of several bytes: its encoding is the shortest unless the last byte is 0.
+#[inline(always)]
 fn split_long_number(bytes: &[u8]) -> Option<(i64, &[u8])>
     ensures { IfSome result (λ split. BeginsWithNumber bytes.now split.0 split.1.now) }
 {
