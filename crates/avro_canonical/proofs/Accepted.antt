@@ -1,5 +1,5 @@
 -- Decoded columns are accepted under the fields of their record.
-use Rattle.std.proofs.Common.{◌≡◌, ◌∙◌, ℕ, zero, suc, ◌+◌, ◌<◌, ◌≤◌, Bool, true, false, List, [], ◌∷◌, ◌++◌, length, map, drop, get_or, All, Option, Some, None, refl, sym, ap, subst, arith, add-one}
+use Rattle.std.proofs.Common.{◌≡◌, ◌∙◌, ℕ, zero, suc, ◌+◌, ◌<◌, Bool, false, List, [], ◌∷◌, length, map, drop, get_or, Option, Some, None, refl, sym, ap, subst, arith, add-one}
 use Rattle.std.specs.List.{AllByRecursion, AllZip, list_any, range_with_len}
 use Rattle.std.proofs.lemmas.Option.{same_Some}
 use Rattle.std.proofs.lemmas.List.Elements.{All-tail}
@@ -18,7 +18,7 @@ use Rattle.avro_grammar.specs.Inferred.{column_field, columns_of, inferred, own_
 use Rattle.avro_grammar.specs.Parts.{Many}
 use Rattle.avro_grammar.specs.Rows.{Pieces, Row, Rows, column}
 use Rattle.avro_grammar.specs.Types.{is_union}
-use Rattle.avro_grammar.specs.ValidBlock.{HasFloat, KeepNoFloat, kept}
+use Rattle.avro_grammar.specs.ValidBlock.{HasFloat, KeepNoFloat}
 use Rattle.avro_grammar.proofs.Basics.{bind_some}
 use Rattle.avro_encode.specs.PairTypes.{PairsType}
 use Rattle.avro_record.specs.Listed.{named_all}
@@ -26,7 +26,7 @@ use Rattle.avro_record.specs.Named.{named, nameless_in}
 use Rattle.avro_record.specs.Schemas.{can_serialize, column_schema, columns_fields, optional, plain_field, schema_of, structs_in}
 use Rattle.avro_write.specs.declared.flaws.Flaw.{Flaw}
 use Rattle.avro_write.specs.declared.flaws.Flaw.TheVariants as flaw
-use Rattle.avro_write.specs.Flaws.{IsAccepted, shows}
+use Rattle.avro_write.specs.Flaws.{shows}
 use Rattle.avro_write.specs.Laws.{all_kept}
 use Rattle.avro_write.proofs.Serializable.{serializable_pairs}
 use Rattle.avro_canonical.specs.Columns.{AreAccepted}

@@ -1,7 +1,7 @@
 -- Slots that were decoded show no flaw under the schema of their column.
-use Rattle.std.proofs.Common.{◌≡◌, ◌∙◌, ◌⊎◌, inl, inr, ℕ, zero, suc, ◌+◌, ◌*◌, ◌^◌, ◌<◌, ◌≤◌, ℤ, pos, negsuc, Bool, true, false, not, cond, ◌&&◌, ◌||◌, eqb, List, [], ◌∷◌, ◌++◌, length, take, drop, Option, Some, None, refl, sym, ap, subst, arith}
-use Rattle.std.specs.Prelude.{◌-ℤ◌, ◌*ℤ◌, int_rem, int_le, T, nat_lt}
-use Rattle.std.specs.List.{list_any, list_all, AllByRecursion}
+use Rattle.std.proofs.Common.{◌≡◌, ◌∙◌, ◌⊎◌, inl, inr, ℕ, zero, suc, ◌+◌, ◌^◌, ◌<◌, ◌≤◌, ℤ, pos, negsuc, Bool, true, false, not, cond, ◌&&◌, ◌||◌, eqb, List, [], ◌∷◌, ◌++◌, length, take, drop, Option, Some, None, refl, sym, ap, subst, arith}
+use Rattle.std.specs.Prelude.{◌*ℤ◌, int_rem, int_le, T, nat_lt}
+use Rattle.std.specs.List.{list_any}
 use Rattle.std.specs.Ordering.{int_eq}
 use Rattle.std.proofs.lemmas.Bool.{and_parts, false≢true, cases_lt, lt-ltb, le-ltb}
 use Rattle.std.proofs.lemmas.Bool.Decides.{Decides-int_eq, nat_tests}
@@ -13,7 +13,6 @@ use Rattle.arrow_types.specs.declared.types.Field.{Field}
 use Rattle.arrow_types.specs.declared.types.DataType.{DataType}
 use Rattle.arrow_types.specs.declared.types.DataType.TheVariants as types
 use Rattle.arrow_types.specs.declared.types.DataType.TheBlock.{shape-the_row-DataType-2, hidden-the_row-DataType-2}
-use Rattle.arrow_types.specs.declared.types.IntervalUnit.TheVariants as interval
 use Rattle.arrow_array.specs.Slots.{is_held}
 use Rattle.avro_schema.specs.declared.schema.AvroField.{AvroField}
 use Rattle.avro_schema.specs.declared.schema.BytesLogical.{BytesLogical}
@@ -32,9 +31,9 @@ use Rattle.avro_grammar.specs.Encodes.{Encodes, EncodesFields, EncodesFixed, Enc
 use Rattle.avro_grammar.specs.Inferred.{bytes_type, column_field, inferred, inferred_fields, inferred_item, inferred_member, inferred_record, is_item, item_name}
 use Rattle.avro_grammar.specs.Parts.{BlockOf, Blocks, Many, last, block}
 use Rattle.avro_grammar.specs.Types.{fixed_type, int_type, is_union, long_type, symbol_type}
-use Rattle.avro_grammar.specs.ValidBlock.{AnyHasPart, FieldHasPart, HasFloat, HasPart, IsFloat, RecordHasPart}
+use Rattle.avro_grammar.specs.ValidBlock.{AnyHasPart, FieldHasPart, HasFloat, IsFloat, RecordHasPart}
 use Rattle.avro_grammar.proofs.Basics.{bind_some, null_is, null_told}
-use Rattle.avro_record.specs.Listed.{array_schema, can_serialize_all, named_all, struct_schema}
+use Rattle.avro_record.specs.Listed.{can_serialize_all, named_all}
 use Rattle.avro_record.specs.Named.{named, named_record, nameless_in}
 use Rattle.avro_record.specs.Schemas.{can_serialize, column_schema, columns_fields, nameless_fixed, optional, plain_field, plain_record, record_name, schema_of, structs_in}
 use Rattle.avro_record.proofs.ByFields.{list_schema, list_serializable, struct_schema_is, struct_serializable}
@@ -44,7 +43,7 @@ use Rattle.avro_encode.proofs.Milliseconds.{whole}
 use Rattle.avro_encode.proofs.PlainLaw.{parts_list, parts_struct}
 use Rattle.avro_write.specs.declared.flaws.Flaw.{Flaw}
 use Rattle.avro_write.specs.declared.flaws.Flaw.TheVariants as flaw
-use Rattle.avro_write.specs.Flaws.{fixed_flaw, has_whole, is_whole, null_flaw, shows}
+use Rattle.avro_write.specs.Flaws.{fixed_flaw, has_whole, is_whole, shows}
 use Rattle.avro_write.specs.Shown.{fields_show_of, member_shows_of}
 use Rattle.avro_write.proofs.Flawed.{no_null_flaw, of_array, of_fixed, of_record, of_union}
 use Rattle.avro_canonical.specs.Laws.{AreBytes, DecodedIsSerializable}

@@ -1,6 +1,6 @@
 -- Of a source that tells its bytes: a file that has a canonical form is rewritten, and no other error than that of its
 -- fields is answered where they can't be rewritten.
-use Rattle.std.proofs.Common.{◌≡◌, ◌≢◌, ◌∙◌, ◌⊎◌, inl, inr, ℕ, zero, suc, ◌+◌, ◌-◌, ◌≤◌, List, [], ◌∷◌, ◌++◌, length, All, Option, Some, None, refl, sym, ap, subst, append_assoc, length-append, arith}
+use Rattle.std.proofs.Common.{◌≡◌, ◌≢◌, ◌∙◌, ◌⊎◌, inl, inr, ℕ, zero, suc, ◌+◌, ◌-◌, ◌≤◌, List, [], ◌∷◌, ◌++◌, length, All, Option, Some, None, refl, sym, ap, subst, length-append, arith}
 use Rattle.std.proofs.lemmas.List.{append-nil}
 use Rattle.std.proofs.lemmas.Option.{same_Some}
 use Rattle.std.specs.List.{AllZip}
@@ -23,14 +23,14 @@ use Rattle.avro_blocks.proofs.Results.{memory_or_not}
 use Rattle.avro_blocks.proofs.Steps.{rose_from}
 use Rattle.avro_file.specs.File.{StandsFor, AvroFile}
 use Rattle.avro_file.specs.Laws.{IsMetadata}
-use Rattle.avro_file.specs.Metadata.{ReadsMetadata, WriteFails}
+use Rattle.avro_file.specs.Metadata.{WriteFails}
 use Rattle.avro_file.proofs.Complete.{metadata_is_read, metadata_is_right}
 use Rattle.avro_file.proofs.Roots.{one_root}
 use Rattle.avro_decode.specs.Decoder.{CanBeDecoded, Projected, projected}
 use Rattle.avro_decode.specs.Refusals.{BlockRefused}
 use Rattle.avro_decode.proofs.Valid.{valid_blocks}
 use Rattle.avro_write.specs.Laws.{all_kept}
-use Rattle.avro_canonical.specs.Answers.{IsHeaderDue, FilesAreRewritten, FieldsAreRefused, RefusedIsNotRewritten, RewrittenDoesNotFail}
+use Rattle.avro_canonical.specs.Answers.{IsHeaderDue}
 use Rattle.avro_canonical.specs.Canonical.{BlockIsRefused, CanBeRewritten, CannotBeRewritten, HasTable, RewritesBlock, Rewriting}
 use Rattle.avro_canonical.specs.Rewritten.{HasCanonicalForm, BlockNotRewritten, Rewrites, RewritingFails, rewriting_of}
 use Rattle.avro_canonical.proofs.Making.{can_be_decoded}

@@ -1,6 +1,7 @@
 pub mod Accepted
 pub mod Again
 pub mod Complete
+pub mod Copied
 pub mod Encoded
 pub mod Files
 pub mod Making

@@ -1,6 +1,5 @@
 -- What a rewriter is made of, and why none is made.
-use Rattle.std.proofs.Common.{◌≡◌, ◌≢◌, ◌∙◌, ℕ, zero, suc, ◌<◌, ◌≤◌, Bool, true, List, [], ◌∷◌, length, map, replicate, Option, Some, None, Result, Ok, Err, refl, sym, ap, subst, arith}
-use Rattle.std.specs.Prelude.{IfErr}
+use Rattle.std.proofs.Common.{◌≡◌, ◌∙◌, ℕ, Bool, true, List, [], ◌∷◌, length, replicate, Option, Some, None, refl, sym, ap, subst, arith}
 use Rattle.std.proofs.lemmas.List.{length-map}
 use Rattle.std.proofs.lemmas.Option.{same_Some}
 use Rattle.arrow_core.specs.declared.error.Error.{Error}
@@ -24,7 +23,7 @@ use Rattle.avro_record.specs.Named.{named_record, named_root}
 use Rattle.avro_record.specs.Schemas.{NoAvroTypeWhere, columns_fields, plain_record, record_of}
 use Rattle.avro_record.proofs.Renamed.{record_named}
 use Rattle.avro_write.specs.Laws.{all_kept}
-use Rattle.avro_canonical.specs.Canonical.{AreCarried, CanBeRewritten, CannotBeRewritten, HasNoRecord, HoldNoFloat, IsRewriting, Rewriting, rewriting, target_fields}
+use Rattle.avro_canonical.specs.Canonical.{AreCarried, CanBeRewritten, CannotBeRewritten, HoldNoFloat, IsRewriting, target_fields}
 use Rattle.avro_canonical.specs.Targets.{AreMade}
 
 -- columns in small forms are columns in small or large forms

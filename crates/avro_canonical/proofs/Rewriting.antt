@@ -1,26 +1,21 @@
 -- A decoded block's canonical form.
-use Rattle.std.proofs.Common.{◌≡◌, ◌∙◌, ℕ, zero, suc, ◌+◌, ◌<◌, ◌≤◌, Bool, true, false, List, [], ◌∷◌, ◌++◌, length, map, drop, get_or, All, Option, Some, None, Result, Ok, Err, refl, sym, ap, subst, arith}
-use Rattle.std.specs.Prelude.{IfErr, OnOk}
+use Rattle.std.proofs.Common.{◌≡◌, ◌∙◌, ℕ, zero, suc, ◌+◌, ◌<◌, Bool, true, List, [], ◌∷◌, ◌++◌, length, map, get_or, Some, refl, sym, ap, subst, arith}
 use Rattle.std.specs.List.{AllByRecursion, range_with_len}
 use Rattle.std.proofs.lemmas.List.{append-nil, length-map}
 use Rattle.std.proofs.lemmas.Option.{same_Some}
-use Rattle.arrow_core.specs.declared.error.Error.{Error}
-use Rattle.arrow_core.specs.declared.error.Error.TheVariants.{OutOfMemory}
 use Rattle.arrow_types.specs.declared.slot.Slot.{Slot}
-use Rattle.arrow_types.specs.declared.slot.Slot.TheVariants as slot
 use Rattle.arrow_types.specs.declared.types.Field.{Field}
 use Rattle.arrow_array.specs.declared.array.Array.{Array}
 use Rattle.arrow_array.specs.Arrays.{array_slots, array_type}
 use Rattle.avro_schema.specs.declared.schema.AvroField.{AvroField}
-use Rattle.avro_grammar.specs.AndThen.{◌>>=◌}
 use Rattle.avro_grammar.specs.Parts.{Many}
 use Rattle.avro_grammar.specs.Rows.{Pieces, Row, Rows, column}
 use Rattle.avro_grammar.specs.ValidBlock.{KeepNoFloat, KeptEnumsFit, kept}
 use Rattle.avro_grammar.proofs.Basics.{bind_some}
 use Rattle.avro_container.specs.Canonical.{canonical_block}
-use Rattle.avro_container.specs.File.{FileBlock, the_block}
+use Rattle.avro_container.specs.File.{the_block}
 use Rattle.avro_decode.specs.Columns.{AreColumns, columns, kept_types}
-use Rattle.avro_decode.specs.Decoder.{CanBeDecoded, Projected, projected}
+use Rattle.avro_decode.specs.Decoder.{CanBeDecoded}
 use Rattle.avro_decode.specs.Refusals.{AreCounted}
 use Rattle.avro_record.specs.Listed.{named_all}
 use Rattle.avro_record.specs.Schemas.{columns_fields}
@@ -59,7 +54,7 @@ slots_length table k (a ∷ arrays) e (suc j) d l = slots_length table (k + 1) a
     tail_is q = cc
 
 -- a table's block, where it has rows and where it has none
-some_block : (marker : List ℕ) (fields : List AvroField) (table : List (List Slot)) (n : ℕ) → length table ≡ n → (n ≡ 0 → ⊥) → canonical_block marker (the_block n (plain_table fields table)) ≡ table_block marker fields table
+pub some_block : (marker : List ℕ) (fields : List AvroField) (table : List (List Slot)) (n : ℕ) → length table ≡ n → (n ≡ 0 → ⊥) → canonical_block marker (the_block n (plain_table fields table)) ≡ table_block marker fields table
 some_block marker fields [] n e some = absurd (some (sym e))
 some_block marker fields (row ∷ table) n e some = ap (λ k. canonical_block marker (the_block k (plain_table fields (row ∷ table)))) (sym e)
 

@@ -1,6 +1,6 @@
 -- The canonical form of a file's blocks: the same rows, under the record of their columns, each slot in its one
 -- canonical encoding and each number in its shortest (Avro 1.11, "Binary Encoding" and "Object Container Files").
-use Rattle.std.specs.Prelude.{◌≡◌, ℕ, ◌<◌, List, [], ◌∷◌, ◌++◌, length, map, Bool, true, All, Option, Some, None, refl}
+use Rattle.std.specs.Prelude.{◌≡◌, ℕ, ◌<◌, List, [], ◌∷◌, ◌++◌, length, Bool, true, Option, Some, None, IsTrue, refl}
 use Rattle.std.specs.List.{AllByRecursion}
 use Rattle.std.specs.Coded.{Coded, code_by, coded×, coded_list, coded_ℕ}
 use Rattle.arrow_core.specs.declared.error.Error.{Error}
@@ -22,8 +22,8 @@ use Rattle.avro_decode.specs.Decoder.{Projected, projected, projected_code}
 use Rattle.avro_decode.specs.Refusals.{AreCounted, BlockRefused}
 use Rattle.avro_encode.specs.Listed.{PairsFieldsOf}
 use Rattle.avro_record.specs.Listed.{named_all}
-use Rattle.avro_record.specs.Named.{named_root}
 use Rattle.avro_record.specs.Schemas.{columns_fields, record_of}
+use Rattle.avro_verbatim.specs.Alike.{AreAlike}
 use Rattle.avro_write.specs.Laws.{all_kept, plain_table}
 
 -- ---- the record
@@ -113,3 +113,8 @@ pub record IsRewriting (w : Rewriting) : Type 0 where
   pub whole : w.decoder.projection ≡ all_kept w.decoder.avro_fields
   pub inferred : inferred_columns w.decoder.avro_fields ≡ Some w.decoder.fields
   pub target : target_fields w.decoder.fields ≡ Some w.fields
+
+-- and where it may copy blocks, the fields that it reads are encoded as those that it writes are
+pub record IsRewriter (may_copy : Bool) (w : Rewriting) : Type 0 where
+  pub rewriting : IsRewriting w
+  pub alike : IsTrue may_copy → AreAlike w.decoder.avro_fields w.fields

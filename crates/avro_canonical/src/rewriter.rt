@@ -1,5 +1,5 @@
 //! Blocks into their canonical form, one after another.
-ghost use Rattle.std.specs.Prelude.{◌≡◌, ◌<◌, ◌≤◌, ◌^◌, ◌++◌, List, ℕ, Some, length, map, IfOk, OnOk, IfErr, MatchResult};
+ghost use Rattle.std.specs.Prelude.{◌≡◌, ◌<◌, ◌≤◌, ◌^◌, ◌++◌, List, ℕ, Some, length, map, IfOk, OnOk, IfErr, IsTrue, MatchResult};
 ghost use Rattle.arrow_core.specs.Errors.{OnlyOutOfMemory};
 ghost use Rattle.arrow_array.specs.Arrays.{array_slots, array_type};
 ghost use Rattle.avro_schema.specs.declared.schema.Record.{out-Record};
@@ -11,7 +11,7 @@ ghost use Rattle.avro_decode.specs.Columns.{AreColumns, kept_types};
 ghost use Rattle.avro_decode.specs.Decoder.{CanBeDecoded, projected};
 ghost use Rattle.avro_decode.specs.Refusals.{AreCounted};
 ghost use Rattle.avro_write.specs.Laws.{all_kept};
-ghost use Rattle.avro_canonical.specs.Canonical.{AppendsRewritten, AreCarried, BlockIsRefused, CannotBeRewritten, HoldNoFloat, IsRewriting};
+ghost use Rattle.avro_canonical.specs.Canonical.{AppendsRewritten, AreCarried, BlockIsRefused, CannotBeRewritten, HoldNoFloat, RewritesBlock};
 ghost use Rattle.avro_canonical.specs.Laws.{AreBytes};
 ghost use Rattle.avro_canonical.specs.Targets.{AreMade};
 
@@ -24,9 +24,13 @@ use avro_container::write_block;
 use avro_decode::Decoder;
 use avro_infer::{all_carried, infer_schema};
 use avro_schema::{AvroField, Block, Record};
+use avro_verbatim::{are_alike, are_canonical_rows};
 use avro_write::{name_types, to_record};
 use std::alloc::Global;
 use std::marker::Model;
+
+/// The most bytes of a block that offsets of 32 bits can count.
+const MOST_BYTES: usize = 2_147_483_647;
 
 /// Rewrites the blocks of one file in their canonical form: the same rows, under the record of
 /// their columns.
@@ -35,13 +39,16 @@ pub struct BlockRewriter {
     alloc: Global,
     decoder: Decoder,
     fields: Items<AvroField>,
+    // Whether rows of the file are encoded as rows of `fields` are, so that a block that is canonical
+    // already is copied.
+    may_copy: bool,
     marker: [u8; 16],
     // The rows of the block at hand.
     block: Block,
 }
 
 impl Model for BlockRewriter {
-    ghost use Rattle.avro_canonical.specs.Canonical.{IsRewriting, Rewriting, rewriting_code};
+    ghost use Rattle.avro_canonical.specs.Canonical.{IsRewriter, Rewriting, rewriting_code};
 
     ghost Value = { Rewriting };
 
@@ -49,7 +56,7 @@ impl Model for BlockRewriter {
 
     ghost view = { λ r. record { decoder = r.decoder; fields = r.fields; marker = r.marker } };
 
-    ghost invariant = { λ r. IsRewriting (record { decoder = r.decoder; fields = r.fields; marker = r.marker }) };
+    ghost invariant = { λ r. IsRewriter r.may_copy (record { decoder = r.decoder; fields = r.fields; marker = r.marker }) };
 }
 
 /// Whether there is a field, and all are carried.
@@ -119,6 +126,10 @@ impl BlockRewriter {
         let columns = infer_schema(alloc, &root)?;
         let nameless = to_record(alloc, &columns);
         let Record {
+            fields: sources,
+            ..
+        } = root.try_clone(alloc)?;
+        let Record {
             fields: avro_fields,
             ..
         } = root;
@@ -126,10 +137,12 @@ impl BlockRewriter {
         let decoder = make_decoder(alloc, columns.fields, avro_fields)?;
         let target = name_types(alloc, nameless?, name)?;
         let Record { fields, .. } = target.try_clone(alloc)?;
+        let may_copy = are_alike(sources.as_slice(), fields.as_slice());
         let rewriter = BlockRewriter {
             alloc,
             decoder,
             fields,
+            may_copy,
             marker,
             block: Block {
                 number_of_rows: 0,
@@ -152,8 +165,26 @@ impl BlockRewriter {
     {
         let bytes = block.bytes.as_slice();
         tell_bytes(bytes);
+        if self.is_canonical(block) {
+            return append_block(out, block, self.marker);
+        }
         let chunk = self.decoder.decode(block)?;
         self.push_columns(out, chunk.arrays(), block.number_of_rows, bytes)
+    }
+
+    /// Whether the block is its canonical form already, as far as a look at its bytes tells: `false`
+    /// says nothing.
+    fn is_canonical(&self, block: &Block) -> bool
+        ensures { IsTrue result → RewritesBlock self.now
+            (the_block block.now.number_of_rows block.now.bytes)
+            (canonical_block self.now.marker
+            (the_block block.now.number_of_rows block.now.bytes)) }
+    {
+        let bytes = block.bytes.as_slice();
+        if !self.may_copy || block.number_of_rows == 0 || bytes.len() > MOST_BYTES {
+            return false;
+        }
+        are_canonical_rows(bytes, block.number_of_rows, self.fields.as_slice())
     }
 
     /// Appends the block of the rows of these columns. They were decoded from these bytes.

@@ -1,7 +1,9 @@
 //! Avro files into their canonical form.
 
 use crate::files::{
-    BLOCK, CANONICAL_EVENTS, ENUM, EVENTS, FLOAT, HEADER, LONG_NUMBERS, MAP, NO_FIELD, NO_ROWS,
+    ARRAYS, BLOCK, CANONICAL_EVENTS, ENUM, EVENTS, FLOAT, HEADER, INT_OR_NULL, LONG_NUMBERS, MAP,
+    NO_FIELD, NO_ROWS, NULL_FIRST, NULL_OR_INT, NULL_SECOND, SPLIT_ARRAYS, TWO_BLOCKS,
+    WHOLE_ARRAYS,
 };
 use arrow_base::{Bytes, Error, Items, MemorySink, MemorySource, Reason, Result};
 use avro_canonical::avro_rewrite;
@@ -100,6 +102,24 @@ fn a_canonical_file_stays(rt: HostRuntime) {
 }
 
 #[test]
+fn each_array_becomes_one_block(rt: HostRuntime) {
+    let alloc = rt.alloc();
+    let whole = &[ARRAYS, WHOLE_ARRAYS];
+    for block in [SPLIT_ARRAYS, TWO_BLOCKS, WHOLE_ARRAYS] {
+        assert!(rt; gives(&rt, alloc, &[ARRAYS, block], PLAIN, Ok(2), whole));
+    }
+}
+
+#[test]
+fn null_comes_first(rt: HostRuntime) {
+    let alloc = rt.alloc();
+    let first = &[NULL_FIRST, NULL_OR_INT];
+    let second = &[NULL_SECOND, INT_OR_NULL];
+    assert!(rt; gives(&rt, alloc, second, PLAIN, Ok(2), first));
+    assert!(rt; gives(&rt, alloc, first, PLAIN, Ok(2), first));
+}
+
+#[test]
 fn blocks_of_no_rows_are_left_out_and_others_stay_apart(rt: HostRuntime) {
     let alloc = rt.alloc();
     let file = &[HEADER, NO_ROWS, BLOCK, NO_ROWS, LONG_NUMBERS, NO_ROWS];
@@ -153,15 +173,16 @@ fn a_file_that_is_cut_is_refused(rt: HostRuntime) {
 }
 
 #[test]
-fn a_block_whose_rows_are_cut_leaves_the_blocks_before(rt: HostRuntime) {
+fn a_block_whose_bytes_are_no_rows_leaves_the_blocks_before(rt: HostRuntime) {
     let alloc = rt.alloc();
     let marker: &[u8] = &[1; 16];
-    let cut: [(&[u8], Reason); 3] = [
+    let broken: [(&[u8], Reason); 4] = [
+        (b"\x02\x04\x02\x04", Reason::BlockBytes),
         (b"\x04\x00", Reason::Rows),
         (b"\x04\x02\x82", Reason::Rows),
         (b"\x04\x04\x82\x00", Reason::BlockBytes),
     ];
-    for (block, reason) in cut {
+    for (block, reason) in broken {
         let file = [HEADER, LONG_NUMBERS, block, marker];
         let fault = Err(Error::ExternalFormat(reason));
         assert!(rt; gives(&rt, alloc, &file, PLAIN, fault, &[HEADER, BLOCK]));

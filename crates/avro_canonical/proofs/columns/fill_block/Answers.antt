@@ -1,6 +1,4 @@
-use Rattle.std.proofs.Common.{◌≡◌, ◌<◌, ◌∙◌, ℕ, List, length, map, slice_index_or, sym, ap, subst}
-use Rattle.arrow_array.specs.Arrays.{array_slots}
-use Rattle.avro_write.specs.Rows.{rows}
+use Rattle.std.proofs.Common.{◌≡◌, ◌<◌, ℕ, List, length, slice_index_or, sym, subst}
 use Rattle.avro_write.specs.Serializing.{Serializing}
 use Rattle.avro_canonical.proofs.Serializers.{accepted_length, as_many_left}
 use Rattle.avro_canonical.proofs.columns.fill_block.Goals as goal

@@ -1,6 +1,5 @@
 use Rattle.std.proofs.Common.{◌≡◌, Err, ap, get_or, arith, rules}
 use Rattle.avro_schema.specs.declared.schema.AvroField.{AvroField}
-use Rattle.arrow_core.specs.declared.error.Error.{Error}
 use Rattle.arrow_core.specs.declared.error.Error.TheVariants.{OutOfMemory}
 use Rattle.avro_canonical.proofs.Serializers.{field_within, accepted_at, only_memory, err_then, one_more, all_done}
 use Rattle.avro_canonical.proofs.Encoded.{more_encoded, all_encoded}

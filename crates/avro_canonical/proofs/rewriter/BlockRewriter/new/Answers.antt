@@ -1,12 +1,26 @@
-use Rattle.std.proofs.Common.{◌≡◌, Err, List, ap, subst, sym, rules}
-use Rattle.avro_schema.specs.declared.schema.AvroField.{AvroField}
+use Rattle.std.proofs.Common.{◌∙◌, ap}
+use Rattle.std.proofs.lemmas.Result.{err_from_is_err_and}
 use Rattle.avro_schema.specs.declared.schema.Record.{Record, out-Record}
-use Rattle.avro_canonical.specs.Canonical.{AreCarried, CannotBeRewritten}
-use Rattle.avro_canonical.proofs.Making.{are_made, made_rewriting, record_refused}
+use Rattle.avro_decode.specs.Decoder.{Projected}
+use Rattle.avro_canonical.specs.Canonical.{CannotBeRewritten, Rewriting}
+use Rattle.avro_canonical.proofs.Copied.{made_rewriter}
+use Rattle.avro_canonical.proofs.Making.{made_rewriting, memory_refused}
 use Rattle.avro_canonical.proofs.Serializers.{err_then}
 use Rattle.avro_canonical.proofs.rewriter.BlockRewriter.new.Goals as goal
 
+pub returns-in_err-fields-clause-err : goal.returns-in_err-fields-clause-err
+returns-in_err-fields-clause-err c =
+    let root = (out-Record c.args.root).fields in
+    let given = err_from_is_err_and c.from_residual-in_err-fields.result c.from_residual-in_err-fields.ensures.1 in
+    err_then (CannotBeRewritten root) c.from_residual-in_err-fields.result given.0 given.1 (memory_refused root given.0 (given.2 ∙ c.in_err-fields.ensures.memory))
+
 pub invariant_of-rewriter : goal.invariant_of-rewriter
 invariant_of-rewriter c =
-    made_rewriting (out-Record c.args.root).fields c.in_ok-columns.columns.fields c.in_ok-nameless.field-0 c.args.name.now c.args.marker c.in_ok-target.target c.in_ok-decoder.decoder (out-Record c.in_ok-fields.field-0).fields
-    c.in_ok-columns.ensures.fields c.in_ok-nameless.ensures.record_is c.in_ok-target.ensures.named c.in_ok-decoder.ensures.decoder (ap (λ (z : Record). (out-Record z).fields) c.in_ok-fields.ensures.copy)
+    let root = (out-Record c.args.root).fields in
+    let fields = (out-Record c.in_ok-fields.field-0).fields in
+    let w : Rewriting = record { decoder = c.in_ok-decoder.decoder; fields = fields; marker = c.args.marker } in
+    let of_record = λ (z : Record). (out-Record z).fields in
+    let made =
+    made_rewriting root c.in_ok-columns.columns.fields c.in_ok-nameless.field-0 c.args.name.now c.args.marker c.in_ok-target.target c.in_ok-decoder.decoder fields c.in_ok-columns.ensures.fields c.in_ok-nameless.ensures.record_is c.in_ok-target.ensures.named c.in_ok-decoder.ensures.decoder (ap of_record c.in_ok-fields.ensures.copy) in
+    made_rewriter c.are_alike-may_copy.result w root c.as_slice-2.result.now c.as_slice-3.result.now made (ap (λ (p : Projected). p.avro_fields) c.in_ok-decoder.ensures.decoder)
+    (c.as_slice-2.ensures ∙ ap of_record c.in_ok-sources.ensures.copy) c.as_slice-3.ensures c.are_alike-may_copy.ensures

@@ -1,4 +1,4 @@
-use Rattle.std.proofs.Common.{◌≡◌, ◌∙◌, ℕ, List, map, refl, sym, ap, subst, arith}
+use Rattle.std.proofs.Common.{◌∙◌, List, map, refl, sym, ap, subst, arith}
 use Rattle.std.proofs.lemmas.Bool.Decides.{nat_tests}
 use Rattle.std.proofs.lemmas.Result.{on_ok_weaker}
 use Rattle.arrow_array.specs.Arrays.{array_slots}
@@ -13,20 +13,20 @@ use Rattle.avro_canonical.proofs.rewriter.BlockRewriter.push_columns.Goals as go
 
 pub fill_block-requires-clause-accepted : goal.fill_block-requires-clause-accepted
 fill_block-requires-clause-accepted c =
-    let is : IsRewriting c.args.self.now = subst IsRewriting c.self.view_is c.self.invariant in
+    let is : IsRewriting c.args.self.now = subst IsRewriting c.self.view_is c.self.invariant.rewriting in
     let r = c.requires in
     subst (λ (fs : List AvroField). AreAccepted fs c.args.columns.now) (sym (c.as_slice.ensures ∙ ap (λ (w : Rewriting). w.fields) c.self.view_is))
     (all_accepted c.args.self.now is r.possible c.args.number_of_rows c.args.bytes.now c.args.columns.now r.bytes r.columns r.types r.counted r.symbols)
 
 pub fill_block-requires-clause-lengths : goal.fill_block-requires-clause-lengths
 fill_block-requires-clause-lengths c =
-    let is : IsRewriting c.args.self.now = subst IsRewriting c.self.view_is c.self.invariant in
+    let is : IsRewriting c.args.self.now = subst IsRewriting c.self.view_is c.self.invariant.rewriting in
     let r = c.requires in
     all_counted c.args.self.now is r.possible c.args.number_of_rows c.args.bytes.now c.args.columns.now r.bytes r.columns r.types r.counted r.symbols c.args.number_of_rows refl
 
 pub returns-clause-ok : goal.returns-clause-ok
 returns-clause-ok c =
-    let is : IsRewriting c.args.self.now = subst IsRewriting c.self.view_is c.self.invariant in
+    let is : IsRewriting c.args.self.now = subst IsRewriting c.self.view_is c.self.invariant.rewriting in
     let r = c.requires in
     let block = c.fill_block.new.block in
     let fields = c.as_slice.ensures ∙ ap (λ (w : Rewriting). w.fields) c.self.view_is in

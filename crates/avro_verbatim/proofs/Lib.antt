@@ -1,0 +1,4 @@
+pub mod Alikes
+pub mod Flats
+pub mod Numbers
+pub mod Values
