@@ -1,5 +1,5 @@
 -- The lines of a block's chunk are those of its table, and a date out of range is all that can be refused of it.
-use Rattle.std.proofs.Common.{◌≡◌, ◌∙◌, ◌⊎◌, inl, inr, ℕ, zero, suc, ◌<◌, ◌≤◌, ◌==◌, Bool, true, false, List, [], ◌∷◌, ◌++◌, length, map, All, codes, Option, Some, None, refl, sym, ap, subst, arith}
+use Rattle.std.proofs.Common.{◌≡◌, ◌∙◌, ◌⊎◌, inl, inr, ℕ, zero, suc, ◌<◌, Bool, true, false, List, [], ◌∷◌, ◌++◌, length, map, All, codes, Option, Some, None, refl, sym, ap, subst, arith}
 use Rattle.std.specs.Prelude.{if◌then◌else◌, Result, Ok, Err, OnOk, IfErr}
 use Rattle.std.specs.List.{flat_map, list_all}
 use Rattle.std.proofs.lemmas.List.{length-map}
@@ -13,11 +13,10 @@ use Rattle.arrow_array.specs.declared.array.Array.{Array}
 use Rattle.arrow_array.specs.Arrays.{array_type, array_slots}
 use Rattle.json_text.specs.Refusals.{has_text, has_offsets}
 use Rattle.json_write.specs.Rows.{lines, names_of, objects, first_refusal, chunk_refusal}
-use Rattle.avro_grammar.specs.Rows.{Rows}
 use Rattle.avro_grammar.specs.ValidBlock.{kept, KeptEnumsFit}
 use Rattle.avro_container.specs.File.{FileBlock, the_block}
 use Rattle.avro_blocks.specs.Written.{AppendsBlock}
-use Rattle.avro_decode.specs.Columns.{AreColumns, columns, kept_types}
+use Rattle.avro_decode.specs.Columns.{AreColumns, kept_types}
 use Rattle.avro_decode.specs.Decoder.{Projected}
 use Rattle.avro_decode.specs.Refusals.{AreCounted}
 use Rattle.avro_ndjson.specs.Shown.{table_lines, dates_in_range, HasTable, ShowsBlock}

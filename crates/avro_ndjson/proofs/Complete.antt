@@ -1,11 +1,8 @@
 -- Of a source that tells its bytes: a file whose rows can be shown is converted, and no other error than that of its
 -- fields is answered where they can't be shown.
-use Rattle.std.proofs.Common.{◌≡◌, ◌≢◌, ◌∙◌, ◌⊎◌, inl, inr, ℕ, zero, suc, ◌+◌, ◌-◌, ◌<◌, ◌≤◌, Bool, true, false, List, [], ◌∷◌, ◌++◌, length, get_or, All, Option, Some, None, refl, sym, ap, subst, append_assoc, length-append, arith}
-use Rattle.std.proofs.lemmas.List.{append-nil, append_cancel_left}
+use Rattle.std.proofs.Common.{◌≡◌, ◌≢◌, ◌∙◌, ◌⊎◌, inl, inr, ℕ, ◌+◌, ◌-◌, true, false, List, ◌++◌, length, All, Option, Some, None, sym, ap, subst, append_assoc, length-append, arith}
 use Rattle.std.proofs.lemmas.Option.{same_Some}
-use Rattle.std.specs.List.{AllZip}
-use Rattle.std.specs.Io.KnownBytes.{Consumes, IsAtEnd}
-use Rattle.arrow_base.specs.Outside.{RoseOrFull}
+use Rattle.std.specs.Io.KnownBytes.{Consumes}
 use Rattle.arrow_core.specs.declared.error.Error.{Error}
 use Rattle.arrow_core.specs.declared.error.Error.TheVariants.{OutOfMemory}
 use Rattle.arrow_types.specs.declared.types.Field.{Field}
@@ -13,27 +10,23 @@ use Rattle.avro_schema.specs.declared.schema.Record.{Record, out-Record}
 use Rattle.avro_grammar.specs.Inferred.{inferred_columns}
 use Rattle.avro_grammar.proofs.RowLaws.{same_table}
 use Rattle.avro_grammar.specs.ValidBlock.{ValidBlock}
-use Rattle.avro_container.specs.BlockReader.{NoBlock}
-use Rattle.avro_container.specs.File.{FileBlock, HeaderParts, header_parts, schema_entry, IsFileBlock, Sequence, none, one}
-use Rattle.avro_container.specs.FileForms.{marked_block}
+use Rattle.avro_container.specs.File.{FileBlock, HeaderParts, header_parts, schema_entry}
 use Rattle.avro_container.specs.Laws.{told}
-use Rattle.avro_container.specs.Taking.{State, state, SizeFalls, Passed}
-use Rattle.avro_container.proofs.Complete.{block_is_read, no_bytes_are_end}
-use Rattle.avro_container.proofs.OneFile.{header_reads, block_reads, block_some, front_none}
+use Rattle.avro_container.specs.Taking.{State, state}
+use Rattle.avro_container.proofs.OneFile.{header_reads}
 use Rattle.avro_blocks.specs.Changes.{Change, header_of, Failed, IsTold, CameFromOutside}
 use Rattle.avro_blocks.proofs.Reading.{consumed_some, IsGood, all_good, stops_for_memory}
 use Rattle.avro_blocks.proofs.Results.{memory_or_not}
 use Rattle.avro_blocks.proofs.Steps.{rose_from}
 use Rattle.avro_file.specs.File.{StandsFor, AvroFile}
 use Rattle.avro_file.specs.Laws.{IsMetadata}
-use Rattle.avro_file.specs.Metadata.{ReadsMetadata}
 use Rattle.avro_file.proofs.Complete.{metadata_is_read, metadata_is_right}
 use Rattle.avro_file.proofs.Roots.{one_root}
 use Rattle.avro_decode.specs.Decoder.{Projected, CanBeDecoded}
 use Rattle.avro_decode.proofs.Valid.{valid_blocks}
 use Rattle.avro_ndjson.specs.Laws.{CanBeConverted, IsHeaderDue, FilesAreConverted, FieldsAreRefused, RefusedIsNotConverted}
-use Rattle.avro_ndjson.specs.Refusals.{CannotBeShown, HeaderNotShown, BlockNotShown, Converts, ConversionFails}
-use Rattle.avro_ndjson.specs.Shown.{CanBeShown, projected_of, dates_in_range, ShowsBlock, ShowsFile}
+use Rattle.avro_ndjson.specs.Refusals.{CannotBeShown, BlockNotShown, ConversionFails}
+use Rattle.avro_ndjson.specs.Shown.{projected_of, dates_in_range, ShowsBlock}
 use Rattle.avro_ndjson.specs.Taken.{BlockIsWrong, StopsAtBlock}
 use Rattle.avro_ndjson.proofs.Decoders.{can_be_decoded}
 use Rattle.avro_ndjson.proofs.Reasons.{shown_or_not, one_reason}

@@ -1,13 +1,13 @@
 -- Fields that can be shown can be decoded.
 use Rattle.std.proofs.Common.{◌≡◌, ◌∙◌, ℕ, true, List, [], ◌∷◌, length, Option, Some, sym, arith}
-use Rattle.std.specs.List.{AllZip, range_with_len}
+use Rattle.std.specs.List.{range_with_len}
 use Rattle.std.proofs.lemmas.List.{length-map}
 use Rattle.std.proofs.lemmas.List.FromFn.{length-range_with_len}
 use Rattle.arrow_types.specs.declared.types.Field.{Field}
 use Rattle.avro_schema.specs.declared.schema.AvroField.{AvroField}
 use Rattle.avro_schema.specs.declared.schema.Record.{Record, out-Record}
 use Rattle.avro_grammar.specs.Inferred.{own_doc, inferred_columns}
-use Rattle.avro_grammar.specs.Types.{HasColumnType, Typed, Fits}
+use Rattle.avro_grammar.specs.Types.{HasColumnType, Fits}
 use Rattle.avro_grammar.proofs.TypeLemmas.{small_forms_fit}
 use Rattle.avro_infer.specs.Columns.{AllTyped}
 use Rattle.avro_infer.proofs.ColumnTypes.{zip_length}

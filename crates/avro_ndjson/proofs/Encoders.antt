@@ -1,5 +1,5 @@
 -- Why no encoder of a file's blocks is made, and what it is where it is made.
-use Rattle.std.proofs.Common.{◌≡◌, ◌≢◌, ◌∙◌, ◌⊎◌, inl, inr, ℕ, zero, suc, ◌+◌, ◌<◌, ◌≤◌, Bool, true, false, List, [], ◌∷◌, length, get_or, map, All, Option, Some, None, refl, sym, ap, subst, arith}
+use Rattle.std.proofs.Common.{◌≡◌, ◌≢◌, ◌∙◌, ℕ, ◌+◌, ◌<◌, Bool, true, false, List, [], ◌∷◌, length, get_or, All, Option, Some, None, refl, sym, ap, subst, arith}
 use Rattle.std.specs.Prelude.{◌||◌, IfSome}
 use Rattle.std.specs.List.{AllZip, range_with_len}
 use Rattle.std.proofs.lemmas.List.{get_or-map}
@@ -20,7 +20,7 @@ use Rattle.avro_line.proofs.Types.{HaveTypes, columns_typed}
 use Rattle.avro_ndjson.specs.Encoder.{IsEncoder}
 use Rattle.avro_ndjson.specs.declared.lines.BlockEncoder.{BlockEncoder}
 use Rattle.avro_ndjson.specs.Plan.{IsPlan}
-use Rattle.avro_ndjson.specs.Keep.{is_kept, projection_of, AreNumbers, NamesFields}
+use Rattle.avro_ndjson.specs.Keep.{is_kept, projection_of, NamesFields}
 use Rattle.avro_ndjson.specs.Refusals.{AreCarried, AreChosen, CannotBeShown}
 use Rattle.avro_ndjson.specs.Shown.{kept_of}
 use Rattle.avro_ndjson.proofs.Decoders.{columns_are_fit, as_many, projection_length}

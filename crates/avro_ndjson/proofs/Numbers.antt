@@ -1,7 +1,7 @@
 -- The numbers of the fields to keep, one at a time.
-use Rattle.std.proofs.Common.{◌≡◌, ◌≢◌, ◌∙◌, ◌⊎◌, inl, inr, ℕ, zero, suc, ◌+◌, ◌<◌, ◌≤◌, ◌==◌, eqb, replicate, Bool, true, false, List, [], ◌∷◌, ◌++◌, length, get_or, set, take, map, All, refl, sym, ap, subst, arith}
+use Rattle.std.proofs.Common.{◌≡◌, ◌≢◌, ◌∙◌, ◌⊎◌, inl, inr, ℕ, zero, suc, ◌+◌, ◌<◌, ◌≤◌, ◌==◌, replicate, Bool, true, false, List, [], ◌∷◌, ◌++◌, length, get_or, set, take, map, All, refl, sym, ap, subst, arith}
 use Rattle.std.specs.Prelude.{◌||◌, AllPairs}
-use Rattle.std.specs.List.{list_any, range_with_len}
+use Rattle.std.specs.List.{range_with_len}
 use Rattle.std.proofs.lemmas.Bool.{cases_eq}
 use Rattle.std.proofs.lemmas.Bool.Decides.{nat_tests}
 use Rattle.std.proofs.lemmas.List.{take_more, take_all, length-set, length-replicate, get_or-replicate, get_or-set_same, get_or-set_other, get_or-take, length-take-le}
@@ -10,7 +10,7 @@ use Rattle.std.proofs.lemmas.List.Folds.{list_any_more}
 use Rattle.std.proofs.lemmas.List.FromFn.{fill_by_all}
 use Rattle.std.proofs.lemmas.List.Quantifiers.{all_pairs_push}
 use Rattle.arrow_base.specs.Outside.{is_among}
-use Rattle.avro_ndjson.specs.Keep.{is_kept, projection_of, AreNumbers}
+use Rattle.avro_ndjson.specs.Keep.{AreNumbers}
 
 -- the flags are those of the first i numbers
 pub record Flagged (count : ℕ) (numbers : List ℕ) (i : ℕ) (flags : List Bool) : Type 0 where

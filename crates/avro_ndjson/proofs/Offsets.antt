@@ -1,9 +1,8 @@
 -- The zones of timestamps in columns of Avro schemas are offsets: they are 00:00, or none.
-use Rattle.std.proofs.Common.{◌≡◌, ◌∙◌, inl, inr, ℕ, zero, suc, ◌<◌, Bool, true, false, List, [], ◌∷◌, length, All, Option, Some, None, refl, ap, arith}
+use Rattle.std.proofs.Common.{◌≡◌, ◌∙◌, inl, inr, ℕ, zero, suc, Bool, true, List, [], ◌∷◌, All, Option, Some, None, refl, ap, arith}
 use Rattle.std.specs.List.{list_all, AllZip}
 use Rattle.std.specs.Prelude.{◌&&◌}
 use Rattle.arrow_types.specs.declared.types.DataType.{DataType}
-use Rattle.arrow_types.specs.declared.types.DataType as data_type
 use Rattle.arrow_types.specs.declared.types.Field.{Field}
 use Rattle.json_dates.specs.Times.{offset_of}
 use Rattle.json_text.specs.Refusals.{has_offsets, is_offset}

@@ -1,12 +1,10 @@
 -- Of the same bytes one error of the metadata's reader is right at most, out of memory aside.
-use Rattle.std.proofs.Common.{◌≡◌, ◌∙◌, ◌⊎◌, inl, inr, ℕ, ◌≤◌, List, [], ◌∷◌, ◌++◌, length, Option, Some, None, refl, sym, ap, subst, append_assoc, length-append, arith}
-use Rattle.std.specs.Io.KnownBytes.{IsAtEnd}
+use Rattle.std.proofs.Common.{◌≡◌, ◌∙◌, ◌⊎◌, inl, inr, ℕ, List, ◌++◌, Option, Some, None, refl, sym, ap, subst, append_assoc, arith}
 use Rattle.arrow_base.specs.Outside.{RoseOrFull}
 use Rattle.arrow_core.specs.declared.error.Error.{Error}
 use Rattle.arrow_core.specs.declared.error.Error.TheVariants.{NotYetImplemented, ExternalFormat, LimitExceeded, ReadFault, OutOfMemory}
 use Rattle.arrow_core.specs.declared.error.Reason.TheVariants as reason
 use Rattle.json_tree.specs.Meaning.{IsJson}
-use Rattle.avro_schema.proofs.Prefixes.{head_is, tail_is}
 use Rattle.avro_schema.specs.declared.schema.Schema.{Schema}
 use Rattle.avro_text.specs.Outcome.{Outcome, wrong, reference}
 use Rattle.avro_text.specs.Reading.{schema_of, SchemaTextRefused}
@@ -16,9 +14,9 @@ use Rattle.avro_text.proofs.Answered.{only_memory}
 use Rattle.avro_container.specs.File.{Entry, HeaderParts, header_parts, Header, schema_entry, magic}
 use Rattle.avro_container.specs.FileForms.{magic_form, after_magic, header}
 use Rattle.avro_container.specs.Forms.{Form as BytesForm}
-use Rattle.avro_container.specs.Laws.{Settles, told, BeginsWith, NamesOtherCodec}
+use Rattle.avro_container.specs.Laws.{told, BeginsWith, NamesOtherCodec}
 use Rattle.avro_container.specs.ReadHeader.{Change as SourceChange, Broken, BrokenHeader, OtherCodec, NoHeader, ReadsHeader, HeaderFails}
-use Rattle.avro_container.specs.Taking.{State, state, Takes, TakesPast, Passed}
+use Rattle.avro_container.specs.Taking.{State, state, Passed}
 use Rattle.avro_container.proofs.Complete.{magic_cause, header_cause, codec_cause, header_limit_cause, header_is_read}
 use Rattle.avro_container.proofs.OneFile.{header_reads}
 use Rattle.avro_container.proofs.SettledBlocks.{header_settles}

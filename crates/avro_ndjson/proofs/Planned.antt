@@ -1,23 +1,22 @@
 -- Rows that were shown without columns are those of the block's table.
-use Rattle.std.proofs.Common.{◌≡◌, ◌∙◌, ℕ, ◌<◌, ◌≤◌, Bool, true, false, List, ◌++◌, length, map, Option, Some, Result, Ok, Err, OnOk, is_ok, inl, refl, sym, ap, subst, arith}
+use Rattle.std.proofs.Common.{◌≡◌, ◌∙◌, ℕ, ◌≤◌, true, List, ◌++◌, length, map, Option, Some, Result, Ok, Err, OnOk, is_ok, inl, refl, sym, ap, subst, arith}
 use Rattle.std.specs.Prelude.{IfSome}
 use Rattle.std.specs.List.{list_all}
 use Rattle.std.proofs.lemmas.Bool.{false≢true}
 use Rattle.arrow_types.specs.declared.types.Field.{Field}
 use Rattle.json_text.specs.Refusals.{all_in_range}
 use Rattle.json_write.specs.Rows.{lines, names_of}
-use Rattle.avro_schema.specs.declared.schema.AvroField.{AvroField}
 use Rattle.avro_grammar.specs.ValidBlock.{kept, small_limit}
 use Rattle.avro_grammar.proofs.RowLaws.{rows_have}
 use Rattle.avro_container.specs.File.{the_block}
 use Rattle.avro_blocks.specs.Written.{AppendsBlock}
-use Rattle.avro_line.specs.Rows.{ArePrepared, ShowsRows, ShowsRowsOf}
+use Rattle.avro_line.specs.Rows.{ShowsRows, ShowsRowsOf}
 use Rattle.avro_decode.specs.Decoder.{Projected}
 use Rattle.avro_ndjson.specs.declared.lines.BlockEncoder.{BlockEncoder}
 use Rattle.avro_ndjson.specs.declared.plan.RowPlan.{RowPlan}
 use Rattle.avro_ndjson.specs.Encoder.{IsEncoder}
 use Rattle.avro_ndjson.specs.Plan.{IsPlan}
-use Rattle.avro_ndjson.specs.Shown.{table_lines, dates_in_range, HasTable, ShowsBlock}
+use Rattle.avro_ndjson.specs.Shown.{table_lines, ShowsBlock}
 
 pub of_ok : {X E : Type 0} (r : Result X E) (P : Type 0) → is_ok r ≡ true → OnOk r P → P
 of_ok (Ok x) P e h = h

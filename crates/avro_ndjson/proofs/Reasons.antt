@@ -1,13 +1,12 @@
 -- Why fields can't be shown: for one reason at most, and for none where they can.
-use Rattle.std.proofs.Common.{◌≡◌, ◌≢◌, ◌∙◌, ◌⊎◌, inl, inr, ℕ, ◌<◌, List, [], ◌∷◌, length, All, Option, Some, None, refl, sym, ap, subst, arith}
+use Rattle.std.proofs.Common.{◌≡◌, ◌≢◌, ◌∙◌, ℕ, List, [], length, Option, Some, refl, sym, ap, subst, arith}
 use Rattle.std.proofs.lemmas.Option.{same_Some}
 use Rattle.arrow_core.specs.declared.error.Error.{Error}
 use Rattle.arrow_core.specs.declared.error.Error.TheVariants.{InvalidArgumentError, NotYetImplemented, OutOfMemory}
 use Rattle.arrow_core.specs.declared.error.Reason.TheVariants as reason
 use Rattle.arrow_types.specs.declared.types.Field.{Field}
 use Rattle.avro_schema.specs.declared.schema.AvroField.{AvroField}
-use Rattle.avro_grammar.specs.Inferred.{inferred_columns}
-use Rattle.avro_ndjson.specs.Keep.{AreNumbers, NamesFields}
+use Rattle.avro_ndjson.specs.Keep.{NamesFields}
 use Rattle.avro_ndjson.specs.Refusals.{CannotBeShown}
 use Rattle.avro_ndjson.specs.Shown.{kept_of, HaveTexts, CanBeShown}
 

@@ -2,7 +2,6 @@
 
 ghost use Rattle.std.specs.Prelude.{◌≡◌, ◌≤◌, length, IfOk, IfSome, OnOk};
 ghost use Rattle.arrow_core.specs.Errors.{OnlyOutOfMemory};
-ghost use Rattle.avro_grammar.specs.Carried.{CarriedList};
 ghost use Rattle.avro_grammar.specs.ValidBlock.{small_limit};
 ghost use Rattle.avro_line.specs.Rows.{ShowsRowsOf};
 ghost use Rattle.json_text.specs.Columns.{AreFields};

@@ -1,4 +1,4 @@
-use Rattle.std.proofs.Common.{rules, ◌≡◌, Option, List, replicate, true, ℕ, Bool}
+use Rattle.std.proofs.Common.{rules, ◌≡◌, replicate, true}
 use Rattle.avro_ndjson.proofs.Numbers.{all_kept}
 use Rattle.avro_ndjson.proofs.keep.projection_of.Goals as goal
 

@@ -1,6 +1,4 @@
-use Rattle.std.proofs.Common.{◌≡◌, Result, Ok, Err, OnOk, is_ok, true, subst}
-use Rattle.std.specs.Prelude.{IfSome}
-use Rattle.avro_ndjson.specs.Plan.{IsPlan}
+use Rattle.std.proofs.Common.{◌≡◌, is_ok, true}
 use Rattle.avro_ndjson.proofs.Planned.{few_rows, shows_block, of_ok, plan_of}
 use Rattle.avro_ndjson.proofs.lines.BlockEncoder.push_rows.Goals as goal
 
