@@ -4,8 +4,9 @@ ghost use Rattle.avro_grammar.specs.ValidBlock.{EnumsFit, KeptEnumsFit};
 
 use avro_schema::{AvroField, AvroSchema};
 
-/// Whether no kept field's value need be given up for its kind: at every depth it is a boolean, a
-/// number, a string, an array, a record, or a union of these and null.
+/// Whether no kept field's value need be given up for its kind: at every depth it is a boolean, an
+/// int, a long, a string, an array, a record, or a union of these and null. Where it is true,
+/// dictionaries can hold the symbols of each kept enum, since no enum is kept.
 pub fn are_known(avro_fields: &[AvroField], projection: &[bool]) -> bool
     requires lengths { length avro_fields.now ≡ length projection.now }
     ensures { IsTrue result → KeptEnumsFit avro_fields.now projection.now }

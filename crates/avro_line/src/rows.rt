@@ -17,8 +17,8 @@ use std::marker::PhantomData;
 /// one after another, of the types of their schemas.
 ///
 /// `GivenUp` may come at any time, and then anything may have been appended: at bytes that aren't
-/// such rows, at a date that is in no year from 0 to 9999, at a value that isn't a boolean, a
-/// number, a string, or an array, a record or a nullable one of these, at an array of several
+/// such rows, at a date that is in no year from 0 to 9999, at a value that isn't a boolean, an
+/// int, a long, a string, or an array, a record or a nullable one of these, at an array of several
 /// blocks or of one that states its size, where no field is kept, and where there is no memory.
 pub fn push_rows(
     out: &mut Vec<u8>,

@@ -1,4 +1,4 @@
--- Schemas whose values are encoded in the same way (Avro 1.11, "Binary Encoding").
+-- Schemas of which one reads what the other encodes (Avro 1.11, "Binary Encoding").
 use Rattle.std.specs.Prelude.{◌≡◌, ℕ, List, None}
 use Rattle.std.specs.List.{AllZip}
 use Rattle.arrow_types.specs.declared.slot.Slot.{Slot}

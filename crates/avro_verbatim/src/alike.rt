@@ -1,4 +1,4 @@
-//! Whether values of two schemas are encoded in the same way.
+//! Whether what encodes a value of one schema encodes it under another.
 
 ghost use Rattle.std.specs.Prelude.{IsTrue};
 ghost use Rattle.avro_schema.specs.declared.schema.Schema.{Union};
@@ -6,8 +6,10 @@ ghost use Rattle.avro_verbatim.specs.Alike.{AreAlike, IsAlike, IsFixedAlike};
 
 use avro_schema::{AvroField, AvroSchema, Fixed};
 
-/// Whether the values of each field are encoded as those of the field beside it are (Avro 1.11,
-/// "Binary Encoding"): their schemas have the same kind at every depth.
+/// Whether the fields have schemas of the same kinds as those beside them, at every depth. Where it
+/// is true, what encodes a slot under a target encodes it under its source (Avro 1.11, "Binary
+/// Encoding"), dictionaries can hold the symbols of the sources' enums, of which there are none, and
+/// no target is null by itself.
 ///
 /// Logical types of `int`, `long` and `string` don't matter. It is false of fields that hold
 /// decimals, durations, enums, floats, maps or unions other than of null and, second, one schema,

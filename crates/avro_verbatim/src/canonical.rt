@@ -14,9 +14,8 @@ use avro_schema::{AvroField, AvroSchema};
 /// Whether the bytes are so many rows of these fields in their canonical encoding: each number in
 /// its shortest, and each array in one block without a size (Avro 1.11, "Binary Encoding").
 ///
-/// `true` says so. `false` says nothing: of fields that hold decimals, durations, enums, floats,
-/// maps or unions other than of null and, second, one schema no bytes are looked at to the end. It
-/// takes no memory.
+/// `true` says so. `false` says nothing. It is answered at every value of a decimal, a duration, an
+/// enum, a float, a map, or a union other than of null and, second, one schema. It takes no memory.
 pub fn are_canonical_rows(bytes: &[u8], number_of_rows: usize, fields: &[AvroField]) -> bool
     ensures rows { IsTrue result → AreCanonicalRows number_of_rows fields.now bytes.now }
     ensures few { IsTrue result → number_of_rows ≤ length bytes.now }
@@ -135,7 +134,7 @@ fn array_len(bytes: &[u8], item: &AvroSchema) -> Option<usize>
     if count == 0 {
         return Some(bytes.len() - items.len());
     }
-    // Items without a byte aren't counted through.
+    // No more items are counted through than there are bytes left.
     if count > items.len() {
         return None;
     }

@@ -39,7 +39,7 @@ fn skip_boolean(bytes: &[u8]) -> Option<&[u8]>
     }
 }
 
-/// A logical type plays no part in the encoding of an integer or a string.
+/// A number of 32 bits. Logical types play no part in the encoding of numbers and strings.
 #[inline(always)]
 #[tactic(auto, using(crate::proofs::Flats::int_begins))]
 fn skip_int(bytes: &[u8]) -> Option<&[u8]>
