@@ -1,6 +1,7 @@
 """Turns three Avro files of some 25 MB, in blocks of 64 KiB, into JSON lines: flat events of ten fields, rows of forty fields (all
 of them, and one), and orders with lists of records. Beside the program run a plain Rust program for just these schemas, avro-c's
-avrocat (Debian's avro-bin) where it is installed, and Python's avro (Debian's python3-avro) on a twentieth of the rows."""
+avrocat (Debian's avro-bin) and Java's avro (Debian's libavro-java) where they are installed, and Python's avro (Debian's
+python3-avro) on a twentieth of the rows."""
 
 import os
 import subprocess
@@ -9,6 +10,8 @@ from timing import PLAIN, compared, least_in_turn, peak, seconds, work
 
 OURS = work + "/crates/avrocat/out/avrocat"
 AVRO_C = "/usr/bin/avrocat"
+JARS = ["avro", "avro-guava-dependencies", "jackson-core-asl", "jackson-mapper-asl", "slf4j-api", "slf4j-nop"]
+CLASSES = ":".join([work] + ["/usr/share/java/%s.jar" % jar for jar in JARS])
 PYTHON = """
 import json, sys
 from avro.datafile import DataFileReader
@@ -18,6 +21,16 @@ for row in DataFileReader(open(sys.argv[1], "rb"), DatumReader()):
 """
 
 
+def built_by_java():
+    """Whether the program over Java's avro could be built."""
+    source = os.path.join(os.path.dirname(os.path.abspath(__file__)), "AvroToLines.java")
+    try:
+        return subprocess.run(["javac", "-cp", CLASSES, "-d", work, source], stderr=subprocess.DEVNULL).returncode == 0
+    except OSError:
+        return False
+
+
+has_java = built_by_java()
 for kind, rows in [("flat", 400_000), ("forty", 200_000), ("nested", 400_000)]:
     given, few = work + "/" + kind, work + "/few"
     for name, count in [(given, rows), (few, rows // 20)]:
@@ -34,6 +47,8 @@ for kind, rows in [("flat", 400_000), ("forty", 200_000), ("nested", 400_000)]:
         print("  " + compared(first[0], second[0]) + ", %.0f MB/s, %s" % (size / first[0] / 1e6, peak(ours, given)))
     if os.path.exists(AVRO_C):
         print("  avro-c's avrocat %.2f s, of all fields" % seconds([AVRO_C, given])[0])
+    if has_java:
+        print("  Java's avro %.2f s, of all fields" % seconds(["java", "-cp", CLASSES, "AvroToLines"], given)[0])
     try:
         took = seconds(["/usr/bin/python3", "-c", PYTHON, few])[0]
         print("  Python's avro %.2f s for a twentieth of the rows" % took)
