@@ -8,6 +8,7 @@ import os
 import random
 import subprocess
 
+from events import event
 from timing import PLAIN, compared, least_in_turn, peak, seconds, work
 
 OURS = work + "/crates/avrocat/out/avrocat"
@@ -29,17 +30,6 @@ EVENT = ["id=long", "time=timestamp-micros", "user=string", "country=string", "p
 EVENT += ["referrer=string?", "is_bot=boolean", "amount=long?"]
 FORTY = ["c%d=%s" % (i, ["long", "string", "boolean", "long?"][i % 4]) for i in range(40)]
 ORDER = ["id=long", "tags=[string]", "items=[{sku=string;count=int;prices=[long]}]", "address={city=string;geo={lat=long;lon=long}}?"]
-
-
-def event(r, i):
-    return {
-        "id": i, "time": 1_700_000_000_000_000 + i * 1_000_003, "user": "user%d" % r.randrange(100_000),
-        "country": r.choice(["de", "fr", "us", "jp", "br"]),
-        "path": r.choice(["/", "/index.html", "/a/long/path/to/some/page", "/café?q=1&r=2", '/say "hi"']),
-        "status": r.choice([200, 304, 404, 500]), "duration": r.choice([None, r.randrange(5000)]),
-        "referrer": r.choice([None, "https://example.com/", "https://example.org/search?q=arrow"]),
-        "is_bot": r.random() < 0.5, "amount": r.choice([None, r.randrange(1 << 40)]),
-    }
 
 
 def forty(r, i):
