@@ -36,7 +36,7 @@ use Rattle.avro_encode.proofs.ByLists.{pairs_record, plain_record_is}
 use Rattle.avro_encode.proofs.PlainLaw.{parts_struct}
 use Rattle.avro_write.specs.Laws.{all_kept, plain_table}
 use Rattle.avro_write.proofs.TableLaw.{table_encodes}
-use Rattle.json_columns.specs.Reading.{reading}
+use Rattle.json_flat.specs.Reading.{reading}
 use Rattle.json_flat.specs.Columns.{AreSlotsOf, means}
 use Rattle.json_flat.specs.Meaning.{Layer, Meaning, slot_of}
 use Rattle.json_tree.specs.Meaning.{IsJson}

@@ -8,7 +8,7 @@ use Rattle.arrow_types.specs.declared.types.Field.{Field}
 use Rattle.avro_record.specs.Listed.{HasNoFields}
 use Rattle.avro_record.proofs.ByFields.{large_list_schema, list_schema}
 use Rattle.json_columns.specs.Gathered.{all_have_reading}
-use Rattle.json_columns.specs.Reading.{has_reading}
+use Rattle.json_flat.specs.Reading.{has_reading}
 use Rattle.json_columns.proofs.ByFields.{large_list_readable, list_readable, struct_readable}
 use Rattle.arrow_convert.specs.ReadAgain.{RecordsAreWritable}
 use Rattle.arrow_convert.proofs.ByParts.{EachType, each_by_parts}

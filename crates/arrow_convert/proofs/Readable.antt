@@ -17,7 +17,7 @@ use Rattle.avro_record.specs.Listed.{HasNoFields, array_schema, can_serialize_al
 use Rattle.avro_record.specs.Schemas.{can_serialize, column_schema, columns_fields, optional, plain_field, plain_record, record_name, schema_of, structs_in, timestamp}
 use Rattle.avro_record.proofs.ByFields.{large_list_schema, large_list_serializable, list_schema, list_serializable, struct_schema_is, struct_serializable}
 use Rattle.json_columns.specs.Gathered.{all_have_reading}
-use Rattle.json_columns.specs.Reading.{has_reading}
+use Rattle.json_flat.specs.Reading.{has_reading}
 use Rattle.json_columns.proofs.ByFields.{large_list_readable, list_readable, struct_readable}
 use Rattle.ndjson_avro.specs.Nulls.{any_holds_null, holds_null}
 use Rattle.ndjson_avro.specs.Target.{HasTarget}

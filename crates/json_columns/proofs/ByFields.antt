@@ -18,7 +18,7 @@ use Rattle.arrow_array.specs.Dictionaries.{IsDictionaryOf}
 use Rattle.json_columns.specs.Dictionaries.{HasFirstItems, TooManyDistinct}
 use Rattle.json_columns.specs.Faults.{IsFault, IsListFault, IsSizedFault, IsStructFault, TooMany, TooManyFields, TooManyListed, TooManyMembers}
 use Rattle.json_columns.specs.Gathered.{all_have_reading, field_meanings, members_named, struct_has_reading}
-use Rattle.json_columns.specs.Reading.{has_field, has_reading, have_reading, is_value_type, list_in, member_meanings, or_null, reading, sized_list_in, struct_in}
+use Rattle.json_flat.specs.Reading.{has_field, has_reading, have_reading, is_value_type, list_in, member_meanings, or_null, reading, sized_list_in, struct_in}
 
 -- ---- lists
 

@@ -17,7 +17,7 @@ use Rattle.json_tree.specs.Tree.{Json}
 use Rattle.json_flat.specs.Meaning.{Layer, Meaning}
 use Rattle.json_flat.specs.Columns.{AreSlotsOf, IsColumnFault}
 use Rattle.json_columns.specs.Dictionaries.{AreEncoded, AreTooMany, HasFirstItems}
-use Rattle.json_columns.specs.Reading.{reading}
+use Rattle.json_flat.specs.Reading.{reading}
 
 -- ---- keys and values of an array that was read
 

@@ -15,7 +15,7 @@ use Rattle.json_flat.specs.Meaning.{slot_of, text_timestamp}
 use Rattle.json_flat.specs.Columns.{IsNoSlot, means}
 use Rattle.json_columns.specs.Faults.{AreMemberColumns, IsFieldsFault, IsMemberColumn, IsMemberFault, IsStructFault, TooManyFields}
 use Rattle.json_columns.specs.Gathered.{all_have_reading, are_objects, field_meanings, is_object, member_in, members_named, struct_has_reading}
-use Rattle.json_columns.specs.Reading.{has_reading, reading, struct_in}
+use Rattle.json_flat.specs.Reading.{has_reading, reading, struct_in}
 use Rattle.json_columns.proofs.Anywhere.{AnyOf, from_any, to_any}
 use Rattle.json_columns.proofs.Rows.{text_in_structs, none_in_structs}
 

@@ -8,7 +8,7 @@ use Rattle.json_tree.specs.declared.value.Value.TheVariants as variant
 use Rattle.json_tree.specs.declared.value.Object.{Object}
 use Rattle.json_flat.specs.Meaning.{Layer}
 use Rattle.json_columns.specs.Gathered.{is_object, items_in, len_in, member_in}
-use Rattle.json_columns.specs.Reading.{or_null}
+use Rattle.json_flat.specs.Reading.{or_null}
 
 pub array_layer : (v : Json) (items : List Json) → v ≡ variant.Array items → out-Value v ≡ layer.Array items
 array_layer v items e = ap out-Value e ∙ variant.outs-Array items

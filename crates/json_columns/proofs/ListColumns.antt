@@ -18,7 +18,7 @@ use Rattle.json_flat.specs.Meaning.{Meaning, Layer, slot_of, text_timestamp}
 use Rattle.json_flat.specs.Columns.{AreSlotsOf, IsColumnFault, IsNoSlot, means}
 use Rattle.json_columns.specs.Faults.{IsCountFault, IsFault, IsListFault}
 use Rattle.json_columns.specs.Gathered.{all_items, items_in, len_in, list_lens}
-use Rattle.json_columns.specs.Reading.{list_in, reading}
+use Rattle.json_flat.specs.Reading.{list_in, reading}
 use Rattle.json_columns.proofs.Anywhere.{AnyOf, from_any, to_any, of_append, in_map}
 use Rattle.json_columns.proofs.Gathering.{counted}
 use Rattle.json_columns.proofs.Together.{made, made_text, made_none}

@@ -7,7 +7,7 @@ use Rattle.json_tree.specs.declared.value.Value.TheOpen as layer
 use Rattle.json_tree.specs.declared.value.Value.TheVariants as variant
 use Rattle.json_flat.specs.Meaning.{slot_of}
 use Rattle.json_flat.specs.Columns.{means}
-use Rattle.json_columns.specs.Reading.{inner_reading, reading}
+use Rattle.json_flat.specs.Reading.{inner_reading, reading}
 
 mutual
   null_layer : (t : DataType) → reading t layer.Null ≡ slot_of slot.Null

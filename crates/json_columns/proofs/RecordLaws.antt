@@ -18,7 +18,7 @@ use Rattle.json_flat.specs.Meaning.{text_timestamp, slot_of}
 use Rattle.json_flat.specs.Columns.{Has, means}
 use Rattle.json_columns.specs.Faults.{AreMemberColumns, IsFieldsFault, IsStructFault}
 use Rattle.json_columns.specs.Gathered.{all_have_reading, field_meanings, members_named, member_in}
-use Rattle.json_columns.specs.Reading.{has_reading, reading, struct_in}
+use Rattle.json_flat.specs.Reading.{has_reading, reading, struct_in}
 use Rattle.json_columns.specs.Records.{are_known, are_of_record, are_there, AreRecordFields, first_fault, holds_more, is_of_record, IsRecordsRefusal, IsRowsRefusal, IsTableOf, row_fault}
 use Rattle.json_columns.proofs.FieldColumns.{members_fault}
 use Rattle.json_columns.proofs.Layers.{no_object, object_layer}

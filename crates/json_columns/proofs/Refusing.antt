@@ -16,7 +16,7 @@ use Rattle.json_flat.specs.Columns.{AreSlotsOf, Has, HasNoSlot, IsNoSlot, means}
 use Rattle.json_columns.specs.Dictionaries.{HasFirstItems, HasFirstItemsUnder}
 use Rattle.json_columns.specs.Faults.{IsFault}
 use Rattle.json_columns.specs.Names.{names_twice}
-use Rattle.json_columns.specs.Reading.{has_reading, reading}
+use Rattle.json_flat.specs.Reading.{has_reading, reading}
 use Rattle.json_columns.specs.Refusals.{IsColumnOf, IsListRefusal, IsRefusal}
 
 no_slot : (m : Meaning) → IsNoSlot m → (m ≡ text_timestamp → ⊥) → m ≡ unfit

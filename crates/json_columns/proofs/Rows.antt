@@ -19,7 +19,7 @@ use Rattle.json_flat.specs.Meaning.{Meaning, Layer, slot_of, text_timestamp}
 use Rattle.json_flat.specs.Columns.{AreSlotsOf, IsNoSlot, means}
 use Rattle.json_columns.specs.Faults.{AreMemberColumns}
 use Rattle.json_columns.specs.Gathered.{are_objects, field_meanings, is_object, member_in, members_named}
-use Rattle.json_columns.specs.Reading.{reading, struct_in}
+use Rattle.json_flat.specs.Reading.{reading, struct_in}
 use Rattle.json_columns.proofs.Anywhere.{AnyOf, weaker, of_map}
 use Rattle.json_columns.proofs.Nulls.{null_means}
 use Rattle.json_columns.proofs.Together.{made, made_text, made_none}

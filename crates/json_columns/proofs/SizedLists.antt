@@ -27,7 +27,7 @@ use Rattle.json_flat.specs.Meaning.{Meaning, Layer, slot_of, text_timestamp}
 use Rattle.json_flat.specs.Columns.{AreSlotsOf, IsNoSlot, lent, means}
 use Rattle.json_columns.specs.Faults.{IsFault, IsSizedFault}
 use Rattle.json_columns.specs.Gathered.{all_sized, are_sized, is_sized, nulls, sized_items}
-use Rattle.json_columns.specs.Reading.{reading, sized_list_in, made_of, together}
+use Rattle.json_flat.specs.Reading.{reading, sized_list_in, made_of, together}
 use Rattle.json_columns.proofs.Anywhere.{AnyOf, from_any, to_any, of_append, in_map}
 use Rattle.json_columns.proofs.Gathering.{lent_more, made_more}
 use Rattle.json_columns.proofs.Layers.{array_layer, no_array}

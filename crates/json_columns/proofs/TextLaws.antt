@@ -15,7 +15,7 @@ use Rattle.json_flat.specs.Whole.{number_value, within}
 use Rattle.json_flat.specs.Meaning.{Layer, Meaning, slot_of, text_timestamp, unfit, fitted, whole_in, moment_in, text_in, bytes_in, truth_in}
 use Rattle.json_flat.specs.Columns.{means}
 use Rattle.json_columns.specs.Gathered.{HasNoFields, field_meanings}
-use Rattle.json_columns.specs.Reading.{Together, all_slots, some_text, some_unfit, beside, together, made_of, list_in, sized_list_in, struct_in, reading, or_null}
+use Rattle.json_flat.specs.Reading.{Together, all_slots, some_text, some_unfit, beside, together, made_of, list_in, sized_list_in, struct_in, reading, or_null}
 use Rattle.json_columns.specs.Texts.{IsNoTimestamp, is_text, item_is_text, member_is_text}
 use Rattle.json_columns.proofs.Layers.{array_layer, object_layer, no_array, no_object}
 use Rattle.json_columns.proofs.Nulls.{null_means}

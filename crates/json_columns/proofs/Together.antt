@@ -3,7 +3,7 @@ use Rattle.std.proofs.Common.{◌≡◌, inl, inr, List, [], ◌∷◌, map, ref
 use Rattle.arrow_types.specs.declared.slot.Slot.{Slot}
 use Rattle.json_flat.specs.Meaning.{Meaning, slot_of, text_timestamp, unfit}
 use Rattle.json_flat.specs.Columns.{IsNoSlot}
-use Rattle.json_columns.specs.Reading.{Together, all_slots, some_text, some_unfit, beside, together, made_of}
+use Rattle.json_flat.specs.Reading.{Together, all_slots, some_text, some_unfit, beside, together, made_of}
 use Rattle.json_columns.proofs.Anywhere.{AnyOf}
 
 all_of : (ss : List Slot) → together (map slot_of ss) ≡ all_slots ss

@@ -13,7 +13,7 @@ use Rattle.arrow_types.specs.declared.types.IntegerType.{IntegerType}
 use Rattle.json_tree.specs.Tree.{Json}
 use Rattle.json_flat.specs.Meaning.{Layer, Meaning, text_in}
 use Rattle.json_flat.specs.Columns.{AreSlotsOf, IsTooLong}
-use Rattle.json_columns.specs.Reading.{reading}
+use Rattle.json_flat.specs.Reading.{reading}
 
 -- the distinct strings have more bytes together than offsets of the type count
 abbrev pub HasLongStrings : DataType → List Slot → Type 0

@@ -16,7 +16,7 @@ use Rattle.json_flat.specs.Meaning.{text_in, bytes_in}
 use Rattle.json_flat.specs.Columns.{AreSlotsOf, IsColumnFault, IsTooLong, means}
 use Rattle.json_columns.specs.Dictionaries.{TooManyDistinct}
 use Rattle.json_columns.specs.Gathered.{all_items, all_sized, field_meanings, members_named}
-use Rattle.json_columns.specs.Reading.{list_in, reading, sized_list_in, struct_in}
+use Rattle.json_flat.specs.Reading.{list_in, reading, sized_list_in, struct_in}
 
 -- the distinct slots of a dictionary, by the one type of its values
 abbrev pub TooManyInner : {m : _} → IntegerType → Row_of-DataType m → List Json → Type 0

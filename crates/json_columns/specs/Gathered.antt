@@ -9,7 +9,7 @@ use Rattle.json_tree.specs.declared.value.Value.{out-Value}
 use Rattle.json_tree.specs.declared.value.Value.TheOpen as layer
 use Rattle.json_flat.specs.Meaning.{Meaning, Layer}
 use Rattle.json_flat.specs.Columns.{means}
-use Rattle.json_columns.specs.Reading.{has_reading, or_null, reading}
+use Rattle.json_flat.specs.Reading.{has_reading, or_null, reading}
 
 -- the items of an array, and none of another value
 abbrev pub items_in : Layer → List Json

@@ -1,4 +1,3 @@
-pub mod Reading
 pub mod Dictionaries
 pub mod Gathered
 pub mod Faults

@@ -19,7 +19,7 @@ use Rattle.json_flat.specs.Columns.{Has}
 use Rattle.json_columns.specs.Faults.{AreMemberColumns, TooManyFields}
 use Rattle.json_columns.specs.Gathered.{field_meanings}
 use Rattle.json_columns.specs.Names.{is_named, struct_names_twice}
-use Rattle.json_columns.specs.Reading.{has_reading, struct_in}
+use Rattle.json_flat.specs.Reading.{has_reading, struct_in}
 
 -- ---- types
 

@@ -12,7 +12,7 @@ use Rattle.json_flat.specs.Meaning.{text_timestamp, unfit}
 use Rattle.json_flat.specs.Columns.{AreSlotsOf, Has}
 use Rattle.json_columns.specs.Faults.{TooMany}
 use Rattle.json_columns.specs.Names.{names_twice}
-use Rattle.json_columns.specs.Reading.{has_reading, reading}
+use Rattle.json_flat.specs.Reading.{has_reading, reading}
 
 -- Why there is no column of values under a type, the first that applies: a Struct names a field twice; a type has no reading; a
 -- text stands under a timestamp; a value doesn't fit its type, there are more items or bytes than can be counted, or more distinct

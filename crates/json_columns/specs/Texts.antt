@@ -7,7 +7,7 @@ use Rattle.json_tree.specs.Keys.{value_of}
 use Rattle.json_tree.specs.Tree.{Json}
 use Rattle.json_flat.specs.Meaning.{Layer, Meaning, slot_of, text_timestamp, unfit}
 use Rattle.json_flat.specs.Columns.{means}
-use Rattle.json_columns.specs.Reading.{or_null, reading}
+use Rattle.json_flat.specs.Reading.{or_null, reading}
 
 abbrev pub is_text : Meaning → Bool
 is_text (slot_of s) = false

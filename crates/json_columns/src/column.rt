@@ -7,7 +7,7 @@ ghost use Rattle.json_flat.specs.Columns.{AreSlotsOf, lent, means};
 ghost use Rattle.json_columns.specs.Dictionaries.{HasFirstItems};
 ghost use Rattle.json_columns.specs.Faults.{AreMemberColumns, IsFault, IsFieldsFault, IsListFault, IsMemberColumn, IsMemberFault, IsSizedFault, IsStructFault};
 ghost use Rattle.json_columns.specs.Gathered.{all_have_reading, field_meanings, struct_has_reading};
-ghost use Rattle.json_columns.specs.Reading.{has_reading, list_in, reading, sized_list_in, struct_in};
+ghost use Rattle.json_flat.specs.Reading.{has_reading, list_in, reading, sized_list_in, struct_in};
 
 use crate::dictionary::read_dictionary;
 use crate::flat::read_flat;

@@ -9,7 +9,7 @@ ghost use Rattle.arrow_types.specs.declared.types.DataType.TheVariants.{LargeUtf
 ghost use Rattle.json_flat.specs.Columns.{AreSlotsOf, IsColumnFault, IsTooLong, lent};
 ghost use Rattle.json_flat.specs.Meaning.{text_in, whole_in};
 ghost use Rattle.json_columns.specs.Dictionaries.{AreEncoded, AreTooMany, HasFirstItems, TooManyDistinct};
-ghost use Rattle.json_columns.specs.Reading.{is_value_type, reading};
+ghost use Rattle.json_flat.specs.Reading.{is_value_type, reading};
 
 use crate::parts::dictionary_array;
 use arrow_array::{Array, Keys, PrimitiveArray, Utf8Array};

@@ -8,7 +8,7 @@ ghost use Rattle.json_flat.specs.Meaning.{int64_in};
 ghost use Rattle.json_columns.specs.Dictionaries.{HasFirstItems};
 ghost use Rattle.json_columns.specs.Faults.{IsFault};
 ghost use Rattle.json_columns.specs.Gathered.{HasNoFields};
-ghost use Rattle.json_columns.specs.Reading.{has_reading, int32_in, reading};
+ghost use Rattle.json_flat.specs.Reading.{has_reading, int32_in, reading};
 
 use arrow_array::Array;
 use arrow_core::Result;

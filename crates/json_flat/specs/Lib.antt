@@ -1,4 +1,5 @@
 pub mod Columns
 pub mod Meaning
 pub mod Parts
+pub mod Reading
 pub mod Whole

@@ -10,7 +10,7 @@ use Rattle.json_tree.specs.Layout.{put}
 use Rattle.json_tree.specs.Reading.{put_all, put_together}
 use Rattle.json_tree.proofs.Gathering.{gathers, gathered-once}
 use Rattle.json_columns.specs.Names.{is_among, repeat}
-use Rattle.json_columns.specs.Reading.{or_null}
+use Rattle.json_flat.specs.Reading.{or_null}
 use Rattle.json_laws.specs.Values.{gathered}
 
 abbrev Members : Type 0

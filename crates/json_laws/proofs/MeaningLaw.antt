@@ -29,7 +29,7 @@ use Rattle.json_flat.specs.Columns.{means}
 use Rattle.json_flat.specs.Whole.{within}
 use Rattle.json_flat.proofs.Layers.{at-bool, at-number, at-string}
 use Rattle.json_columns.specs.Names.{names_twice, repeat, row_names, row_names_twice}
-use Rattle.json_columns.specs.Reading.{has_field, has_reading, have_reading, is_value_type, item_meaning, list_in, made_of, member_meanings, or_null, reading, sized_list_in, struct_in, together}
+use Rattle.json_flat.specs.Reading.{has_field, has_reading, have_reading, is_value_type, item_meaning, list_in, made_of, member_meanings, or_null, reading, sized_list_in, struct_in, together}
 use Rattle.json_columns.proofs.Layers.{array_layer, object_layer}
 use Rattle.json_columns.proofs.Together.{made}
 use Rattle.json_laws.specs.Laws.{ColumnsReadBack, TextsReadBack, ValuesMeanSlots, has_no_dates, have_no_dates}

@@ -13,7 +13,7 @@ use Rattle.json_tree.proofs.TextLaws.{one_value}
 use Rattle.json_flat.specs.Meaning.{slot_of}
 use Rattle.json_flat.specs.Columns.{means}
 use Rattle.json_columns.specs.Names.{repeat}
-use Rattle.json_columns.specs.Reading.{or_null, reading}
+use Rattle.json_flat.specs.Reading.{or_null, reading}
 use Rattle.json_columns.proofs.Layers.{object_member}
 use Rattle.json_laws.specs.Laws.{HasTexts, IsReadAsWritten, LinesReadBack, RowValuesMeanRows, row_meanings}
 use Rattle.json_laws.specs.Values.{row_members, row_value}

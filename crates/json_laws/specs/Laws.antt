@@ -16,7 +16,7 @@ use Rattle.json_flat.specs.Meaning.{Meaning, slot_of}
 use Rattle.json_flat.specs.Columns.{AreSlotsOf, means}
 use Rattle.json_columns.specs.Gathered.{member_in}
 use Rattle.json_columns.specs.Names.{names_twice, repeat}
-use Rattle.json_columns.specs.Reading.{has_reading, reading}
+use Rattle.json_flat.specs.Reading.{has_reading, reading}
 use Rattle.ndjson_read.specs.Lines.{rows_of}
 use Rattle.json_laws.specs.Depth.{depth, row_depth}
 use Rattle.json_laws.specs.Values.{row_value, value}

@@ -9,7 +9,7 @@ use Rattle.arrow_types.specs.declared.types.DataType.TheVariants as types
 use Rattle.arrow_types.specs.declared.types.DataType.TheViews.{the_lemmas}
 use Rattle.json_flat.specs.Columns.{lent, means}
 use Rattle.json_columns.specs.Faults.{TooManyListed}
-use Rattle.json_columns.specs.Reading.{list_in, reading, sized_list_in}
+use Rattle.json_flat.specs.Reading.{list_in, reading, sized_list_in}
 use Rattle.json_columns.proofs.ByFields.{list_ok, list_err, large_list_ok, large_list_err, struct_ok, struct_err, list_item_readable, large_list_item_readable, struct_fields_readable, dictionary_err, dictionary_item, dictionary_ok, list_items, large_list_items, sized_list_items, struct_items, sized_err, sized_item, sized_ok}
 use Rattle.json_columns.proofs.FieldColumns.{one_column, struct_children, some_column, field_fault, members_fault}
 use Rattle.json_columns.proofs.ListColumns.{items_enough, lists_column, gathered_fault, count_fault, memory_fault}

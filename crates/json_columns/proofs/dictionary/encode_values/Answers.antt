@@ -3,7 +3,7 @@ use Rattle.arrow_array.specs.Arrays.{array_slots}
 use Rattle.arrow_array.specs.Dictionaries.{keys_slots}
 use Rattle.json_flat.specs.Columns.{lent}
 use Rattle.json_columns.specs.Dictionaries.{AreEncoded}
-use Rattle.json_columns.specs.Reading.{reading}
+use Rattle.json_flat.specs.Reading.{reading}
 use Rattle.json_columns.proofs.dictionary.encode_values.Goals as goal
 
 pub returns-in-Utf8-clause-slots : goal.returns-in-Utf8-clause-slots

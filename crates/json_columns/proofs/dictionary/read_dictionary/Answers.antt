@@ -1,6 +1,6 @@
 use Rattle.std.proofs.Common.{◌∙◌}
 use Rattle.json_columns.specs.Dictionaries.{TooManyDistinct}
-use Rattle.json_columns.specs.Reading.{reading}
+use Rattle.json_flat.specs.Reading.{reading}
 use Rattle.json_columns.proofs.DictionaryColumns as columns
 use Rattle.json_columns.proofs.ListColumns.{memory_fault}
 use Rattle.json_flat.specs.Columns.{lent}

@@ -2,7 +2,7 @@ use Rattle.std.proofs.lemmas.Bool.Decides.{when_false}
 use Rattle.json_flat.specs.Columns.{Has}
 use Rattle.json_flat.specs.Meaning.{text_timestamp}
 use Rattle.json_columns.specs.Gathered.{field_meanings}
-use Rattle.json_columns.specs.Reading.{struct_in}
+use Rattle.json_flat.specs.Reading.{struct_in}
 use Rattle.json_columns.proofs.RecordLaws.{overflows}
 use Rattle.json_columns.proofs.records.overflow.Goals as goal
 

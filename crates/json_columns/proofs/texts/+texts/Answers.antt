@@ -4,7 +4,7 @@ use Rattle.std.specs.Cmp.{unsigned_Decides}
 use Rattle.arrow_types.specs.declared.types.DataType.TheVariants as types
 use Rattle.json_tree.specs.declared.value.Value.TheVariants as variant
 use Rattle.json_flat.specs.Columns.{means}
-use Rattle.json_columns.specs.Reading.{reading}
+use Rattle.json_flat.specs.Reading.{reading}
 use Rattle.json_columns.specs.Texts.{is_text, item_is_text}
 use Rattle.json_columns.proofs.ByFields.{list_reading, large_list_reading, sized_reading, struct_reading, dictionary_reading}
 use Rattle.json_tree.specs.Keys.{value_of}

@@ -1,6 +1,6 @@
 -- No item, and no member, so far is a text under a timestamp.
 use Rattle.std.proofs.Common.{◌≡◌, false, take}
-use Rattle.json_columns.specs.Reading.{reading}
+use Rattle.json_flat.specs.Reading.{reading}
 use Rattle.json_columns.specs.Texts.{item_is_text, member_is_text}
 use Rattle.json_columns.proofs.texts.+texts.Given as goal
 

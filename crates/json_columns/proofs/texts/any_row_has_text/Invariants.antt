@@ -4,7 +4,7 @@ use Rattle.json_tree.specs.Tree.{Json}
 use Rattle.json_flat.specs.Columns.{means}
 use Rattle.json_flat.specs.Meaning.{text_timestamp}
 use Rattle.json_columns.specs.Gathered.{field_meanings}
-use Rattle.json_columns.specs.Reading.{struct_in}
+use Rattle.json_flat.specs.Reading.{struct_in}
 use Rattle.json_columns.proofs.texts.any_row_has_text.Given as goal
 
 abbrev pub invariant-loop-row : goal.invariant-loop-row

@@ -1,7 +1,7 @@
 use Rattle.std.proofs.lemmas.Bool.Decides.{when_false}
 use Rattle.json_flat.specs.Columns.{Has}
 use Rattle.json_flat.specs.Meaning.{text_timestamp}
-use Rattle.json_columns.specs.Reading.{reading}
+use Rattle.json_flat.specs.Reading.{reading}
 use Rattle.json_columns.proofs.Refusing.{overflows}
 use Rattle.json_columns.proofs.values.overflow.Goals as goal
 
