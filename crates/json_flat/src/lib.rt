@@ -3,6 +3,7 @@
 
 mod content;
 mod exponent;
+mod integer;
 mod magnitude;
 mod mantissa;
 mod moment;
@@ -11,6 +12,7 @@ mod plain;
 mod whole;
 
 pub use content::{read_binaries, read_texts};
+pub use integer::IntegerText;
 pub use moment::read_moments;
 pub use native::WholeNumber;
 pub use plain::{read_booleans, read_integers, read_nulls};
