@@ -6,3 +6,4 @@ pub mod KeyLaws
 pub mod NameLaws
 pub mod NullLaws
 pub mod RowLaws
+mod KeyTexts

@@ -9,6 +9,7 @@
 mod array;
 mod lent;
 mod members;
+mod name;
 mod names;
 mod numbers;
 mod rows;
@@ -19,6 +20,7 @@ mod values;
 
 pub use lent::{EscapedString, Lent, LentArray, LentObject};
 pub use members::{lend_members, read_name};
+pub use name::Name;
 pub use names::are_distinct;
 pub use rows::lend_row;
 pub use skip::skip_value;

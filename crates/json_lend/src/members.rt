@@ -8,10 +8,10 @@ ghost use Rattle.json_lend.specs.Standing.{lent_value};
 ghost use Rattle.json_lend.specs.Fields.{BeginsMember, PutAt, ReadsMembers, values_of};
 
 use crate::lent::{Lent, LentObject};
+use crate::name::Name;
 use crate::names::key_index;
 use crate::skip::skip_value;
 use crate::values::lend;
-use arrow_core::Text;
 use json_tree::JsonFault;
 use json_tree::grammar::{closes, goes_on, name_separator};
 use json_tree::reader::Reader;
@@ -22,7 +22,7 @@ use json_tree::reader::Reader;
 #[inline(always)]
 pub fn read_name<'a>(
     reader: &mut Reader<'a>,
-    names: &[Text],
+    names: &[Name],
     guess: usize,
 ) -> Result<Option<usize>, JsonFault>
     requires { distinct names.now ≡ true }
@@ -82,7 +82,7 @@ fn clear<'a>(found: &mut [Lent<'a>])
 pub fn lend_members<'a>(
     reader: &mut Reader<'a>,
     depth: usize,
-    names: &[Text],
+    names: &[Name],
     found: &mut [Lent<'a>],
 ) -> Result<(), JsonFault>
     requires distinct { distinct names.now ≡ true }
@@ -115,7 +115,7 @@ pub fn lend_members<'a>(
 impl<'a> LentObject<'a> {
     /// Lends the value of each name to `found`, at the name's index: `null` where no member has the
     /// name. The object was checked when it was lent, so no member is at fault.
-    pub fn lend_members(&self, names: &[Text], found: &mut [Lent<'a>])
+    pub fn lend_members(&self, names: &[Name], found: &mut [Lent<'a>])
         requires distinct { distinct names.now ≡ true }
         requires room { length found.old ≡ length names.now }
         ensures { map lent_value found.new ≡ values_of self.now names.now }

@@ -1,13 +1,13 @@
 //! Names of fields, among which keys are looked up.
-ghost use Rattle.std.specs.Prelude.{◌≡◌, ◌≢◌, ◌<◌, ◌≤◌, length, true, IfErr, MatchOption};
+ghost use Rattle.std.specs.Prelude.{◌≡◌, ◌≢◌, ◌<◌, ◌≤◌, length, true, false, Ok, Some, IfErr, MatchOption};
 ghost use Rattle.std.specs.Str.{bytes_eq};
 ghost use Rattle.json_tree.specs.Layout.{key_index as key_index_of, meets, distinct};
 ghost use Rattle.json_tree.specs.Reading.{string_at};
 ghost use Rattle.json_lend.specs.Fields.{AreOthers, IsIndex, ReadsIndex};
 
 use crate::lent::EscapedString;
+use crate::name::Name;
 use crate::strings::skip_escaped;
-use arrow_core::Text;
 use json_tree::JsonFault;
 use json_tree::reader::Reader;
 
@@ -19,7 +19,7 @@ fn are_same(one: &str, other: &str) -> bool
 }
 
 // The index of a key among the names from `from` to before `to`.
-fn scan(names: &[Text], from: usize, to: usize, key: &str) -> Option<usize>
+fn scan(names: &[Name], from: usize, to: usize, key: &str) -> Option<usize>
     requires distinct { distinct names.now ≡ true }
     requires within { to ≤ length names.now }
     ensures { MatchOption result (AreOthers names.now from to key.now)
@@ -38,7 +38,7 @@ fn scan(names: &[Text], from: usize, to: usize, key: &str) -> Option<usize>
 // The index of a key among the names. It is looked for from `guess` on, and then before: where some
 // keys of an ordered row are missing, the next one is near.
 #[inline(never)]
-fn look_up(names: &[Text], guess: usize, key: &str) -> Option<usize>
+fn look_up(names: &[Name], guess: usize, key: &str) -> Option<usize>
     requires { distinct names.now ≡ true }
     ensures { IsIndex names.now key.now result }
 {
@@ -49,18 +49,6 @@ fn look_up(names: &[Text], guess: usize, key: &str) -> Option<usize>
     }
 }
 
-// The index of a key among the names, which is first looked for at `guess`.
-#[inline(always)]
-fn find(names: &[Text], guess: usize, key: &str) -> Option<usize>
-    requires { distinct names.now ≡ true }
-    ensures { IsIndex names.now key.now result }
-{
-    if guess < names.len() && are_same(names[guess].as_str(), key) {
-        return Some(guess);
-    }
-    look_up(names, guess, key)
-}
-
 // Whether a key that has escapes is the name.
 fn is_name<'a>(key: &EscapedString<'a>, name: &str) -> bool
     ensures { result ≡ bytes_eq name.now key.now }
@@ -69,7 +57,7 @@ fn is_name<'a>(key: &EscapedString<'a>, name: &str) -> bool
 }
 
 // The index among the names of a key that has escapes.
-fn scan_escaped<'a>(names: &[Text], key: &EscapedString<'a>) -> Option<usize>
+fn scan_escaped<'a>(names: &[Name], key: &EscapedString<'a>) -> Option<usize>
     ensures { IsIndex names.now key.now result }
 {
     let mut i = 0;
@@ -85,7 +73,7 @@ fn scan_escaped<'a>(names: &[Text], key: &EscapedString<'a>) -> Option<usize>
 // Reads a key that has escapes, or that is no string, and tells its index among the names.
 #[cold]
 #[inline(never)]
-fn escaped_index<'a>(reader: &mut Reader<'a>, names: &[Text]) -> Result<Option<usize>, JsonFault>
+fn escaped_index<'a>(reader: &mut Reader<'a>, names: &[Name]) -> Result<Option<usize>, JsonFault>
     ensures reads { ReadsIndex names.now result reader.new (string_at reader.old) }
     ensures forward { length reader.new ≤ length reader.old }
     ensures no_memory { IfErr result (λ e. e ≢ JsonFault.Memory) }
@@ -96,11 +84,26 @@ fn escaped_index<'a>(reader: &mut Reader<'a>, names: &[Text]) -> Result<Option<u
     Ok(scan_escaped(names, &key))
 }
 
+// Passes the key that is next where it is the name at the index and has no escapes, and tells whether
+// it did.
+#[inline(always)]
+fn passes_at<'a>(reader: &mut Reader<'a>, names: &[Name], i: usize) -> bool
+    requires { distinct names.now ≡ true }
+    ensures reads { result ≡ true → ReadsIndex names.now (Ok (Some i)) reader.new (string_at reader.old) }
+    ensures stays { result ≡ false → reader.new ≡ reader.old }
+    ensures forward { length reader.new ≤ length reader.old }
+{
+    if i >= names.len() {
+        return false;
+    }
+    names[i].passes(reader)
+}
+
 /// Reads a key, and tells its index among the names. It is first looked for at `guess`.
 #[inline(always)]
 pub(crate) fn key_index<'a>(
     reader: &mut Reader<'a>,
-    names: &[Text],
+    names: &[Name],
     guess: usize,
 ) -> Result<Option<usize>, JsonFault>
     requires { distinct names.now ≡ true }
@@ -108,14 +111,17 @@ pub(crate) fn key_index<'a>(
     ensures forward { length reader.new ≤ length reader.old }
     ensures no_memory { IfErr result (λ e. e ≢ JsonFault.Memory) }
 {
+    if passes_at(reader, names, guess) {
+        return Ok(Some(guess));
+    }
     if let Some(key) = reader.plain_string() {
-        return Ok(find(names, guess, key));
+        return Ok(look_up(names, guess, key));
     }
     escaped_index(reader, names)
 }
 
 // Whether the key is one of the names.
-fn has(names: &[Text], key: &str) -> bool
+fn has(names: &[Name], key: &str) -> bool
     ensures { result ≡ meets key.now names.now }
 {
     let mut rest = names;
@@ -129,7 +135,7 @@ fn has(names: &[Text], key: &str) -> bool
 }
 
 /// Whether no name stands twice.
-pub fn are_distinct(names: &[Text]) -> bool
+pub fn are_distinct(names: &[Name]) -> bool
     ensures { result ≡ distinct names.now }
 {
     let mut rest = names;

@@ -9,15 +9,15 @@ ghost use Rattle.json_lend.specs.Fields.{IsObject, ReadsRow, values_of};
 
 use crate::lent::Lent;
 use crate::members::lend_members;
+use crate::name::Name;
 use crate::texts::skip_text;
-use arrow_core::Text;
 use json_tree::JsonFault;
 use json_tree::reader::Reader;
 
 // The same as `lend_row`, said of what reading the text finds.
 #[inline(always)]
 #[tactic(auto, unfolding(json_tree::specs::Reading::text_at))]
-fn read_row<'a>(line: &'a str, names: &[Text], found: &mut [Lent<'a>]) -> Result<bool, JsonFault>
+fn read_row<'a>(line: &'a str, names: &[Name], found: &mut [Lent<'a>]) -> Result<bool, JsonFault>
     requires distinct { distinct names.now ≡ true }
     requires room { length found.old ≡ length names.now }
     ensures reads { ReadsRow names.now (map lent_value found.new) result (text_at 128 line.now) }
@@ -47,7 +47,7 @@ fn read_row<'a>(line: &'a str, names: &[Text], found: &mut [Lent<'a>]) -> Result
 #[inline(always)]
 pub fn lend_row<'a>(
     line: &'a str,
-    names: &[Text],
+    names: &[Name],
     found: &mut [Lent<'a>],
 ) -> Result<bool, JsonFault>
     requires distinct { distinct names.now ≡ true }

@@ -1,18 +1,20 @@
 //! Rows that are lent, under the names `a` and `b`. What is expected is RFC 8259, worked by hand.
 use arrow_core::Text;
-use json_lend::{Lent, are_distinct, lend_row};
+use json_lend::{Lent, Name, are_distinct, lend_row};
 use json_tree::JsonFault;
 use std::alloc::Global;
+
+fn name(alloc: Global, text: &str) -> Option<Name> {
+    let text = Text::try_from_str(alloc, text).ok()?;
+    Name::new(alloc, text).ok()
+}
 
 fn lend_two<'a>(
     alloc: Global,
     line: &'a str,
     found: &mut [Lent<'a>; 2],
 ) -> Result<bool, JsonFault> {
-    let (Ok(a), Ok(b)) = (
-        Text::try_from_str(alloc, "a"),
-        Text::try_from_str(alloc, "b"),
-    ) else {
+    let (Some(a), Some(b)) = (name(alloc, "a"), name(alloc, "b")) else {
         return Err(JsonFault::Memory);
     };
     let names = [a, b];
@@ -127,6 +129,22 @@ fn scalars_are_lent(rt: HostRuntime) {
     assert!(rt; matches!(lend_two(rt.alloc(), line, &mut found), Ok(true)));
     assert!(rt; is_number(&found[0], "-1.50", "+07"));
     assert!(rt; is_decoded(rt.alloc(), &found[1], "\n\u{e9}\u{1f600}"));
+}
+
+// The value of the one name in the line, where it is an integer without a sign.
+fn is_lent(alloc: Global, line: &str, of: &str, wanted: &str) -> bool {
+    let Some(only) = name(alloc, of) else {
+        return false;
+    };
+    let mut found = [Lent::Null];
+    matches!(lend_row(line, &[only], &mut found), Ok(true)) && is_number(&found[0], wanted, "")
+}
+
+#[test]
+fn a_name_may_need_an_escape(rt: HostRuntime) {
+    assert!(rt; is_lent(rt.alloc(), "{\"\\\"\":1}", "\"", "1"));
+    assert!(rt; !is_lent(rt.alloc(), "{\"\":1}", "\"", "1"));
+    assert!(rt; is_lent(rt.alloc(), "{\"\":1}", "", "1"));
 }
 
 fn are_items(value: &mut Lent<'_>, wanted: &[&str]) -> bool {
