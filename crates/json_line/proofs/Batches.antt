@@ -18,11 +18,12 @@ use Rattle.json_tree.specs.Tree.{Json, object}
 use Rattle.json_tree.proofs.Turns.{array-empty, array-end, array-next, array-start, skip-length, ArrayTurn}
 use Rattle.json_flat.specs.Columns.{AreSlotsOf, means}
 use Rattle.json_flat.specs.Meaning.{Layer, Meaning, slot_of}
+use Rattle.json_flat.specs.Reading.{reading}
 use Rattle.json_lend.specs.Fields.{value_named}
 use Rattle.json_line.specs.declared.field_names.FieldNames.{FieldNames}
 use Rattle.json_line.specs.Builders.{line_shape, shape_reading, shapes_of, AllSuit, AreLineBuilders, ReadsInto, ReadsItems, Takes, TakesAll, TakesRow, TakesRows}
 use Rattle.json_line.specs.Lines.{are_line_fields, have_line_readings, names_of, values_named, AreColumnsOf, AreObjects, IsColumnOf}
-use Rattle.json_line.specs.Types.{has_line_reading, line_reading}
+use Rattle.json_line.specs.Types.{has_line_reading}
 use Rattle.json_line.proofs.Shapes.{same_reading, same_type as type_of_shape}
 
 -- ---- lines after lines
@@ -145,12 +146,11 @@ are-readable fields e = and-right (distinct (names_of fields)) _ e
 column-of : (rows : List (List (List ℕ × Json))) (f : Field) (b d : MutableArray) (a : Array) → has_line_reading f.data_type ≡ true → shape b ≡ line_shape f.data_type → builder_slots b ≡ [] → TakesAll (values_named rows f.name) b d → array_type a ≡ builder_type d → shape d ≡ shape b → array_slots a ≡ builder_slots d
     → IsColumnOf rows f a
 column-of rows f b d a readable shaped none (added, meant, are) type same slots = record {
-  readable = readable;
   data_type = type ∙ (type_is d ∙ (ap shape_type (same ∙ shaped) ∙ type_of_shape f.data_type));
   slots =
       let held : array_slots a ≡ added = slots ∙ (are ∙ ap (λ (xs : List Slot). xs ++ added) none) in
-      let reading : shape_reading (shape b) ≡ line_reading f.data_type = ap shape_reading shaped ∙ same_reading f.data_type in
-      subst (λ xs. AreSlotsOf (line_reading f.data_type) (values_named rows f.name) xs) (sym held) (subst (λ (r : Layer → Meaning). AreSlotsOf r (values_named rows f.name) added) reading meant);
+      let same_meaning : shape_reading (shape b) ≡ reading f.data_type = ap shape_reading shaped ∙ same_reading f.data_type readable in
+      subst (λ xs. AreSlotsOf (reading f.data_type) (values_named rows f.name) xs) (sym held) (subst (λ (r : Layer → Meaning). AreSlotsOf r (values_named rows f.name) added) same_meaning meant);
 }
 
 pub columns-of : (rows : List (List (List ℕ × Json))) (fields : List Field) (bs ds : List MutableArray) (arrays : List Array) → have_line_readings fields ≡ true → map shape bs ≡ shapes_of fields → map shape ds ≡ map shape bs → All (λ b. builder_slots b ≡ []) bs

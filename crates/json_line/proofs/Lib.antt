@@ -3,9 +3,9 @@ pub mod Shapes
 pub mod Suited
 pub mod Making
 pub mod Nested
+pub mod SizedLists
 pub mod FieldLaws
 pub mod MadeLaws
 pub mod Rows
 pub mod Batches
 pub mod Kept
-pub mod Integers

@@ -1,9 +1,9 @@
 -- The shapes of builders that are made, by the type.
-use Rattle.std.proofs.Common.{◌≡◌, ◌∙◌, List, map, sym, ap, subst}
+use Rattle.std.proofs.Common.{◌≡◌, ◌∙◌, ℕ, List, map, sym, ap, subst}
 use Rattle.std.specs.Prelude.{Result, IfOk}
 use Rattle.arrow_core.specs.declared.error.Error.{Error}
 use Rattle.arrow_builders.specs.Children.{fields_of}
-use Rattle.arrow_builders.specs.Shapes.{Shape, flat, lists, records, shape}
+use Rattle.arrow_builders.specs.Shapes.{Shape, fixed_lists, flat, lists, records, shape}
 use Rattle.arrow_builders.specs.declared.array.MutableArray.{MutableArray}
 use Rattle.arrow_types.specs.Layouts.{physical_type}
 use Rattle.arrow_types.specs.declared.physical.PhysicalType.TheVariants as physical
@@ -11,7 +11,7 @@ use Rattle.arrow_types.specs.declared.types.DataType.{DataType}
 use Rattle.arrow_types.specs.declared.types.DataType.TheVariants as types
 use Rattle.arrow_types.specs.declared.types.Field.{Field}
 use Rattle.json_line.specs.Builders.{line_shape, shapes_of, HasNoFields}
-use Rattle.json_line.proofs.Shapes.{flat_shape, large_list_shape, list_shape, struct_shape}
+use Rattle.json_line.proofs.Shapes.{flat_shape, large_list_shape, list_shape, sized_list_shape, struct_shape}
 
 -- the builder has the shape
 abbrev IsShaped : Result MutableArray Error → Shape → Type 0
@@ -28,6 +28,10 @@ module _ (r : Result MutableArray Error) (t : DataType) where
   pub large_list_built : (f g : Field) (v : MutableArray) → t ≡ types.LargeList f → g ≡ f → shape v ≡ line_shape g.data_type → IsShaped r (lists physical.LargeList t (shape v)) → IsShaped r (line_shape t)
   large_list_built f g v e s k h =
       subst (IsShaped r) (ap (lists physical.LargeList t) (k ∙ ap (λ (x : Field). line_shape x.data_type) s) ∙ ap (λ (u : DataType). lists physical.LargeList u (line_shape f.data_type)) e ∙ sym (ap line_shape e ∙ large_list_shape f)) h
+
+  pub sized_list_built : (f g : Field) (n : ℕ) (v : MutableArray) → t ≡ types.FixedSizeList f n → g ≡ f → shape v ≡ line_shape g.data_type → IsShaped r (fixed_lists t (shape v)) → IsShaped r (line_shape t)
+  sized_list_built f g n v e s k h =
+      subst (IsShaped r) (ap (fixed_lists t) (k ∙ ap (λ (x : Field). line_shape x.data_type) s) ∙ ap (λ (u : DataType). fixed_lists u (line_shape f.data_type)) e ∙ sym (ap line_shape e ∙ sized_list_shape f n)) h
 
   pub struct_built : (fs gs : List Field) (vs : List MutableArray) → t ≡ types.Struct fs → gs ≡ fs → map shape vs ≡ shapes_of gs → IsShaped r (records t (fields_of (map shape vs))) → IsShaped r (line_shape t)
   struct_built fs gs vs e s k h =

@@ -2,10 +2,11 @@
 use Rattle.std.proofs.Common.{◌≡◌, ◌∙◌, ℕ, zero, suc, ◌+◌, ◌<◌, ◌≤◌, ◌&&◌, Bool, true, false, List, [], ◌∷◌, ◌++◌, length, get_or, map, take, refl, sym, ap, subst, arith}
 use Rattle.std.proofs.lemmas.List.{map-append, take_more}
 use Rattle.arrow_builders.specs.Children.{fields_of}
-use Rattle.arrow_builders.specs.Shapes.{Shape, lists, records, shape}
-use Rattle.arrow_builders.specs.declared.array.MutableArray.{MutableArray, List as ListOf, LargeList as LargeListOf, Struct}
+use Rattle.arrow_builders.specs.Shapes.{Shape, fixed_lists, lists, records, shape}
+use Rattle.arrow_builders.specs.declared.array.MutableArray.{MutableArray, List as ListOf, LargeList as LargeListOf, FixedSizeList as SizedListOf, Struct}
 use Rattle.arrow_builders.specs.declared.list.DynMutableListArray.{DynMutableListArray}
 use Rattle.arrow_builders.specs.declared.large_list.DynMutableLargeListArray.{DynMutableLargeListArray}
+use Rattle.arrow_builders.specs.declared.fixed_size_list.MutableFixedSizeListArray.{MutableFixedSizeListArray}
 use Rattle.arrow_builders.specs.declared.structs.DynMutableStructArray.{DynMutableStructArray}
 use Rattle.arrow_builders.proofs.Rows.{shape-record}
 use Rattle.arrow_types.specs.declared.physical.PhysicalType.TheVariants as physical
@@ -27,7 +28,11 @@ pub large_list_made : (b : DynMutableLargeListArray) (t : DataType) (v : Mutable
 large_list_made b t v e d =
     ap (λ (x : DataType). lists physical.LargeList x (shape b.values.value)) e ∙ ap (λ (x : MutableArray). lists physical.LargeList t (shape x)) d
 
-pub ruleset new_lists = (list_made, large_list_made)
+pub sized_list_made : (b : MutableFixedSizeListArray) (t : DataType) (v : MutableArray) → b.marks.data_type ≡ t → b.values.value ≡ v → shape (SizedListOf b) ≡ fixed_lists t (shape v)
+sized_list_made b t v e d =
+    ap (λ (x : DataType). fixed_lists x (shape b.values.value)) e ∙ ap (λ (x : MutableArray). fixed_lists t (shape x)) d
+
+pub ruleset new_lists = (list_made, large_list_made, sized_list_made)
 
 pub struct_made : (b : DynMutableStructArray) (t : DataType) (vs : List MutableArray) → b.marks.data_type ≡ t → b.values.items ≡ vs → shape (Struct b) ≡ records t (fields_of (map shape vs))
 struct_made b t vs e d =

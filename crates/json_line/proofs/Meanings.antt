@@ -26,8 +26,7 @@ use Rattle.json_lend.specs.declared.lent.Lent.{Lent}
 use Rattle.json_lend.specs.declared.lent.Lent.TheVariants as lent
 use Rattle.json_lend.specs.Standing.{lent_value}
 use Rattle.json_line.specs.declared.given_up.GivenUp.{GivenUp}
-use Rattle.json_line.specs.Builders.{shape_reading, IsGiven, Takes}
-use Rattle.json_line.specs.Types.{is_timestamp, kind_reading}
+use Rattle.json_line.specs.Builders.{is_timestamp, kind_reading, shape_reading, IsGiven, Takes}
 
 -- the slot that was pushed is what the value means
 pub pushed : (r : Result (Unit {0}) GivenUp) (reading : Layer → Meaning) (v : Json) (s : Slot) (old new : List Slot) → means reading v ≡ slot_of s → OnOk r (new ≡ old ++ s ∷ []) → OnOk r (Pushes reading v old new)

@@ -1,7 +1,8 @@
 -- Lists and structs that builders take, by what their children took.
-use Rattle.std.proofs.Common.{◌≡◌, ◌∙◌, ℕ, suc, ◌+◌, true, List, [], ◌∷◌, ◌++◌, length, map, drop, Option, Some, refl, sym, ap, subst, arith}
+use Rattle.std.proofs.Common.{◌≡◌, ◌∙◌, ℕ, suc, ◌+◌, true, List, [], ◌∷◌, ◌++◌, length, map, drop, Option, refl, sym, ap, subst, arith}
 use Rattle.std.specs.Prelude.{Result, Ok, Err, OnOk}
 use Rattle.std.proofs.lemmas.List.{length-append, length-map}
+use Rattle.arrow_array.specs.FixedLists.{list_size}
 use Rattle.arrow_array.specs.Structs.{record_at}
 use Rattle.arrow_flat.specs.Builders.{slots_where}
 use Rattle.arrow_flat.specs.Nested.{items_of, lists_from}
@@ -22,22 +23,22 @@ use Rattle.json_tree.specs.declared.value.Value.{out-Value}
 use Rattle.json_tree.specs.declared.value.Value.TheVariants as variant
 use Rattle.json_flat.specs.Columns.{means, AreSlotsOf, Pushes}
 use Rattle.json_flat.specs.Meaning.{Layer, Meaning, slot_of}
+use Rattle.json_flat.specs.Reading.{all_slots, list_in, made_of, sized_list_in, struct_in, together}
 use Rattle.json_lend.specs.declared.lent.Lent.{Lent}
 use Rattle.json_lend.specs.declared.lent.Lent.TheVariants as lent
 use Rattle.json_lend.specs.Fields.{value_named}
 use Rattle.json_lend.specs.Standing.{lent_value}
 use Rattle.json_line.specs.declared.field_names.FieldNames.{FieldNames}
 use Rattle.json_line.specs.declared.given_up.GivenUp.{GivenUp}
-use Rattle.json_line.specs.Builders.{shape_members, shape_reading, struct_names, ReadsInto, SuitsFields, SuitsItems, Takes, TakesRow}
-use Rattle.json_line.specs.Types.{list_in, made_of, slots_together, struct_in}
+use Rattle.json_line.specs.Builders.{shape_members, shape_reading, struct_names, IsOfLists, ReadsInto, SuitsFields, Takes, TakesRow}
 
 -- ---- several slots
 
-slots_are : (ss : List Slot) → slots_together (map slot_of ss) ≡ Some ss
+pub slots_are : (ss : List Slot) → together (map slot_of ss) ≡ all_slots ss
 slots_are [] = refl
 slots_are (s ∷ ss) = rw (slots_are ss) refl
 
-pub one_more : (m : Meaning) (ms : List Meaning) (s : Slot) (ss : List Slot) → m ≡ slot_of s → slots_together ms ≡ Some ss → slots_together (m ∷ ms) ≡ Some (s ∷ ss)
+pub one_more : (m : Meaning) (ms : List Meaning) (s : Slot) (ss : List Slot) → m ≡ slot_of s → together ms ≡ all_slots ss → together (m ∷ ms) ≡ all_slots (s ∷ ss)
 one_more m ms s ss e d = rw (e, d) refl
 
 -- ---- nulls
@@ -51,6 +52,16 @@ null_list (lent.String s) h item = refl
 null_list (lent.Escaped s) h item = refl
 null_list (lent.Array xs) h item = absurd (h xs refl)
 null_list (lent.Object ms) h item = refl
+
+null_sized_list : (size : ℕ) (l : Lent) → ((items : List Json) → l ≡ lent.Array items → ⊥) → (item : Json → Meaning) → sized_list_in size item (out-Value (lent_value l)) ≡ slot_of slot.Null
+unfolding out-Value denote.Hole.Carrier.out
+null_sized_list size lent.Null h item = refl
+null_sized_list size (lent.Bool b) h item = refl
+null_sized_list size (lent.Number m e) h item = refl
+null_sized_list size (lent.String s) h item = refl
+null_sized_list size (lent.Escaped s) h item = refl
+null_sized_list size (lent.Array xs) h item = absurd (h xs refl)
+null_sized_list size (lent.Object ms) h item = refl
 
 null_struct : (l : Lent) → ((members : List (List ℕ × Json)) → l ≡ lent.Object members → ⊥) → (members : List (List ℕ × Json) → List Meaning) → struct_in members (out-Value (lent_value l)) ≡ slot_of slot.Null
 unfolding out-Value denote.Hole.Carrier.out
@@ -66,14 +77,14 @@ taken_as_null : (r : Result (Unit {0}) GivenUp) (v : Json) (old new : MutableArr
 taken_as_null (Ok u) v old new m e = (slot.Null, m, e)
 taken_as_null (Err g) v old new m e = tt
 
-list_shaped : (names : FieldNames) (s : Shape) (l : Lent) → SuitsItems names s → ((items : List Json) → l ≡ lent.Array items → ⊥) → means (shape_reading s) (lent_value l) ≡ slot_of slot.Null
-list_shaped names (flat kind t) l h other = absurd h
-list_shaped names (dictionary t items) l h other = absurd h
-list_shaped names (lists kind t item) l h other = null_list l other (λ value. shape_reading item (out-Value value))
-list_shaped names (fixed_lists t item) l h other = absurd h
-list_shaped names (records t more) l h other = absurd h
-list_shaped names no_field l h other = absurd h
-list_shaped names (field first more) l h other = absurd h
+list_shaped : (s : Shape) (l : Lent) → IsOfLists s → ((items : List Json) → l ≡ lent.Array items → ⊥) → means (shape_reading s) (lent_value l) ≡ slot_of slot.Null
+list_shaped (flat kind t) l h other = absurd h
+list_shaped (dictionary t items) l h other = absurd h
+list_shaped (lists kind t item) l h other = null_list l other (λ value. shape_reading item (out-Value value))
+list_shaped (fixed_lists t item) l h other = null_sized_list (list_size t) l other (λ value. shape_reading item (out-Value value))
+list_shaped (records t more) l h other = absurd h
+list_shaped no_field l h other = absurd h
+list_shaped (field first more) l h other = absurd h
 
 struct_shaped : (own : List (List ℕ)) (below : List FieldNames) (s : Shape) (l : Lent) → SuitsFields own below s → ((members : List (List ℕ × Json)) → l ≡ lent.Object members → ⊥) → means (shape_reading s) (lent_value l) ≡ slot_of slot.Null
 struct_shaped own below (flat kind t) l h other = absurd h
@@ -85,8 +96,8 @@ struct_shaped own below no_field l h other = absurd h
 struct_shaped own below (field first more) l h other = absurd h
 
 -- a value that is no array is a null list, and one that is no object a null struct
-pub null_for_list : (r : Result (Unit {0}) GivenUp) (names : FieldNames) (l : Lent) (old new : MutableArray) → SuitsItems names (shape old) → ((items : List Json) → l ≡ lent.Array items → ⊥) → OnOk r (builder_slots new ≡ builder_slots old ++ slot.Null ∷ []) → OnOk r (Takes (lent_value l) old new)
-null_for_list r names l old new h other e = taken_as_null r (lent_value l) old new (list_shaped names (shape old) l h other) e
+pub null_for_list : (r : Result (Unit {0}) GivenUp) (l : Lent) (old new : MutableArray) → IsOfLists (shape old) → ((items : List Json) → l ≡ lent.Array items → ⊥) → OnOk r (builder_slots new ≡ builder_slots old ++ slot.Null ∷ []) → OnOk r (Takes (lent_value l) old new)
+null_for_list r l old new h other e = taken_as_null r (lent_value l) old new (list_shaped (shape old) l h other) e
 
 pub null_for_struct : (r : Result (Unit {0}) GivenUp) (own : List (List ℕ)) (below : List FieldNames) (l : Lent) (old new : MutableArray) → SuitsFields own below (shape old) → ((members : List (List ℕ × Json)) → l ≡ lent.Object members → ⊥) → OnOk r (builder_slots new ≡ builder_slots old ++ slot.Null ∷ []) → OnOk r (Takes (lent_value l) old new)
 null_for_struct r own below l old new h other e = taken_as_null r (lent_value l) old new (struct_shaped own below (shape old) l h other) e
@@ -96,7 +107,7 @@ null_for_struct r own below l old new h other e = taken_as_null r (lent_value l)
 array_means : (f : Layer → Meaning) (items : List Json) (ss : List Slot) → AreSlotsOf f items ss → means (list_in (λ value. f (out-Value value))) (array items) ≡ slot_of (slot.List ss)
 array_means f items ss e =
     ap (list_in (λ value. f (out-Value value))) (variant.outs-Array items)
-    ∙ ap (λ (ms : List Meaning). made_of slot.List (slots_together ms)) e ∙ ap (made_of slot.List) (slots_are ss)
+    ∙ ap (λ (ms : List Meaning). made_of slot.List (together ms)) e ∙ ap (made_of slot.List) (slots_are ss)
 
 list_more : (old new mid child items now : List Slot) (lens : List (Option ℕ)) → length child ≡ items_of lens → now ≡ child ++ items → old ≡ lists_from 0 lens child → mid ≡ lists_from 0 lens now → new ≡ mid ++ slot.List (drop (items_of lens) now) ∷ [] → new ≡ old ++ slot.List items ∷ []
 list_more old new mid child items now lens l e o m n =
@@ -112,14 +123,14 @@ list_taken (Err g) f items child now old mid new lens l t o q n = tt
 
 -- ---- structs
 
-object_means : (names : List (List ℕ)) (fields : Shape) (members : List (List ℕ × Json)) (row : List Slot) → slots_together (shape_members names fields members) ≡ Some row → means (struct_in (shape_members names fields)) (object members) ≡ slot_of (slot.Struct row)
+object_means : (names : List (List ℕ)) (fields : Shape) (members : List (List ℕ × Json)) (row : List Slot) → together (shape_members names fields members) ≡ all_slots row → means (struct_in (shape_members names fields)) (object members) ≡ slot_of (slot.Struct row)
 object_means names fields members row e =
     ap (struct_in (shape_members names fields)) (variant.outs-Object (record { members = members })) ∙ ap (made_of slot.Struct) e
 
 -- the children's slots of a row
 abbrev IsRow : List (List ℕ) → List (List ℕ × Json) → List MutableArray → List MutableArray → Type 0
 IsRow names members old new =
-    (row : List Slot) × (slots_together (shape_members names (fields_of (map shape old)) members) ≡ Some row) × (map builder_slots new ≡ grown (map builder_slots old) row) × (length row ≡ length old)
+    (row : List Slot) × (together (shape_members names (fields_of (map shape old)) members) ≡ all_slots row) × (map builder_slots new ≡ grown (map builder_slots old) row) × (length row ≡ length old)
 
 row_taken : (names : List (List ℕ)) (members : List (List ℕ × Json)) (old new : List MutableArray) → length old ≡ length names → length new ≡ length old → TakesRow names members old new → IsRow names members old new
 row_taken [] members [] [] n m t = ([], refl, refl, refl)

@@ -9,8 +9,8 @@ use Rattle.arrow_builders.specs.declared.array.MutableArray.{MutableArray, Struc
 use Rattle.arrow_builders.specs.declared.structs.DynMutableStructArray.{DynMutableStructArray}
 use Rattle.arrow_builders.proofs.Rows.{shape-record}
 use Rattle.json_tree.specs.Layout.{distinct}
-use Rattle.json_line.specs.declared.field_names.FieldNames.{FieldNames, Items, Fields, Fields', Row_of-FieldNames, end_of-FieldNames, more_of-FieldNames, items-the_row-FieldNames, items_hidden-the_row-FieldNames-0}
-use Rattle.json_line.specs.Builders.{struct_names, AllSuit, Suits, SuitsBelow, SuitsFields, SuitsItems}
+use Rattle.json_line.specs.declared.field_names.FieldNames.{FieldNames, Items, Sized, Fields, Fields', Row_of-FieldNames, end_of-FieldNames, more_of-FieldNames, items-the_row-FieldNames, items_hidden-the_row-FieldNames-0}
+use Rattle.json_line.specs.Builders.{struct_names, AllSuit, IsOfLists, Suits, SuitsBelow, SuitsFields, SuitsItems, SuitsSized}
 
 abbrev row_of : FieldNames → (n : Count) × Row_of-FieldNames n
 row_of (Fields' own _ row) = (_, row)
@@ -102,3 +102,36 @@ items_suit b (field first more) h = h
 module _ (names item : FieldNames) (b : Box FieldNames) (s : Shape) (is : names ≡ Items b) (below : item ≡ b.value) where
   pub lists_suit : Suits names s → SuitsItems item s
   lists_suit h = subst (λ (n : FieldNames). SuitsItems n s) (sym below) (items_suit b s (subst (λ (n : FieldNames). Suits n s) is h))
+
+pub items_of_lists : (names : FieldNames) (s : Shape) → SuitsItems names s → IsOfLists s
+items_of_lists names (flat kind t) h = h
+items_of_lists names (dictionary t items) h = h
+items_of_lists names (lists kind t item) h = tt
+items_of_lists names (fixed_lists t item) h = tt
+items_of_lists names (records t more) h = h
+items_of_lists names no_field h = h
+items_of_lists names (field first more) h = h
+
+-- ---- names beneath lists of so many items
+
+sized_items_suit : (n : ℕ) (b : Box FieldNames) (s : Shape) → Suits (Sized n b) s → SuitsSized n b.value s
+sized_items_suit n b (flat kind t) h = h
+sized_items_suit n b (dictionary t items) h = h
+sized_items_suit n b (lists kind t item) h = h
+sized_items_suit n b (fixed_lists t item) h = h
+sized_items_suit n b (records t more) h = h
+sized_items_suit n b no_field h = h
+sized_items_suit n b (field first more) h = h
+
+module _ (names item : FieldNames) (n : ℕ) (b : Box FieldNames) (s : Shape) (is : names ≡ Sized n b) (below : item ≡ b.value) where
+  pub sized_suit : Suits names s → SuitsSized n item s
+  sized_suit h = subst (λ (x : FieldNames). SuitsSized n x s) (sym below) (sized_items_suit n b s (subst (λ (x : FieldNames). Suits x s) is h))
+
+pub sized_of_lists : (n : ℕ) (names : FieldNames) (s : Shape) → SuitsSized n names s → IsOfLists s
+sized_of_lists n names (flat kind t) h = h
+sized_of_lists n names (dictionary t items) h = h
+sized_of_lists n names (lists kind t item) h = tt
+sized_of_lists n names (fixed_lists t item) h = tt
+sized_of_lists n names (records t more) h = h
+sized_of_lists n names no_field h = h
+sized_of_lists n names (field first more) h = h

@@ -1,26 +1,53 @@
 -- The builders of columns, the names that are kept beside them, and what builders take. Contracts of private functions alone cite this file.
-use Rattle.std.specs.Prelude.{◌≡◌, ◌≢◌, ◌<◌, ◌⊎◌, ◌++◌, ◌∷◌, [], ℕ, true, List, length, map, get_or, set, Option, MatchOption, Result, OnOk}
+use Rattle.std.specs.Prelude.{◌≡◌, ◌≢◌, ◌<◌, ◌⊎◌, ◌++◌, ◌∷◌, [], ℕ, pos, negsuc, Bool, true, false, cond, List, length, map, get_or, set, Option, MatchOption, Result, OnOk}
+use Rattle.arrow_array.specs.FixedLists.{list_size}
 use Rattle.arrow_builders.specs.Children.{fields_of}
 use Rattle.arrow_builders.specs.MutableArrays.{builder_slots}
-use Rattle.arrow_builders.specs.Shapes.{Shape, flat, lists, records, no_field, field, shape as shape_of}
+use Rattle.arrow_builders.specs.Shapes.{Shape, flat, lists, fixed_lists, records, no_field, field, shape as shape_of}
 use Rattle.arrow_builders.specs.Tight.{IsTight}
 use Rattle.arrow_builders.specs.declared.array.MutableArray.{MutableArray}
 use Rattle.arrow_types.specs.Layouts.{physical_type}
+use Rattle.arrow_types.specs.declared.physical.PhysicalType.{PhysicalType}
 use Rattle.arrow_types.specs.declared.physical.PhysicalType.TheVariants as physical
+use Rattle.arrow_types.specs.declared.physical.PrimitiveType.TheVariants as primitive
 use Rattle.arrow_types.specs.declared.slot.Slot.{Slot}
-use Rattle.arrow_types.specs.declared.types.DataType.{DataType, List', LargeList', Struct', Row_of-Field, end_of-Field, more_of-Field}
+use Rattle.arrow_types.specs.declared.types.DataType.{DataType, Timestamp, List', LargeList', FixedSizeList', Struct', Row_of-Field, end_of-Field, more_of-Field}
 use Rattle.arrow_types.specs.declared.types.Field.{Field}
 use Rattle.json_tree.specs.Layout.{distinct}
 use Rattle.json_tree.specs.Reading.{Outcome, found, array_at, object_at, value_at}
 use Rattle.json_tree.specs.Tree.{Json, null, array, object}
 use Rattle.json_tree.specs.declared.value.Value.{out-Value}
 use Rattle.json_flat.specs.Columns.{AreSlotsOf, Pushes}
-use Rattle.json_flat.specs.Meaning.{Layer, Meaning, null_in}
+use Rattle.json_flat.specs.Meaning.{Layer, Meaning, null_in, truth_in, whole_in, int64_in, moment_in, text_in, bytes_in}
+use Rattle.json_flat.specs.Reading.{list_in, sized_list_in, struct_in}
 use Rattle.json_lend.specs.Fields.{value_named, values_of}
-use Rattle.json_line.specs.declared.field_names.FieldNames.{FieldNames, Flat, Items', Fields', Row_of-FieldNames, end_of-FieldNames, more_of-FieldNames}
+use Rattle.json_line.specs.declared.field_names.FieldNames.{FieldNames, Flat, Items', Sized', Fields', Row_of-FieldNames, end_of-FieldNames, more_of-FieldNames}
 use Rattle.json_line.specs.declared.given_up.GivenUp.{GivenUp}
 use Rattle.json_line.specs.Lines.{are_line_fields, names_of, values_named}
-use Rattle.json_line.specs.Types.{is_timestamp, kind_reading, list_in, struct_in, row_names}
+use Rattle.json_line.specs.Types.{row_names}
+
+-- ---- null, booleans, numbers and strings
+
+abbrev pub is_timestamp : DataType → Bool
+is_timestamp (Timestamp unit timezone) = true
+is_timestamp _ = false
+
+-- what a value means in a column whose slots lie in memory so, of timestamps or of another type
+abbrev pub kind_reading : Bool → PhysicalType → Layer → Meaning
+kind_reading of_timestamps physical.Boolean = truth_in
+kind_reading of_timestamps (physical.Primitive primitive.Int8) = whole_in (negsuc 127) (pos 127)
+kind_reading of_timestamps (physical.Primitive primitive.Int16) = whole_in (negsuc 32767) (pos 32767)
+kind_reading of_timestamps (physical.Primitive primitive.Int32) = whole_in (negsuc 2147483647) (pos 2147483647)
+kind_reading of_timestamps (physical.Primitive primitive.Int64) = cond of_timestamps moment_in int64_in
+kind_reading of_timestamps (physical.Primitive primitive.UInt8) = whole_in (pos 0) (pos 255)
+kind_reading of_timestamps (physical.Primitive primitive.UInt16) = whole_in (pos 0) (pos 65535)
+kind_reading of_timestamps (physical.Primitive primitive.UInt32) = whole_in (pos 0) (pos 4294967295)
+kind_reading of_timestamps (physical.Primitive primitive.UInt64) = whole_in (pos 0) (pos 18446744073709551615)
+kind_reading of_timestamps physical.Utf8 = text_in
+kind_reading of_timestamps physical.LargeUtf8 = text_in
+kind_reading of_timestamps physical.Binary = bytes_in
+kind_reading of_timestamps physical.LargeBinary = bytes_in
+kind_reading of_timestamps _ = null_in
 
 -- ---- shapes of builders
 
@@ -28,6 +55,7 @@ use Rattle.json_line.specs.Types.{is_timestamp, kind_reading, list_in, struct_in
 abbrev pub HasNoFields : DataType → Type 0
 HasNoFields (List' shape item) = ⊥
 HasNoFields (LargeList' shape item) = ⊥
+HasNoFields (FixedSizeList' shape item size) = ⊥
 HasNoFields (Struct' shape fields) = ⊥
 HasNoFields _ = Unit {0}
 
@@ -36,6 +64,7 @@ abbrev mutual
   pub line_shape : DataType → Shape
   line_shape (List' shape item) = lists physical.List (List' shape item) (item_shape item)
   line_shape (LargeList' shape item) = lists physical.LargeList (LargeList' shape item) (item_shape item)
+  line_shape (FixedSizeList' shape item size) = fixed_lists (FixedSizeList' shape item size) (item_shape item)
   line_shape (Struct' shape fields) = records (Struct' shape fields) (row_shapes fields)
   line_shape data_type = flat (physical_type data_type) data_type
 
@@ -60,6 +89,7 @@ abbrev mutual
   pub shape_reading : Shape → Layer → Meaning
   shape_reading (flat kind data_type) = kind_reading (is_timestamp data_type) kind
   shape_reading (lists kind data_type item) = list_in (λ value. shape_reading item (out-Value value))
+  shape_reading (fixed_lists data_type item) = sized_list_in (list_size data_type) (λ value. shape_reading item (out-Value value))
   shape_reading (records data_type fields) = struct_in (shape_members (struct_names data_type) fields)
   shape_reading _ = null_in
 
@@ -75,6 +105,7 @@ abbrev mutual
   pub Suits : FieldNames → Shape → Type 0
   Suits Flat s = Unit {0}
   Suits (Items' p item) (lists kind data_type s) = Suits item s
+  Suits (Sized' size p item) (fixed_lists data_type s) = (size ≡ list_size data_type) × Suits item s
   Suits (Fields' own shape below) (records data_type fields) = (own.items ≡ struct_names data_type) × (distinct own.items ≡ true) × SuitsBelow below fields
   Suits _ _ = ⊥
 
@@ -88,7 +119,18 @@ abbrev pub SuitsItems : FieldNames → Shape → Type 0
 SuitsItems names (lists kind data_type s) = Suits names s
 SuitsItems names _ = ⊥
 
--- the same, one after another
+-- names beside a builder of lists of so many items
+abbrev pub SuitsSized : ℕ → FieldNames → Shape → Type 0
+SuitsSized size names (fixed_lists data_type s) = (size ≡ list_size data_type) × Suits names s
+SuitsSized size names _ = ⊥
+
+-- a builder of lists of any kind
+abbrev pub IsOfLists : Shape → Type 0
+IsOfLists (lists kind data_type s) = Unit {0}
+IsOfLists (fixed_lists data_type s) = Unit {0}
+IsOfLists _ = ⊥
+
+-- names beside builders, one after another
 abbrev pub AllSuit : List FieldNames → Shape → Type 0
 AllSuit [] no_field = Unit {0}
 AllSuit (names ∷ rest) (field first more) = Suits names first × AllSuit rest more

@@ -1,5 +1,5 @@
 -- The columns that lines of JSON (RFC 8259) are read into.
-use Rattle.std.specs.Prelude.{◌≡◌, ◌&&◌, ◌==◌, not, ℕ, Bool, true, List, length, map}
+use Rattle.std.specs.Prelude.{◌≡◌, ◌&&◌, ◌==◌, not, ℕ, Bool, List, length, map}
 use Rattle.std.specs.List.{AllZip, list_all}
 use Rattle.arrow_array.specs.Arrays.{array_slots, array_type}
 use Rattle.arrow_array.specs.declared.array.Array.{Array}
@@ -8,8 +8,9 @@ use Rattle.json_tree.specs.Layout.{distinct}
 use Rattle.json_tree.specs.Tree.{Json, object}
 use Rattle.json_tree.specs.Meaning.{IsJson}
 use Rattle.json_flat.specs.Columns.{AreSlotsOf}
+use Rattle.json_flat.specs.Reading.{reading}
 use Rattle.json_lend.specs.Fields.{value_named}
-use Rattle.json_line.specs.Types.{has_line_reading, line_reading}
+use Rattle.json_line.specs.Types.{has_line_reading}
 
 -- the lines are objects, and these are the members of each
 abbrev pub AreObjects : List (List (List ℕ × Json)) → List (List ℕ) → Type 0
@@ -21,9 +22,8 @@ values_named rows name = map (λ members. value_named members name) rows
 
 -- a column of a field, whose slots the rows' values of its name mean
 pub record IsColumnOf (rows : List (List (List ℕ × Json))) (field : Field) (column : Array) : Type 0 where
-  pub readable : has_line_reading field.data_type ≡ true
   pub data_type : array_type column ≡ field.data_type
-  pub slots : AreSlotsOf (line_reading field.data_type) (values_named rows field.name) (array_slots column)
+  pub slots : AreSlotsOf (reading field.data_type) (values_named rows field.name) (array_slots column)
 
 -- each line is an object, and there is a column for each field, of the members with its name
 pub record AreColumnsOf (fields : List Field) (lines : List (List ℕ)) (columns : List Array) : Type 0 where
@@ -42,6 +42,10 @@ have_line_readings = list_all (λ (f : Field). has_line_reading f.data_type)
 abbrev pub are_line_fields : List Field → Bool
 are_line_fields fields = distinct (names_of fields) && have_line_readings fields
 
--- there are fields, and they are such. A contract of a private function alone cites this.
+-- lists have items, which lines are read into. A contract of a private function alone cites this and what follows.
+abbrev pub are_sized_items : ℕ → Field → Bool
+are_sized_items size item = not (size == 0) && has_line_reading item.data_type
+
+-- there are fields, and they are such
 abbrev pub are_struct_fields : List Field → Bool
 are_struct_fields fields = not (length fields == 0) && are_line_fields fields

@@ -18,6 +18,7 @@ use arrow_array::Array;
 use arrow_builders::MutableArray;
 use arrow_core::{Result, Text};
 use arrow_types::Field;
+use json_lend::Name;
 use std::alloc::Global;
 use std::marker::Model;
 
@@ -26,7 +27,7 @@ use std::marker::Model;
 pub struct LineBuilders {
     alloc: Global,
     fields: Vec<Field>,
-    names: Vec<Text>,
+    names: Vec<Name>,
     below: Vec<FieldNames>,
     builders: Vec<MutableArray>,
 }
@@ -79,7 +80,7 @@ fn box_all(alloc: Global, builders: &mut [MutableArray]) -> std::result::Result<
 fn read_all(
     alloc: Global,
     lines: &[Text],
-    names: &[Text],
+    names: &[Name],
     below: &[FieldNames],
     builders: &mut [MutableArray],
 ) -> std::result::Result<Vec<Array>, GivenUp>

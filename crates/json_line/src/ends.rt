@@ -1,16 +1,18 @@
 //! Nulls, and lists and structs whose children took what stands in them.
-ghost use Rattle.std.specs.Prelude.{◌≡◌, ◌++◌, ◌∷◌, [], drop, length, map, true, OnOk};
+ghost use Rattle.std.specs.Prelude.{◌≡◌, ◌+◌, ◌*◌, ◌++◌, ◌∷◌, [], drop, length, map, true, OnOk};
+ghost use Rattle.arrow_array.specs.FixedLists.{list_size};
 ghost use Rattle.arrow_array.specs.Structs.{record_at};
 ghost use Rattle.arrow_builders.specs.MutableArrays.{builder_slots};
 ghost use Rattle.arrow_builders.specs.Shapes.{shape};
 ghost use Rattle.arrow_builders.specs.Tight.{IsTight};
-ghost use Rattle.arrow_builders.specs.declared.array.MutableArray.{LargeList, List, Struct};
+ghost use Rattle.arrow_builders.specs.declared.array.MutableArray.{FixedSizeList, LargeList, List, Struct};
 ghost use Rattle.arrow_flat.specs.Nested.{items_of};
 ghost use Rattle.arrow_types.specs.declared.slot.Slot.TheVariants.{List as ListSlot, Null as NullSlot};
 
 use crate::given_up::GivenUp;
 use arrow_builders::{
     DynMutableLargeListArray, DynMutableListArray, DynMutableStructArray, MutableArray,
+    MutableFixedSizeListArray,
 };
 
 /// Appends a null.
@@ -49,6 +51,24 @@ pub(crate) fn end_large_list(lists: &mut DynMutableLargeListArray) -> Result<(),
         (builder_slots lists.old.values.value)) ∷ []) }
     ensures end { OnOk result
         (items_of lists.new.lists.lens ≡ length (builder_slots lists.old.values.value)) }
+{
+    lists.try_push_valid()?;
+    Ok(())
+}
+
+/// The same where each list has so many items, and the child took as many.
+#[inline(always)]
+pub(crate) fn end_sized_list(lists: &mut MutableFixedSizeListArray) -> Result<(), GivenUp>
+    requires { length (builder_slots lists.old.values.value)
+        ≡ (length lists.old.marks.booleans + 1) * list_size lists.old.marks.data_type }
+    ensures data_type { lists.new.marks.data_type ≡ lists.old.marks.data_type }
+    ensures values { lists.new.values ≡ lists.old.values }
+    ensures booleans { OnOk result
+        (lists.new.marks.booleans ≡ lists.old.marks.booleans ++ true ∷ []) }
+    ensures ok { OnOk result (builder_slots (FixedSizeList lists.new)
+        ≡ builder_slots (FixedSizeList lists.old)
+        ++ ListSlot (drop (length lists.old.marks.booleans * list_size lists.old.marks.data_type)
+        (builder_slots lists.old.values.value)) ∷ []) }
 {
     lists.try_push_valid()?;
     Ok(())

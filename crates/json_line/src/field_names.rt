@@ -1,7 +1,8 @@
 //! Names of fields, at every depth of a type.
 ghost use Rattle.std.specs.Prelude.{◌≡◌, true, IfOk};
+ghost use Rattle.arrow_array.specs.FixedLists.{list_size};
 ghost use Rattle.arrow_builders.specs.Children.{fields_of};
-ghost use Rattle.arrow_builders.specs.Shapes.{lists, records};
+ghost use Rattle.arrow_builders.specs.Shapes.{fixed_lists, lists, records};
 ghost use Rattle.arrow_core.specs.Errors.{OnlyOutOfMemory};
 ghost use Rattle.arrow_types.specs.declared.physical.PhysicalType.{PhysicalType};
 ghost use Rattle.arrow_types.specs.declared.types.DataType.{DataType};
@@ -10,8 +11,9 @@ ghost use Rattle.json_line.specs.Builders.{line_shape, shapes_of, AllSuit, Suits
 ghost use Rattle.json_line.specs.Lines.{are_line_fields as are_line_fields_of, have_line_readings as have_line_readings_of, names_of as names_of_fields};
 ghost use Rattle.json_line.specs.Types.{has_line_reading as has_line_reading_of};
 
-use arrow_core::{Result, Text};
+use arrow_core::Result;
 use arrow_types::{DataType, Field};
+use json_lend::Name;
 use std::alloc::Global;
 
 /// The names of a type's fields, at every depth. They are kept beside a builder, since members are
@@ -22,18 +24,21 @@ pub(crate) enum FieldNames {
     Flat,
     /// Of lists: those of the items' type.
     Items(Box<FieldNames>),
+    /// Of fixed-size lists: how many items each has, and the names of the items' type.
+    Sized(usize, Box<FieldNames>),
     /// Of structs: the names of the fields, and those of each field's type.
-    Fields(Vec<Text>, Vec<FieldNames>),
+    Fields(Vec<Name>, Vec<FieldNames>),
 }
 
 /// The fields' names.
-pub(crate) fn names_of(alloc: Global, fields: &[Field]) -> Result<Vec<Text>>
+pub(crate) fn names_of(alloc: Global, fields: &[Field]) -> Result<Vec<Name>>
     ensures names { IfOk result (λ names. names.items ≡ names_of_fields fields.now) }
     ensures memory { OnlyOutOfMemory result }
 {
     let mut names = Vec::with_capacity(alloc, fields.len())?;
     for field in fields {
-        let name = field.name.try_clone(alloc)?;
+        let text = field.name.try_clone(alloc)?;
+        let name = Name::new(alloc, text)?;
         names.push(name)?;
     }
     Ok(names)
@@ -49,6 +54,7 @@ fn field_names(alloc: Global, data_type: &DataType) -> Result<FieldNames>
     match data_type {
         DataType::List(item) => item_names(alloc, item.get()),
         DataType::LargeList(item) => item_names(alloc, item.get()),
+        DataType::FixedSizeList(item, size) => sized_names(alloc, item.get(), *size),
         DataType::Struct(fields) => struct_names(alloc, fields.as_slice()),
         _ => Ok(FieldNames::Flat),
     }
@@ -65,6 +71,19 @@ fn item_names(alloc: Global, item: &Field) -> Result<FieldNames>
     let names = field_names(alloc, &item.data_type)?;
     let names = Box::new(alloc, names)?;
     Ok(FieldNames::Items(names))
+}
+
+/// The names beneath lists of so many items of this field.
+#[cycle(names)]
+fn sized_names(alloc: Global, item: &Field, size: usize) -> Result<FieldNames>
+    requires { has_line_reading_of item.now.data_type ≡ true }
+    ensures suits { IfOk result (λ names. (data_type : DataType) → size ≡ list_size data_type
+        → Suits names (fixed_lists data_type (line_shape item.now.data_type))) }
+    ensures memory { OnlyOutOfMemory result }
+{
+    let names = field_names(alloc, &item.data_type)?;
+    let names = Box::new(alloc, names)?;
+    Ok(FieldNames::Sized(size, names))
 }
 
 /// The names of these fields, and those beneath each.

@@ -31,6 +31,7 @@ fn push_missing(
     match names {
         FieldNames::Flat => push_flat(alloc, builder, &Lent::Null),
         FieldNames::Items(_) => push_null(builder),
+        FieldNames::Sized(_, _) => push_null(builder),
         FieldNames::Fields(_, _) => push_null(builder),
     }
 }

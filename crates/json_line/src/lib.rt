@@ -11,7 +11,6 @@ mod field_names;
 mod fill;
 mod flat;
 mod given_up;
-mod integer;
 mod line;
 mod made;
 mod plain;

@@ -15,7 +15,7 @@ use crate::given_up::GivenUp;
 use crate::push::push_once;
 use arrow_builders::MutableArray;
 use arrow_core::Text;
-use json_lend::{read_name, skip_value};
+use json_lend::{Name, read_name, skip_value};
 use json_tree::grammar::{closes, goes_on};
 use json_tree::reader::Reader;
 use std::alloc::Global;
@@ -54,7 +54,7 @@ fn read_columns<'a>(
     alloc: Global,
     reader: &mut Reader<'a>,
     depth: usize,
-    names: &[Text],
+    names: &[Name],
     below: &[FieldNames],
     builders: &mut [MutableArray],
     count: usize,
@@ -91,7 +91,7 @@ fn read_columns<'a>(
 fn push_line(
     alloc: Global,
     line: &str,
-    names: &[Text],
+    names: &[Name],
     below: &[FieldNames],
     builders: &mut [MutableArray],
     count: usize,
@@ -124,7 +124,7 @@ fn push_line(
 pub(crate) fn push_lines(
     alloc: Global,
     lines: &[Text],
-    names: &[Text],
+    names: &[Name],
     below: &[FieldNames],
     builders: &mut [MutableArray],
 ) -> Result<(), GivenUp>

@@ -1,8 +1,9 @@
 //! Builders that are made by their types.
 ghost use Rattle.std.specs.Prelude.{◌≡◌, map, true, IfOk};
+ghost use Rattle.arrow_array.specs.FixedLists.{list_size};
 ghost use Rattle.arrow_array.specs.Parts.{IsPlain};
 ghost use Rattle.arrow_builders.specs.Children.{fields_of};
-ghost use Rattle.arrow_builders.specs.Shapes.{shape, flat, lists, records};
+ghost use Rattle.arrow_builders.specs.Shapes.{shape, fixed_lists, flat, lists, records};
 ghost use Rattle.arrow_core.specs.Errors.{OnlyOutOfMemory};
 ghost use Rattle.arrow_types.specs.Layouts.{physical_type};
 ghost use Rattle.arrow_types.specs.declared.physical.PhysicalType.TheVariants.{List as ListKind, LargeList as LargeListKind};
@@ -12,7 +13,8 @@ ghost use Rattle.json_line.specs.Types.{has_line_reading as has_line_reading_of}
 
 use arrow_builders::{
     Container, DynMutableLargeListArray, DynMutableListArray, DynMutableStructArray, MutableArray,
-    MutableBinaryArray, MutableBooleanArray, MutablePrimitiveArray, MutableUtf8Array,
+    MutableBinaryArray, MutableBooleanArray, MutableFixedSizeListArray, MutablePrimitiveArray,
+    MutableUtf8Array,
 };
 use arrow_core::Result;
 use arrow_types::{DataType, Field, IntervalUnit, NativeType};
@@ -104,6 +106,27 @@ fn make_large_list(
     }
 }
 
+// An empty builder of lists of `size` of what `values` takes.
+#[tactic(auto, using(crate::proofs::Making::new_lists))]
+fn make_sized_list(
+    alloc: Global,
+    values: MutableArray,
+    data_type: &DataType,
+    size: usize,
+) -> Result<MutableArray>
+    requires { list_size data_type.now ≡ size }
+    ensures shape { IfOk result (λ b. shape b ≡ fixed_lists data_type.now (shape values)) }
+    ensures memory { OnlyOutOfMemory result }
+{
+    match data_type.try_clone(alloc) {
+        Ok(data_type) => {
+            let lists = MutableFixedSizeListArray::new_from(alloc, values, data_type, size)?;
+            Ok(MutableArray::FixedSizeList(lists))
+        }
+        Err(error) => Err(error),
+    }
+}
+
 // An empty builder of structs of what `values` take.
 #[tactic(auto, using(crate::proofs::Making::new_structs))]
 fn make_struct(
@@ -139,6 +162,10 @@ fn make_builder(alloc: Global, data_type: &DataType) -> Result<MutableArray>
         DataType::LargeList(item) => {
             let values = make_builder(alloc, &item.get().data_type)?;
             make_large_list(alloc, values, data_type)
+        }
+        DataType::FixedSizeList(item, size) => {
+            let values = make_builder(alloc, &item.get().data_type)?;
+            make_sized_list(alloc, values, data_type, *size)
         }
         DataType::Struct(fields) => {
             let values = make_builders(alloc, fields.as_slice())?;

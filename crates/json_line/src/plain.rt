@@ -4,13 +4,13 @@ ghost use Rattle.arrow_flat.specs.Builders.{optional_slot};
 ghost use Rattle.json_flat.specs.Meaning.{boolean_meaning, int64_in, moment_in, slot_of, truth_in, whole_in};
 ghost use Rattle.json_flat.specs.Columns.{Pushes, means};
 ghost use Rattle.json_lend.specs.Standing.{lent_value};
-ghost use Rattle.json_line.specs.Types.{is_timestamp as is_timestamp_of};
+ghost use Rattle.json_line.specs.Builders.{is_timestamp as is_timestamp_of};
 
 use crate::given_up::GivenUp;
-use crate::integer::LentInteger;
 use crate::types::is_timestamp;
 use arrow_builders::{MutableBooleanArray, MutablePrimitiveArray};
 use arrow_types::DataType;
+use json_flat::IntegerText;
 use json_lend::Lent;
 
 // The boolean; `None` for any other value.
@@ -40,7 +40,7 @@ pub(crate) fn push_boolean<'a>(
 // The whole value of a number, 1 for true or 0 for false; `None` for any other value. A number that
 // doesn't fit is given up.
 #[inline(always)]
-fn integer_of<'a, T: LentInteger>(lent: &Lent<'a>) -> Result<Option<T>, GivenUp>
+fn integer_of<'a, T: IntegerText>(lent: &Lent<'a>) -> Result<Option<T>, GivenUp>
     ensures { IfOk result (λ n. means (whole_in T.low T.high) (lent_value lent.now)
         ≡ slot_of (optional_slot T.native_slot n)) }
 {
@@ -57,7 +57,7 @@ fn integer_of<'a, T: LentInteger>(lent: &Lent<'a>) -> Result<Option<T>, GivenUp>
 /// Appends an integer: the whole value of a number, 1 for true or 0 for false, and a null for any
 /// other value.
 #[inline(always)]
-pub(crate) fn push_integer<'a, T: LentInteger>(
+pub(crate) fn push_integer<'a, T: IntegerText>(
     builder: &mut MutablePrimitiveArray<T>,
     lent: &Lent<'a>,
 ) -> Result<(), GivenUp>

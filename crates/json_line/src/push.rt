@@ -1,24 +1,25 @@
 //! Values go to builders of any kind as they are read.
-ghost use Rattle.std.specs.Prelude.{◌≡◌, ◌≤◌, ◌<◌, ◌∷◌, length, map, true, IfSome, MatchBool, OnOk};
+ghost use Rattle.std.specs.Prelude.{◌≡◌, ◌≤◌, ◌<◌, ◌+◌, ◌∷◌, length, map, true, IfSome, MatchBool, OnOk};
+ghost use Rattle.arrow_array.specs.FixedLists.{list_size};
 ghost use Rattle.arrow_builders.specs.Children.{fields_of};
 ghost use Rattle.arrow_builders.specs.MutableArrays.{builder_slots};
 ghost use Rattle.arrow_builders.specs.Shapes.{shape};
 ghost use Rattle.arrow_builders.specs.Tight.{AllTight, IsTight};
-ghost use Rattle.arrow_builders.specs.declared.array.MutableArray.{LargeList, List, Struct};
+ghost use Rattle.arrow_builders.specs.declared.array.MutableArray.{FixedSizeList, LargeList, List, Struct};
 ghost use Rattle.json_tree.specs.Layout.{distinct};
 ghost use Rattle.json_tree.specs.Reading.{array_at, object_at, value_at};
-ghost use Rattle.json_line.specs.Builders.{struct_names, AllSuit, AreTight, ReadsInto, ReadsItems, ReadsMember, ReadsObject, Suits, SuitsFields, SuitsItems};
+ghost use Rattle.json_line.specs.Builders.{struct_names, AllSuit, AreTight, ReadsInto, ReadsItems, ReadsMember, ReadsObject, Suits, SuitsFields, SuitsItems, SuitsSized};
 
-use crate::ends::{end_large_list, end_list, end_struct};
+use crate::ends::{end_large_list, end_list, end_sized_list, end_struct};
 use crate::field_names::FieldNames;
 use crate::fill::fill_fields;
 use crate::given_up::GivenUp;
 use crate::single::{push_no_list, push_no_struct, push_single};
 use arrow_builders::{
     DynMutableLargeListArray, DynMutableListArray, DynMutableStructArray, MutableArray,
+    MutableFixedSizeListArray,
 };
-use arrow_core::Text;
-use json_lend::{read_name, skip_value};
+use json_lend::{Name, read_name, skip_value};
 use json_tree::grammar::{closes, goes_on};
 use json_tree::reader::Reader;
 use std::alloc::Global;
@@ -61,6 +62,12 @@ fn push_value<'a>(
         FieldNames::Items(item) => {
             if opens(reader, b'[', depth) {
                 return push_array(alloc, reader, depth - 1, item, builder);
+            }
+            push_no_list(reader, depth, builder)
+        }
+        FieldNames::Sized(size, item) => {
+            if opens(reader, b'[', depth) {
+                return push_sized_array(alloc, reader, depth - 1, *size, item, builder);
             }
             push_no_list(reader, depth, builder)
         }
@@ -170,6 +177,93 @@ fn push_large_list<'a>(
     end_large_list(lists)
 }
 
+// The same to a builder of lists of `size` items each.
+#[cycle(push)]
+#[inline(never)]
+fn push_sized_array<'a>(
+    alloc: Global,
+    reader: &mut Reader<'a>,
+    depth: usize,
+    size: usize,
+    names: &FieldNames,
+    builder: &mut MutableArray,
+) -> Result<(), GivenUp>
+    requires suits { SuitsSized size names.now (shape builder.old) }
+    requires tight { IsTight builder.old }
+    ensures same_shape { shape builder.new ≡ shape builder.old }
+    ensures tight { OnOk result (IsTight builder.new) }
+    ensures forward { length reader.new ≤ length reader.old }
+    ensures ok { OnOk result
+        (ReadsInto (array_at (value_at depth)) reader.old reader.new builder.old builder.new) }
+{
+    match builder {
+        MutableArray::FixedSizeList(lists) => {
+            push_sized_list(alloc, reader, depth, size, names, lists)
+        }
+        _ => Err(GivenUp),
+    }
+}
+
+// The child takes the items, and then the list of them is pushed.
+#[cycle(push)]
+#[inline(always)]
+fn push_sized_list<'a>(
+    alloc: Global,
+    reader: &mut Reader<'a>,
+    depth: usize,
+    size: usize,
+    names: &FieldNames,
+    lists: &mut MutableFixedSizeListArray,
+) -> Result<(), GivenUp>
+    requires size { size ≡ list_size lists.old.marks.data_type }
+    requires suits { Suits names.now (shape lists.old.values.value) }
+    requires tight { IsTight (FixedSizeList lists.old) }
+    ensures same_shape { shape (FixedSizeList lists.new) ≡ shape (FixedSizeList lists.old) }
+    ensures tight { OnOk result (IsTight (FixedSizeList lists.new)) }
+    ensures forward { length reader.new ≤ length reader.old }
+    ensures ok { OnOk result (ReadsInto (array_at (value_at depth)) reader.old reader.new
+        (FixedSizeList lists.old) (FixedSizeList lists.new)) }
+{
+    push_sized_items(alloc, reader, depth, size, names, lists.mut_values())?;
+    end_sized_list(lists)
+}
+
+// Whether there are so many more after than before.
+#[inline(always)]
+fn are_more_by(size: usize, before: usize, after: usize) -> bool
+    ensures { result ≡ true → after ≡ before + size }
+{
+    after >= before && after - before == size
+}
+
+// Each item, and the closing bracket. An array of another number of items means null, but the child
+// took them, and so it is given up.
+#[cycle(push)]
+fn push_sized_items<'a>(
+    alloc: Global,
+    reader: &mut Reader<'a>,
+    depth: usize,
+    size: usize,
+    names: &FieldNames,
+    builder: &mut MutableArray,
+) -> Result<(), GivenUp>
+    requires suits { Suits names.now (shape builder.old) }
+    requires tight { IsTight builder.old }
+    ensures same_shape { shape builder.new ≡ shape builder.old }
+    ensures tight { OnOk result (IsTight builder.new) }
+    ensures forward { length reader.new ≤ length reader.old }
+    ensures ok { OnOk result (ReadsItems depth reader.old reader.new builder.old builder.new) }
+    ensures more { OnOk result
+        (length (builder_slots builder.new) ≡ length (builder_slots builder.old) + size) }
+{
+    let before = builder.len();
+    push_items(alloc, reader, depth, names, builder)?;
+    if !are_more_by(size, before, builder.len()) {
+        return Err(GivenUp);
+    }
+    Ok(())
+}
+
 // Each item, one after another, and the closing bracket.
 #[cycle(push)]
 fn push_items<'a>(
@@ -205,7 +299,7 @@ fn push_object<'a>(
     alloc: Global,
     reader: &mut Reader<'a>,
     depth: usize,
-    own: &[Text],
+    own: &[Name],
     below: &[FieldNames],
     builder: &mut MutableArray,
 ) -> Result<(), GivenUp>
@@ -234,7 +328,7 @@ fn push_struct<'a>(
     alloc: Global,
     reader: &mut Reader<'a>,
     depth: usize,
-    own: &[Text],
+    own: &[Name],
     below: &[FieldNames],
     structs: &mut DynMutableStructArray,
     count: usize,
@@ -265,7 +359,7 @@ fn read_fields<'a>(
     alloc: Global,
     reader: &mut Reader<'a>,
     depth: usize,
-    own: &[Text],
+    own: &[Name],
     below: &[FieldNames],
     structs: &mut DynMutableStructArray,
     count: usize,

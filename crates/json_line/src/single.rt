@@ -4,7 +4,7 @@ ghost use Rattle.arrow_builders.specs.Shapes.{shape};
 ghost use Rattle.arrow_builders.specs.Tight.{IsTight};
 ghost use Rattle.json_tree.specs.Reading.{value_at};
 ghost use Rattle.json_line.specs.declared.field_names.FieldNames.{FieldNames};
-ghost use Rattle.json_line.specs.Builders.{ReadsInto, SuitsFields, SuitsItems};
+ghost use Rattle.json_line.specs.Builders.{IsOfLists, ReadsInto, SuitsFields};
 
 use crate::ends::push_null;
 use crate::flat::push_flat;
@@ -39,7 +39,7 @@ pub(crate) fn push_no_list<'a>(
     depth: usize,
     builder: &mut MutableArray,
 ) -> Result<(), GivenUp>
-    requires suits { (names : FieldNames) × SuitsItems names (shape builder.old) }
+    requires lists { IsOfLists (shape builder.old) }
     requires tight { IsTight builder.old }
     ensures same_shape { shape builder.new ≡ shape builder.old }
     ensures tight { OnOk result (IsTight builder.new) }

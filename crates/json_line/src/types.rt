@@ -2,8 +2,9 @@
 ghost use Rattle.std.specs.Prelude.{◌≡◌};
 ghost use Rattle.std.specs.Str.{bytes_eq};
 ghost use Rattle.json_tree.specs.Layout.{distinct, meets};
-ghost use Rattle.json_line.specs.Lines.{are_line_fields as are_line_fields_of, are_struct_fields as are_struct_fields_of, have_line_readings as have_line_readings_of, names_of};
-ghost use Rattle.json_line.specs.Types.{has_line_reading as has_line_reading_of, is_timestamp as is_timestamp_of};
+ghost use Rattle.json_line.specs.Builders.{is_timestamp as is_timestamp_of};
+ghost use Rattle.json_line.specs.Lines.{are_line_fields as are_line_fields_of, are_sized_items as are_sized_items_of, are_struct_fields as are_struct_fields_of, have_line_readings as have_line_readings_of, names_of};
+ghost use Rattle.json_line.specs.Types.{has_line_reading as has_line_reading_of};
 
 use arrow_types::{DataType, Field, IntervalUnit};
 
@@ -44,8 +45,8 @@ fn are_distinct(fields: &[Field]) -> bool
 
 /// Whether lines are read into columns of this type: Boolean, integers of 8 to 64 bits, dates,
 /// times, timestamps, durations, intervals of months, Utf8, Binary and their large forms, List and
-/// LargeList of these, and Struct of at least one field, each of these, with no name twice. It takes
-/// no memory.
+/// LargeList of these, FixedSizeList of at least one item of these, and Struct of at least one field,
+/// each of these, with no name twice. It takes no memory.
 #[cycle(readable)]
 fn has_line_reading(data_type: &DataType) -> bool
     ensures { result ≡ has_line_reading_of data_type.now }
@@ -73,9 +74,18 @@ fn has_line_reading(data_type: &DataType) -> bool
         | DataType::LargeBinary => true,
         DataType::List(item) => has_line_reading(&item.get().data_type),
         DataType::LargeList(item) => has_line_reading(&item.get().data_type),
+        DataType::FixedSizeList(item, size) => are_sized_items(item.get(), *size),
         DataType::Struct(fields) => are_struct_fields(fields.as_slice()),
         _ => false,
     }
+}
+
+/// Whether lists have items, and lines are read into columns of their type.
+#[cycle(readable)]
+fn are_sized_items(item: &Field, size: usize) -> bool
+    ensures { result ≡ are_sized_items_of size item.now }
+{
+    size != 0 && has_line_reading(&item.data_type)
 }
 
 /// Whether there are fields, no two of them have the same name, and lines are read into columns of

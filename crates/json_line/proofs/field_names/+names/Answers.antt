@@ -4,8 +4,8 @@ use Rattle.arrow_types.proofs.types.DataType.TheLaws.{the_size}
 use Rattle.arrow_types.proofs.types.Field.TheLaws.{the_size as field_size}
 use Rattle.arrow_types.specs.declared.types.DataType.TheViews.{the_lemmas}
 use Rattle.json_line.proofs.Making.{names-ended, names-more, readable-at}
-use Rattle.json_line.proofs.Shapes.{are_readable, large_list_item_readable, list_item_readable, struct_fields_readable}
-use Rattle.json_line.proofs.FieldLaws.{large_list_names, list_names, struct_names, structs_suit}
+use Rattle.json_line.proofs.Shapes.{are_readable, large_list_item_readable, list_item_readable, sized_item_readable, struct_fields_readable}
+use Rattle.json_line.proofs.FieldLaws.{large_list_names, list_names, sized_list_names, struct_names, structs_suit}
 use Rattle.json_line.proofs.field_names.+names.Goals as goal
 
 pub field_names-item_names-requires : goal.field_names-item_names-requires
@@ -16,6 +16,10 @@ pub field_names-item_names-requires-in-LargeList : goal.field_names-item_names-r
 field_names-item_names-requires-in-LargeList t c =
     (let e = ap the_size c.in-LargeList.is in let a = ap field_size c.get-in-LargeList.ensures in let d = c.decreases in search (rules, the_lemmas), large_list_item_readable c.args.data_type.now c.requires c.in-LargeList.item c.get-in-LargeList.result.now c.in-LargeList.is c.get-in-LargeList.ensures)
 
+pub field_names-sized_names-requires : goal.field_names-sized_names-requires
+field_names-sized_names-requires t c =
+    (let e = ap the_size c.in-FixedSizeList.is in let a = ap field_size c.get-in-FixedSizeList.ensures in let d = c.decreases in search (rules, the_lemmas), sized_item_readable c.args.data_type.now c.requires c.in-FixedSizeList.item c.get-in-FixedSizeList.result.now c.in-FixedSizeList.size c.in-FixedSizeList.is c.get-in-FixedSizeList.ensures)
+
 pub field_names-struct_names-requires : goal.field_names-struct_names-requires
 field_names-struct_names-requires t c =
     (let e = ap the_size c.in-Struct.is in let a = c.as_slice.ensures in let d = c.decreases in search (rules, the_lemmas), struct_fields_readable c.args.data_type.now c.requires c.in-Struct.fields c.as_slice.result.now c.in-Struct.is c.as_slice.ensures)
@@ -25,6 +29,10 @@ field_names-returns-in-List-clause-suits t c = list_names c.item_names.result c.
 
 pub field_names-returns-in-LargeList-clause-suits : goal.field_names-returns-in-LargeList-clause-suits
 field_names-returns-in-LargeList-clause-suits t c = large_list_names c.item_names-in-LargeList.result c.args.data_type.now c.in-LargeList.item c.get-in-LargeList.result.now c.in-LargeList.is c.get-in-LargeList.ensures c.item_names-in-LargeList.ensures.suits
+
+pub field_names-returns-in-FixedSizeList-clause-suits : goal.field_names-returns-in-FixedSizeList-clause-suits
+field_names-returns-in-FixedSizeList-clause-suits t c =
+    sized_list_names c.sized_names.result c.args.data_type.now c.in-FixedSizeList.item c.get-in-FixedSizeList.result.now c.in-FixedSizeList.size c.in-FixedSizeList.is c.get-in-FixedSizeList.ensures c.sized_names.ensures.suits
 
 pub field_names-returns-in-Struct-clause-suits : goal.field_names-returns-in-Struct-clause-suits
 field_names-returns-in-Struct-clause-suits t c = struct_names c.struct_names.result c.args.data_type.now c.in-Struct.fields c.as_slice.result.now c.in-Struct.is c.as_slice.ensures c.struct_names.ensures.suits

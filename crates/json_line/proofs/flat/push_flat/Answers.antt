@@ -5,7 +5,7 @@ use Rattle.arrow_flat.specs.Builders.{PlainBuilder}
 use Rattle.json_flat.specs.Meaning.{int64_in, moment_in, truth_in, whole_in, text_in, bytes_in}
 use Rattle.json_lend.specs.Standing.{lent_value}
 use Rattle.json_line.specs.Builders.{IsGiven}
-use Rattle.json_line.specs.Types.{is_timestamp}
+use Rattle.json_line.specs.Builders.{is_timestamp}
 use Rattle.json_line.proofs.Meanings as kind
 use Rattle.json_line.proofs.Meanings.{given}
 use Rattle.json_line.proofs.flat.push_flat.Goals as goal

@@ -5,8 +5,8 @@ use Rattle.arrow_types.proofs.types.Field.TheLaws.{the_size as field_size}
 use Rattle.arrow_types.specs.declared.types.DataType.TheViews.{the_lemmas}
 use Rattle.json_line.specs.Builders.{shapes_of, HasNoFields}
 use Rattle.json_line.proofs.Making.{made-more, readable-at, taken-all}
-use Rattle.json_line.proofs.MadeLaws.{flat_built, large_list_built, list_built, struct_built}
-use Rattle.json_line.proofs.Shapes.{are_readable, large_list_item_readable, list_item_readable, struct_fields_readable}
+use Rattle.json_line.proofs.MadeLaws.{flat_built, large_list_built, list_built, sized_list_built, struct_built}
+use Rattle.json_line.proofs.Shapes.{are_readable, large_list_item_readable, list_item_readable, size_is, sized_item_readable, struct_fields_readable}
 use Rattle.json_line.proofs.made.+make.Goals as goal
 
 pub make_builder-make_builder-requires : goal.make_builder-make_builder-requires
@@ -16,6 +16,13 @@ make_builder-make_builder-requires t c =
 pub make_builder-make_builder-requires-in-LargeList : goal.make_builder-make_builder-requires-in-LargeList
 make_builder-make_builder-requires-in-LargeList t c =
     (let e = ap the_size c.in-LargeList.is in let a = ap field_size c.get-in-LargeList.ensures in let d = c.decreases in search (rules, the_lemmas), large_list_item_readable c.args.data_type.now c.requires c.in-LargeList.item c.get-in-LargeList.result.now c.in-LargeList.is c.get-in-LargeList.ensures)
+
+pub make_builder-make_builder-requires-in-FixedSizeList : goal.make_builder-make_builder-requires-in-FixedSizeList
+make_builder-make_builder-requires-in-FixedSizeList t c =
+    (let e = ap the_size c.in-FixedSizeList.is in let a = ap field_size c.get-in-FixedSizeList.ensures in let d = c.decreases in search (rules, the_lemmas), sized_item_readable c.args.data_type.now c.requires c.in-FixedSizeList.item c.get-in-FixedSizeList.result.now c.in-FixedSizeList.size c.in-FixedSizeList.is c.get-in-FixedSizeList.ensures)
+
+pub make_builder-make_sized_list-requires : goal.make_builder-make_sized_list-requires
+make_builder-make_sized_list-requires t c = size_is c.args.data_type.now c.in-FixedSizeList.item c.in-FixedSizeList.size c.in-FixedSizeList.is
 
 pub make_builder-make_builders-requires : goal.make_builder-make_builders-requires
 make_builder-make_builders-requires t c =
@@ -29,6 +36,10 @@ pub make_builder-returns-in_ok-values-in-LargeList-clause-shape : goal.make_buil
 make_builder-returns-in_ok-values-in-LargeList-clause-shape t c =
     large_list_built c.make_large_list.result c.args.data_type.now c.in-LargeList.item c.get-in-LargeList.result.now c.in_ok-values-in-LargeList.values c.in-LargeList.is c.get-in-LargeList.ensures c.in_ok-values-in-LargeList.ensures.shape c.make_large_list.ensures.shape
 
+pub make_builder-returns-in_ok-values-in-FixedSizeList-clause-shape : goal.make_builder-returns-in_ok-values-in-FixedSizeList-clause-shape
+make_builder-returns-in_ok-values-in-FixedSizeList-clause-shape t c =
+    sized_list_built c.make_sized_list.result c.args.data_type.now c.in-FixedSizeList.item c.get-in-FixedSizeList.result.now c.in-FixedSizeList.size c.in_ok-values-in-FixedSizeList.values c.in-FixedSizeList.is c.get-in-FixedSizeList.ensures c.in_ok-values-in-FixedSizeList.ensures.shape c.make_sized_list.ensures.shape
+
 pub make_builder-returns-in_ok-values-in-Struct-clause-shape : goal.make_builder-returns-in_ok-values-in-Struct-clause-shape
 make_builder-returns-in_ok-values-in-Struct-clause-shape t c =
     struct_built c.make_struct.result c.args.data_type.now c.in-Struct.fields c.as_slice.result.now c.in_ok-values-in-Struct.values.items c.in-Struct.is c.as_slice.ensures c.in_ok-values-in-Struct.ensures.shapes c.make_struct.ensures.shape
@@ -38,6 +49,7 @@ make_builder-returns-in_default-clause-shape t c =
     let l = c.in_default.not-List in
     let m = c.in_default.not-LargeList in
     let n = c.in_default.not-Struct in
+    let o = c.in_default.not-FixedSizeList in
     let flat : HasNoFields c.args.data_type.now = first_of (search (rules, the_lemmas), grind (arith, the_lemmas)) in
     flat_built c.make_flat.result c.args.data_type.now flat c.make_flat.ensures.shape
 

@@ -3,7 +3,7 @@ use Rattle.json_flat.specs.Columns.{means}
 use Rattle.json_flat.specs.Meaning.{int64_in, moment_in}
 use Rattle.json_lend.specs.Standing.{lent_value}
 use Rattle.json_line.proofs.Meanings.{under_any, plain_value}
-use Rattle.json_line.specs.Types.{is_timestamp}
+use Rattle.json_line.specs.Builders.{is_timestamp}
 use Rattle.json_line.proofs.plain.is_integer_under.Goals as goal
 
 pub returns-in_default : goal.returns-in_default

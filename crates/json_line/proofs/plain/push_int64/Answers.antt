@@ -2,7 +2,7 @@ use Rattle.std.proofs.Common.{◌∙◌, sym, ap, cond}
 use Rattle.json_flat.specs.Columns.{means}
 use Rattle.json_flat.specs.Meaning.{int64_in, moment_in}
 use Rattle.json_lend.specs.Standing.{lent_value}
-use Rattle.json_line.specs.Types.{is_timestamp}
+use Rattle.json_line.specs.Builders.{is_timestamp}
 use Rattle.json_line.proofs.Meanings.{pushed_under}
 use Rattle.json_line.proofs.plain.push_int64.Goals as goal
 

@@ -1,9 +1,10 @@
-use Rattle.std.proofs.Common.{◌≡◌, ◌∙◌, ◌-◌, ◌<◌, suc, length, map, get_or, refl, sym, ap, subst, rules, arith}
+use Rattle.std.proofs.Common.{◌≡◌, ◌∙◌, ◌+◌, ◌-◌, ◌<◌, suc, length, map, get_or, refl, sym, ap, subst, rules, arith}
 use denote.Param.Weighed.{at_most}
+use Rattle.arrow_array.specs.FixedLists.{list_size}
 use Rattle.arrow_builders.specs.MutableArrays.{builder_slots}
 use Rattle.arrow_builders.specs.Shapes.{shape}
 use Rattle.arrow_builders.specs.Tight.{IsTight}
-use Rattle.arrow_builders.specs.declared.array.MutableArray.{MutableArray, LargeList, List, Struct}
+use Rattle.arrow_builders.specs.declared.array.MutableArray.{MutableArray, FixedSizeList, LargeList, List, Struct}
 use Rattle.arrow_builders.proofs.Rows.{shape_same}
 use Rattle.json_tree.specs.Reading.{array_at, object_at, value_at}
 use Rattle.json_tree.specs.Tree.{array, object}
@@ -14,8 +15,9 @@ use Rattle.json_line.specs.declared.field_names.FieldNames.TheViews.{the_lemmas}
 use Rattle.json_line.specs.Builders.{shape_reading, Suits}
 use Rattle.json_line.proofs.Batches.{items-end, items-next, items-start, none-read}
 use Rattle.json_line.proofs.Nested.{children_tight, list_taken, read_behind, read_into, struct_count, struct_taken, struct_tight}
+use Rattle.json_line.proofs.SizedLists.{one_list_more, sized_list_taken, sized_tight}
 use Rattle.json_line.proofs.Rows.{as-many-shapes, index-within, members-end, members-next, members-start, no-members, read-at, row-filled, shapes-step, tight-at, tight-so_far}
-use Rattle.json_line.proofs.Suited.{fields_suit, lent_suits, lent_tight, lists_suit, suits_at, suits_length, suits_same}
+use Rattle.json_line.proofs.Suited.{fields_suit, items_of_lists, lent_suits, lent_tight, lists_suit, sized_of_lists, sized_suit, suits_at, suits_length, suits_same}
 use Rattle.json_line.proofs.push.+push.Goals as goal
 
 -- ---- lists
@@ -45,6 +47,35 @@ push_large_list-returns-clause-ok t c =
     let took = rw c.mut_values.ensures.value at p.2 in
     read_into c.end_large_list.result (array_at (value_at c.args.depth)) c.args.reader.now c.push_items.new.reader (array p.0) (LargeList c.args.lists.now) (LargeList c.end_large_list.new.lists) p.1
     (list_taken c.end_large_list.result (shape_reading (shape c.args.lists.now.values.value)) p.0 (builder_slots c.args.lists.now.values.value) (builder_slots c.push_items.new.builder) _ _ _ c.args.lists.now.lists.lens c.requires.tight.0 took refl refl c.end_large_list.ensures.ok)
+
+-- ---- lists of so many items
+
+pub push_sized_list-push_sized_items-requires : goal.push_sized_list-push_sized_items-requires
+push_sized_list-push_sized_items-requires t c =
+    let v = c.mut_values.ensures.value in
+    let d = c.decreases in
+    (omega arith, (rw v c.requires.suits, rw v c.requires.tight.1))
+
+pub push_sized_list-end_sized_list-requires : goal.push_sized_list-end_sized_list-requires
+push_sized_list-end_sized_list-requires t c =
+    let more = rw c.mut_values.ensures.value at c.in_ok-push_sized_items.ensures.more in
+    one_list_more (length c.args.lists.now.marks.booleans) c.args.size (list_size c.args.lists.now.marks.data_type) (length (builder_slots c.args.lists.now.values.value)) (length (builder_slots c.push_sized_items.new.builder)) c.requires.size c.requires.tight.0 more
+
+pub push_sized_list-returns-clause-tight : goal.push_sized_list-returns-clause-tight
+push_sized_list-returns-clause-tight t c =
+    let more = rw c.mut_values.ensures.value at c.in_ok-push_sized_items.ensures.more in
+    let b = c.args.lists.now in
+    let many = one_list_more (length b.marks.booleans) c.args.size (list_size b.marks.data_type) (length (builder_slots b.values.value)) (length (builder_slots c.push_sized_items.new.builder)) c.requires.size c.requires.tight.0 more in
+    sized_tight c.end_sized_list.result b c.end_sized_list.new.lists c.push_sized_items.new.builder c.in_ok-push_sized_items.ensures.tight many (ap (λ v. v.value) c.end_sized_list.ensures.values) c.end_sized_list.ensures.data_type c.end_sized_list.ensures.booleans
+
+pub push_sized_list-returns-clause-ok : goal.push_sized_list-returns-clause-ok
+push_sized_list-returns-clause-ok t c =
+    let b = c.args.lists.now in
+    let p = c.in_ok-push_sized_items.ensures.ok in
+    let took = rw c.mut_values.ensures.value at p.2 in
+    let more = rw c.mut_values.ensures.value at c.in_ok-push_sized_items.ensures.more in
+    read_into c.end_sized_list.result (array_at (value_at c.args.depth)) c.args.reader.now c.push_sized_items.new.reader (array p.0) (FixedSizeList b) (FixedSizeList c.end_sized_list.new.lists) p.1
+    (sized_list_taken c.end_sized_list.result (shape_reading (shape b.values.value)) (list_size b.marks.data_type) b.marks.booleans p.0 (builder_slots b.values.value) (builder_slots c.push_sized_items.new.builder) _ _ _ c.requires.tight.0 (more ∙ ap (λ n. length (builder_slots b.values.value) + n) c.requires.size) took refl refl c.end_sized_list.ensures.ok)
 
 -- ---- items
 
@@ -97,8 +128,12 @@ push_value-push_object-requires t c =
     let below = c.as_slice-below.ensures.value in
     ((let d = c.decreases in let e = ap the_size c.in-Fields.is in let a = below in search (rules, the_lemmas)), (fields_suit c.args.names.now c.in-Fields.own c.in-Fields.below c.as_slice-own.result.now c.as_slice-below.result.now (shape c.args.builder.now) c.in-Fields.is own below c.requires.suits, c.requires.tight))
 
-pub push_value-push_no_list-requires-clause-suits : goal.push_value-push_no_list-requires-clause-suits
-push_value-push_no_list-requires-clause-suits t c = (c.in-Items.item.value, lists_suit c.args.names.now c.in-Items.item.value c.in-Items.item (shape c.args.builder.now) c.in-Items.is refl c.requires.suits)
+pub push_value-push_no_list-requires-clause-lists : goal.push_value-push_no_list-requires-clause-lists
+push_value-push_no_list-requires-clause-lists t c = items_of_lists c.in-Items.item.value _ (lists_suit c.args.names.now c.in-Items.item.value c.in-Items.item (shape c.args.builder.now) c.in-Items.is refl c.requires.suits)
+
+pub push_value-push_no_list-requires-in-Sized-clause-lists : goal.push_value-push_no_list-requires-in-Sized-clause-lists
+push_value-push_no_list-requires-in-Sized-clause-lists t c =
+    sized_of_lists c.in-Sized.size c.in-Sized.item.value _ (sized_suit c.args.names.now c.in-Sized.item.value c.in-Sized.size c.in-Sized.item (shape c.args.builder.now) c.in-Sized.is refl c.requires.suits)
 
 pub push_value-push_no_struct-requires-clause-suits : goal.push_value-push_no_struct-requires-clause-suits
 push_value-push_no_struct-requires-clause-suits t c = (c.in-Fields.own.items, c.in-Fields.below.items, fields_suit c.args.names.now c.in-Fields.own c.in-Fields.below c.in-Fields.own.items c.in-Fields.below.items (shape c.args.builder.now) c.in-Fields.is refl refl c.requires.suits)
@@ -113,6 +148,14 @@ push_value-returns-then-opens-clause-ok t c =
 pub push_value-returns-then-opens-2-clause-ok : goal.push_value-returns-then-opens-2-clause-ok
 push_value-returns-then-opens-2-clause-ok t c =
     let f = c.if-opens-2.ensures in
+    let n : c.args.depth ≡ suc (c.args.depth - 1) = omega (arith, f.1) in
+    let p = c.push_sized_array in
+    let behind = c.opens-in-Sized.new.reader in
+    read_behind p.result (array_at (value_at (c.args.depth - 1))) (value_at c.args.depth) c.args.reader.now behind p.new.reader c.args.builder.now p.new.builder (value-array c.args.depth (c.args.depth - 1) c.args.reader.now behind n f.0) p.ensures.ok
+
+pub push_value-returns-then-opens-3-clause-ok : goal.push_value-returns-then-opens-3-clause-ok
+push_value-returns-then-opens-3-clause-ok t c =
+    let f = c.if-opens-3.ensures in
     let n : c.args.depth ≡ suc (c.args.depth - 1) = omega (arith, f.1) in
     let p = c.push_object in
     let behind = c.opens-in-Fields.new.reader in

@@ -8,4 +8,4 @@ returns-in_default-clause-ok c =
     let p = c.push_null in
     let l = c.in_ok-lent.lent in
     read_into p.result (value_at c.args.depth) c.args.reader.now c.lend.new.reader (lent_value l) c.args.builder.now p.new.builder c.in_ok-lent.ensures.reads
-    (null_for_list p.result c.requires.suits.0 l c.args.builder.now p.new.builder c.requires.suits.1 c.in_default.not-Array p.ensures.ok)
+    (null_for_list p.result l c.args.builder.now p.new.builder c.requires.lists c.in_default.not-Array p.ensures.ok)

@@ -2,8 +2,9 @@
 use Rattle.std.proofs.Common.{ap, sym, ◌∙◌}
 use Rattle.arrow_types.specs.declared.types.DataType.TheVariants as types
 use Rattle.arrow_types.specs.declared.types.Field.{Field}
+use Rattle.json_line.specs.Lines.{are_sized_items}
 use Rattle.json_line.specs.Types.{has_line_reading}
-use Rattle.json_line.proofs.Shapes.{list_readable, large_list_readable, struct_readable}
+use Rattle.json_line.proofs.Shapes.{list_readable, large_list_readable, sized_readable, struct_readable}
 use Rattle.json_line.proofs.types.+readable.Goals as goal
 
 pub has_line_reading-returns-in-Struct : goal.has_line_reading-returns-in-Struct
@@ -14,3 +15,8 @@ has_line_reading-returns-in-List t c = c.has_line_reading.ensures ∙ ap (λ (f 
 
 pub has_line_reading-returns-in-LargeList : goal.has_line_reading-returns-in-LargeList
 has_line_reading-returns-in-LargeList t c = c.has_line_reading-in-LargeList.ensures ∙ ap (λ (f : Field). has_line_reading f.data_type) c.get-in-LargeList.ensures ∙ sym (ap has_line_reading c.in-LargeList.is ∙ large_list_readable c.in-LargeList.item)
+
+pub has_line_reading-returns-in-FixedSizeList : goal.has_line_reading-returns-in-FixedSizeList
+has_line_reading-returns-in-FixedSizeList t c =
+    c.are_sized_items.ensures ∙ ap (λ (f : Field). are_sized_items c.in-FixedSizeList.size f) c.get-in-FixedSizeList.ensures
+    ∙ sym (ap has_line_reading c.in-FixedSizeList.is ∙ sized_readable c.in-FixedSizeList.item c.in-FixedSizeList.size)
