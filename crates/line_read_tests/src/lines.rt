@@ -1,6 +1,8 @@
 //! Lines that are read without a tree, and lines that are given up.
-use crate::samples::{builders, field, has_texts, large_list, list, pair, read};
-use arrow_types::{DataType, TimeUnit};
+use crate::samples::{
+    builders, columns, dictionary, field, has_texts, large_list, list, pair, read, sized_list, two,
+};
+use arrow_types::{DataType, IntegerType, TimeUnit};
 use std::alloc::Global;
 use std::process::Abort;
 
@@ -60,6 +62,47 @@ fn lists_and_records_are_read_at_every_depth(rt: HostRuntime) {
         b"{\"n\":6,\"r\":{\"n\":null,\"p\":[5]}},null",
     ];
     assert!(rt; has_texts(&rt, alloc, columns, wanted));
+}
+
+#[test]
+fn lists_of_so_many_items_are_read(rt: HostRuntime) {
+    let alloc = rt.alloc();
+    let a = sized_list(&rt, alloc, DataType::Int32, 2);
+    let b = list(&rt, alloc, sized_list(&rt, alloc, DataType::Utf8, 1));
+    let c = sized_list(&rt, alloc, record(&rt, alloc), 1);
+    let mut kept = builders(&rt, alloc, a, b, c);
+    let one = "{\"a\":[1,2],\"b\":[[\"x\"],null,[1]],\"c\":[{\"n\":1,\"p\":[]}]}";
+    let other = "{\"a\":3,\"b\":[],\"c\":{}}";
+    let columns = read(&rt, alloc, &mut kept, one, other);
+    let wanted: [&[u8]; 3] = [
+        b"[1,2],null",
+        b"[[\"x\"],null,[\"1\"]],[]",
+        b"[{\"n\":1,\"p\":[]}],null",
+    ];
+    assert!(rt; has_texts(&rt, alloc, columns, wanted));
+    // Another number of items means null, and is given up.
+    for line in ["{\"a\":[1]}", "{\"a\":[1,2,3]}", "{\"b\":[[]]}"] {
+        assert!(rt; read(&rt, alloc, &mut kept, "{}", line).is_err(), "{line}");
+    }
+    let columns = read(&rt, alloc, &mut kept, "{\"a\":[4,5]}", "{}");
+    let wanted: [&[u8]; 3] = [b"[4,5],null", b"null,null", b"null,null"];
+    assert!(rt; has_texts(&rt, alloc, columns, wanted));
+}
+
+#[test]
+fn dictionaries_are_made(rt: HostRuntime) {
+    let alloc = rt.alloc();
+    let a = dictionary(&rt, alloc, IntegerType::UInt8, DataType::Utf8);
+    let b = dictionary(&rt, alloc, IntegerType::Int64, DataType::LargeUtf8);
+    let mut kept = columns(&rt, alloc, a, b, DataType::Int8);
+    let lines = two(
+        &rt,
+        alloc,
+        "{\"a\":\"x\",\"b\":1.5,\"c\":7}",
+        "{\"a\":\"x\",\"b\":[]}",
+    );
+    let wanted: [&[u8]; 3] = [b"\"x\",\"x\"", b"\"1.5\",null", b"7,null"];
+    assert!(rt; has_texts(&rt, alloc, kept.read_lines(&lines), wanted));
 }
 
 #[test]

@@ -1,10 +1,11 @@
 //! Types of columns, and columns of lines.
 use arrow_array::Array;
 use arrow_core::{Box, Items, Result, Text};
-use arrow_types::{DataType, Field};
+use arrow_types::{DataType, Field, IntegerType};
 use json_line::{GivenUp, LineBuilders};
 use json_write::Serializer;
 use lending::FallibleStreamingIterator;
+use ndjson_columns::LineColumns;
 use std::alloc::Global;
 use std::process::Abort;
 
@@ -23,13 +24,36 @@ pub(crate) fn large_list(rt: &impl Abort, alloc: Global, item: DataType) -> Data
     DataType::LargeList(Box::new(alloc, item).expect(rt, "memory"))
 }
 
+/// Lists of so many items.
+pub(crate) fn sized_list(rt: &impl Abort, alloc: Global, item: DataType, size: usize) -> DataType {
+    let item = field(rt, alloc, "item", item);
+    DataType::FixedSizeList(Box::new(alloc, item).expect(rt, "memory"), size)
+}
+
+pub(crate) fn dictionary(
+    rt: &impl Abort,
+    alloc: Global,
+    key: IntegerType,
+    value: DataType,
+) -> DataType {
+    DataType::Dictionary(key, Box::new(alloc, value).expect(rt, "memory"), false)
+}
+
 /// A Struct of two fields.
 pub(crate) fn pair(rt: &impl Abort, alloc: Global, one: Field, other: Field) -> DataType {
     let fields = vec![in alloc; one, other].expect(rt, "memory");
     DataType::Struct(Items::from_vec(fields))
 }
 
-/// Builders of three columns, `a`, `b` and `c`.
+/// Three fields, `a`, `b` and `c`.
+fn fields(rt: &impl Abort, alloc: Global, a: DataType, b: DataType, c: DataType) -> Vec<Field> {
+    let a = field(rt, alloc, "a", a);
+    let b = field(rt, alloc, "b", b);
+    let c = field(rt, alloc, "c", c);
+    vec![in alloc; a, b, c].expect(rt, "memory")
+}
+
+/// Builders of three columns.
 pub(crate) fn builders(
     rt: &impl Abort,
     alloc: Global,
@@ -37,13 +61,29 @@ pub(crate) fn builders(
     b: DataType,
     c: DataType,
 ) -> LineBuilders {
-    let a = field(rt, alloc, "a", a);
-    let b = field(rt, alloc, "b", b);
-    let c = field(rt, alloc, "c", c);
-    let fields = vec![in alloc; a, b, c].expect(rt, "memory");
-    LineBuilders::new(alloc, fields)
+    LineBuilders::new(alloc, fields(rt, alloc, a, b, c))
         .expect(rt, "memory")
         .expect(rt, "readable types")
+}
+
+/// The same, of which dictionaries are made.
+pub(crate) fn columns(
+    rt: &impl Abort,
+    alloc: Global,
+    a: DataType,
+    b: DataType,
+    c: DataType,
+) -> LineColumns {
+    LineColumns::new(alloc, fields(rt, alloc, a, b, c))
+        .expect(rt, "memory")
+        .expect(rt, "readable types")
+}
+
+/// Two lines.
+pub(crate) fn two(rt: &impl Abort, alloc: Global, one: &str, other: &str) -> [Text; 2] {
+    let one = Text::try_from_str(alloc, one).expect(rt, "memory");
+    let other = Text::try_from_str(alloc, other).expect(rt, "memory");
+    [one, other]
 }
 
 /// The columns of two lines.
@@ -54,9 +94,7 @@ pub(crate) fn read(
     one: &str,
     other: &str,
 ) -> std::result::Result<Vec<Array>, GivenUp> {
-    let one = Text::try_from_str(alloc, one).expect(rt, "memory");
-    let other = Text::try_from_str(alloc, other).expect(rt, "memory");
-    builders.read_lines(&[one, other])
+    builders.read_lines(&two(rt, alloc, one, other))
 }
 
 /// Whether the lines were read, into columns that have these texts, without brackets.

@@ -1,17 +1,22 @@
 -- The values of rows, row by row.
-use Rattle.std.proofs.Common.{◌≡◌, ℕ, zero, suc, ◌+◌, ◌<◌, List, [], ◌∷◌, ◌++◌, length, get_or, take, drop, sym, ap, ◌∙◌, subst, arith, inr, Option, Result, Ok, Err, IfErr}
+use Rattle.std.proofs.Common.{◌≡◌, ℕ, zero, suc, ◌+◌, ◌<◌, List, [], ◌∷◌, ◌++◌, length, get_or, take, drop, sym, ap, ◌∙◌, subst, arith, inr, map, true, false, Option, Some, None, IfSome, Result, Ok, Err, IfErr}
 use Rattle.std.proofs.lemmas.List.{take_more}
 use Rattle.std.specs.Borrow.{Bor}
+use Rattle.arrow_array.specs.Arrays.{array_slots, array_type}
 use Rattle.arrow_array.specs.declared.array.Array.{Array}
 use Rattle.arrow_core.specs.declared.error.Error.{Error}
 use Rattle.arrow_types.specs.declared.types.DataType.{DataType}
+use Rattle.json_columns.specs.Names.{names_twice}
 use Rattle.json_columns.specs.Refusals.{IsRefusal}
-use Rattle.json_tree.specs.Tree.{Json}
+use Rattle.json_flat.specs.Reading.{has_reading}
+use Rattle.json_line.specs.Lines.{AreObjects}
+use Rattle.ndjson_columns.specs.LineColumns.{AreRowsOf}
+use Rattle.json_tree.specs.Tree.{Json, object}
 use Rattle.json_tree.specs.Meaning.{IsJson}
 use Rattle.ndjson_infer.specs.Inference.{NoValue}
 use Rattle.ndjson_infer.specs.Needed.{StandFor}
 use Rattle.ndjson_infer.proofs.Values.{stand_for-append}
-use Rattle.ndjson_columns.specs.Columns.{IsNoColumn, IsNoColumnOfAll}
+use Rattle.ndjson_columns.specs.Columns.{IsColumnOf, IsNoColumn, IsNoColumnOfAll}
 use Rattle.ndjson_columns.specs.Rows.{AllStandFor, FailsAtRow}
 
 -- one more row stands for a value
@@ -41,3 +46,14 @@ pub no_column_of_all : {I : Type 0} (next_gives : I → Option (Bor (List ℕ)) 
     → IfErr answer (IsRefusal t values) → IfErr answer (IsNoColumnOfAll next_gives rows t)
 no_column_of_all next_gives rows t values (Ok array) stand h = tt
 no_column_of_all next_gives rows t values (Err e) stand h = inr (values, stand, h)
+
+-- the objects of lines are what they stand for
+lines_stand : (rows : List (List (List ℕ × Json))) (lines : List (List ℕ)) → AreObjects rows lines → StandFor lines (map object rows)
+lines_stand [] [] h = tt
+lines_stand [] (line ∷ lines) h = absurd h
+lines_stand (members ∷ rows) [] h = absurd h
+lines_stand (members ∷ rows) (line ∷ lines) h = (h.0, lines_stand rows lines h.1)
+
+pub lines_column : (rows : List (List ℕ)) (t : DataType) (o : Option Array) → names_twice t ≡ false → has_reading t ≡ true → IfSome o (λ a. array_type a ≡ t) → IfSome o (λ a. AreRowsOf t rows (array_slots a)) → IfSome o (λ a. IsColumnOf rows t (array_type a) (array_slots a))
+lines_column rows t None d r e h = tt
+lines_column rows t (Some a) d r e h = (map object h.rows, lines_stand h.rows rows h.objects, record { distinct = d; readable = r; same_type = e; meant = h.meant })

@@ -9,7 +9,7 @@ use Rattle.arrow_types.specs.declared.types.DataType.{DataType}
 use Rattle.json_tree.specs.Tree.{Json}
 use Rattle.json_flat.specs.Columns.{AreSlotsOf}
 use Rattle.json_columns.specs.Names.{names_twice}
-use Rattle.json_columns.specs.Reading.{has_reading, reading}
+use Rattle.json_flat.specs.Reading.{has_reading, reading}
 use Rattle.json_columns.specs.Refusals.{IsRefusal}
 use Rattle.ndjson_infer.specs.GivenRows.{FailsAt}
 use Rattle.ndjson_infer.specs.Needed.{StandFor}

@@ -1,14 +1,17 @@
 //! The column of rows of JSON lines.
-ghost use Rattle.std.specs.Prelude.{◌≡◌, ◌≢◌, [], IfOk, IfErr, OnOk};
+ghost use Rattle.std.specs.Prelude.{◌≡◌, ◌≢◌, [], IfOk, IfErr, IfSome, OnOk};
 ghost use Rattle.std.specs.Iterator.{IsFinite};
 ghost use Rattle.arrow_array.specs.Arrays.{array_slots, array_type};
+ghost use Rattle.arrow_types.specs.declared.types.DataType.{Struct};
+ghost use Rattle.ndjson_columns.specs.LineColumns.{AreRowsOf};
 ghost use Rattle.ndjson_columns.specs.Columns.{IsColumnOf, IsColumnOfAll, IsNoColumn, IsNoColumnOfAll, IsRefusalOf};
 
+use crate::line_columns::LineColumns;
 use crate::rows::{push_given, push_values};
 use arrow_array::Array;
 use arrow_core::{Error, Reason, Result, Text};
-use arrow_types::DataType;
-use json_columns::read_values;
+use arrow_types::{DataType, Field};
+use json_columns::{has_json_reading, names_twice, read_values};
 use json_tree::Value;
 use std::alloc::Global;
 
@@ -26,6 +29,54 @@ fn read_rows(
 {
     push_values(alloc, values, rows)?;
     read_values(alloc, values.as_slice(), data_type)
+}
+
+/// The fields of a Struct; `None` for any other type, and where there is no memory.
+fn fields_of(alloc: Global, data_type: &DataType) -> Option<Vec<Field>>
+    ensures { IfSome result (λ fields. data_type.now ≡ Struct fields.items) }
+{
+    match data_type.try_clone(alloc) {
+        Ok(DataType::Struct(fields)) => Some(fields.into_vec()),
+        _ => None,
+    }
+}
+
+/// The column of rows as structs of these fields, read without trees; `None` where lines aren't read
+/// into columns of one of the types, and where the rows are given up.
+fn read_structs(
+    alloc: Global,
+    rows: &[Text],
+    fields: Vec<Field>,
+    data_type: &DataType,
+) -> Option<Array>
+    requires { data_type.now ≡ Struct fields.items }
+    ensures data_type { IfSome result (λ a. array_type a ≡ data_type.now) }
+    ensures ok { IfSome result (λ a. AreRowsOf data_type.now rows.now (array_slots a)) }
+{
+    match LineColumns::new(alloc, fields) {
+        Ok(Some(mut columns)) => match columns.read_rows(rows, data_type) {
+            Ok(array) => Some(array),
+            Err(_) => None,
+        },
+        _ => None,
+    }
+}
+
+/// The column of rows, read without trees; `None` where they are to be read as trees.
+fn read_lines(alloc: Global, rows: &[Text], data_type: &DataType) -> Option<Array>
+    ensures column { IfSome result
+        (λ a. IsColumnOf rows.now data_type.now (array_type a) (array_slots a)) }
+{
+    if names_twice(data_type) {
+        return None;
+    }
+    if !has_json_reading(data_type) {
+        return None;
+    }
+    match fields_of(alloc, data_type) {
+        Some(fields) => read_structs(alloc, rows, fields, data_type),
+        None => None,
+    }
 }
 
 /// The column of the rows that an iterator gives, whose values are kept in `values`, where there is
@@ -64,6 +115,9 @@ pub fn deserialize(alloc: Global, rows: &[Text], data_type: DataType) -> Result<
 {
     if rows.is_empty() {
         return Err(Error::ExternalFormat(Reason::EmptyInput));
+    }
+    if let Some(array) = read_lines(alloc, rows, &data_type) {
+        return Ok(array);
     }
     let mut values = Vec::new(alloc);
     read_rows(alloc, &mut values, rows, &data_type)

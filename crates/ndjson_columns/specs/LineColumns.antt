@@ -1,0 +1,45 @@
+-- The columns that lines of JSON (RFC 8259) are read into, dictionaries among them.
+use Rattle.std.specs.Prelude.{◌≡◌, ◌∷◌, [], ℕ, List, map}
+use Rattle.std.specs.List.{AllZip}
+use Rattle.arrow_array.specs.Arrays.{array_slots, array_type}
+use Rattle.arrow_array.specs.declared.array.Array.{Array}
+use Rattle.arrow_types.specs.declared.slot.Slot.{Slot}
+use Rattle.arrow_types.specs.declared.types.DataType.{DataType}
+use Rattle.arrow_types.specs.declared.types.Field.{Field}
+use Rattle.json_columns.specs.Dictionaries.{HasFirstItems}
+use Rattle.json_flat.specs.Columns.{AreSlotsOf}
+use Rattle.json_flat.specs.Reading.{reading}
+use Rattle.json_line.specs.Lines.{AreObjects}
+use Rattle.json_tree.specs.Tree.{Json, object}
+
+-- the values of each dictionary are its distinct slots but null, in order of first appearance
+abbrev pub HaveFirstItems : List Field → List Array → Type 0
+HaveFirstItems fields columns = AllZip (λ (field : Field) column. HasFirstItems field.data_type column) fields columns
+
+-- the lines are objects, and these are the slots that they mean under the type
+pub record AreRowsOf (row_type : DataType) (lines : List (List ℕ)) (slots : List Slot) : Type 0 where
+  pub rows : List (List (List ℕ × Json))
+  pub objects : AreObjects rows lines
+  pub meant : AreSlotsOf (reading row_type) (map object rows) slots
+
+-- ---- Contracts of private functions alone cite what follows.
+
+-- the field that a column is first read under: values mean under its type what they mean under the field's
+pub record IsStoredFor (field stored : Field) : Type 0 where
+  pub name : stored.name ≡ field.name
+  pub meaning : reading stored.data_type ≡ reading field.data_type
+
+abbrev pub AreStoredFor : List Field → List Field → Type 0
+AreStoredFor fields stored = AllZip IsStoredFor fields stored
+
+-- a column of the type was made of another: it has the same slots
+pub record IsMadeOf (t : DataType) (old new : Array) : Type 0 where
+  pub data_type : array_type new ≡ t
+  pub slots : array_slots new ≡ array_slots old
+  pub items : HasFirstItems t new
+
+-- a column for each field was made of another
+abbrev pub AreMadeOf : List Field → List Array → List Array → Type 0
+AreMadeOf [] [] [] = Unit {0}
+AreMadeOf (f ∷ fields) (a ∷ olds) (b ∷ news) = IsMadeOf f.data_type a b × AreMadeOf fields olds news
+AreMadeOf _ _ _ = ⊥

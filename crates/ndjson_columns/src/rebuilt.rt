@@ -1,0 +1,83 @@
+//! Arrays with other children of the same slots.
+ghost use Rattle.std.specs.Prelude.{◌≡◌, ◌<◌, ℕ, List, length, map, IfOk, IsTrue};
+ghost use Rattle.std.specs.Option.{option_copied};
+ghost use Rattle.arrow_array.specs.Arrays.{array_slots};
+ghost use Rattle.arrow_array.specs.Slots.{TellsHeld, is_held, slot_at};
+ghost use Rattle.arrow_array.specs.Structs.{first_len, record_at};
+ghost use Rattle.arrow_types.specs.declared.slot.Slot.{Slot};
+
+use arrow_array::{Array, Bitmap, LargeListArray, ListArray, StructArray};
+use arrow_types::DataType;
+use json_line::GivenUp;
+use std::alloc::Global;
+
+// The same validity, which shares its words.
+fn same_validity(validity: Option<&Bitmap>) -> Result<Option<Bitmap>, GivenUp>
+    ensures { IfOk result (λ same. (slots : List Slot) → TellsHeld (option_copied validity.entry) slots
+        → TellsHeld same slots) }
+{
+    match validity {
+        Some(bits) => {
+            let bits = bits.slice(0, bits.len())?;
+            Ok(Some(bits))
+        }
+        None => Ok(None),
+    }
+}
+
+/// The lists of this type over a child of the same slots.
+pub(crate) fn lists_over(
+    alloc: Global,
+    data_type: &DataType,
+    lists: &ListArray,
+    values: Array,
+) -> Result<ListArray, GivenUp>
+    requires { array_slots values ≡ lists.now.items }
+    ensures data_type { IfOk result (λ a. a.data_type ≡ data_type.now) }
+    ensures slots { IfOk result (λ a. a.slots ≡ lists.now.slots) }
+{
+    let data_type = data_type.try_clone(alloc)?;
+    let offsets = Vec::from_slice(alloc, lists.offsets())?;
+    let validity = same_validity(lists.validity())?;
+    let array = ListArray::try_new(alloc, data_type, offsets, values, validity)?;
+    Ok(array)
+}
+
+/// The same with offsets of 64 bits.
+pub(crate) fn large_lists_over(
+    alloc: Global,
+    data_type: &DataType,
+    lists: &LargeListArray,
+    values: Array,
+) -> Result<LargeListArray, GivenUp>
+    requires { array_slots values ≡ lists.now.items }
+    ensures data_type { IfOk result (λ a. a.data_type ≡ data_type.now) }
+    ensures slots { IfOk result (λ a. a.slots ≡ lists.now.slots) }
+{
+    let data_type = data_type.try_clone(alloc)?;
+    let offsets = Vec::from_slice(alloc, lists.offsets())?;
+    let validity = same_validity(lists.validity())?;
+    let array = LargeListArray::try_new(alloc, data_type, offsets, values, validity)?;
+    Ok(array)
+}
+
+/// The structs of this type over children of the same slots.
+pub(crate) fn structs_over(
+    alloc: Global,
+    data_type: &DataType,
+    structs: &StructArray,
+    values: Vec<Array>,
+) -> Result<StructArray, GivenUp>
+    requires slots { (k : ℕ) → k < length structs.now.slots
+        → IsTrue (is_held (slot_at structs.now.slots k))
+        → slot_at structs.now.slots k ≡ record_at (map array_slots values.items) k }
+    requires count { 0 < length values.items
+        → first_len values.items ≡ length structs.now.slots }
+    ensures data_type { IfOk result (λ a. a.data_type ≡ data_type.now) }
+    ensures slots { IfOk result (λ a. a.slots ≡ structs.now.slots) }
+{
+    let data_type = data_type.try_clone(alloc)?;
+    let validity = same_validity(structs.validity())?;
+    let array = StructArray::try_new(alloc, data_type, values, validity)?;
+    Ok(array)
+}
