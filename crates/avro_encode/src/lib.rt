@@ -15,3 +15,4 @@ mod numbers;
 pub use append::append_slot;
 pub use encoder::ColumnEncoder;
 pub use laws::{canonical_encoding, decimal_sizes};
+pub use numbers::{append_counted, append_counted_after, append_number};

@@ -19,7 +19,7 @@ fn zigzagged(value: i64) -> u64
 
 /// Appends the shortest encoding of a number, which is mostly one byte. `AllocError` alone.
 #[inline(always)]
-pub(crate) fn append_number(value: i64, out: &mut Vec<u8>) -> Result<(), AllocError>
+pub fn append_number(value: i64, out: &mut Vec<u8>) -> Result<(), AllocError>
     ensures ok { OnOk result (out.new.items ≡ out.old.items ++ shortest value) }
 {
     append_groups(zigzagged(value), out)
@@ -126,7 +126,7 @@ pub(crate) fn append_bytes(bytes: &[u8], out: &mut Vec<u8>) -> Result<(), AllocE
 
 /// Appends bytes after their length. `AllocError` alone.
 #[inline(always)]
-pub(crate) fn append_counted(bytes: &[u8], out: &mut Vec<u8>) -> Result<(), AllocError>
+pub fn append_counted(bytes: &[u8], out: &mut Vec<u8>) -> Result<(), AllocError>
     requires { length bytes.now < 2 ^ 63 }
     ensures ok { OnOk result (out.new.items ≡ out.old.items ++ counted bytes.now) }
 {
@@ -137,11 +137,7 @@ pub(crate) fn append_counted(bytes: &[u8], out: &mut Vec<u8>) -> Result<(), Allo
 /// Appends a byte, and then bytes after their length. `AllocError` alone.
 // The byte and the length of few bytes are appended at once.
 #[inline(always)]
-pub(crate) fn append_counted_after(
-    byte: u8,
-    bytes: &[u8],
-    out: &mut Vec<u8>,
-) -> Result<(), AllocError>
+pub fn append_counted_after(byte: u8, bytes: &[u8], out: &mut Vec<u8>) -> Result<(), AllocError>
     requires { length bytes.now < 2 ^ 63 }
     ensures ok { OnOk result (out.new.items ≡ out.old.items ++ byte ∷ counted bytes.now) }
 {

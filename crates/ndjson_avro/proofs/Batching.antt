@@ -17,7 +17,7 @@ use Rattle.avro_schema.specs.declared.schema.Schema.{Schema}
 use Rattle.avro_write.specs.declared.flaws.Flaw.TheVariants as flaw
 use Rattle.avro_write.specs.Flaws.{shows}
 use Rattle.avro_write.specs.Rows.{row, rows}
-use Rattle.json_columns.specs.Reading.{reading}
+use Rattle.json_flat.specs.Reading.{reading}
 use Rattle.json_flat.specs.Columns.{AreSlotsOf, means}
 use Rattle.json_flat.specs.Meaning.{slot_of}
 use Rattle.json_tree.specs.Meaning.{IsJson}

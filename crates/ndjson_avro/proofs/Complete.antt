@@ -23,7 +23,7 @@ use Rattle.avro_schema.specs.declared.schema.Record.{Record}
 use Rattle.avro_schema.specs.declared.schema.Schema.{Schema}
 use Rattle.avro_schema.specs.declared.schema.Schema as schema
 use Rattle.json_columns.specs.Faults.{TooMany}
-use Rattle.json_columns.specs.Reading.{reading}
+use Rattle.json_flat.specs.Reading.{reading}
 use Rattle.json_tree.specs.Meaning.{IsJson}
 use Rattle.json_tree.specs.Tree.{Json}
 use Rattle.json_tree.proofs.Answering.{within}

@@ -1,7 +1,6 @@
 pub mod Batching
 pub mod Complete
 pub mod Holding
-pub mod LineReadings
 pub mod Nexts
 pub mod NullTypes
 pub mod Parsing
@@ -12,3 +11,4 @@ pub mod Refused
 pub mod Roots
 pub mod Taking
 pub mod Whole
+pub mod Held

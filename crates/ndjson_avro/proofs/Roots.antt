@@ -30,8 +30,8 @@ use Rattle.avro_write.specs.Flaws.{shows}
 use Rattle.avro_write.specs.Shown.{fields_show_of}
 use Rattle.avro_write.proofs.Flawed.{of_array, of_null, of_record, of_union}
 use Rattle.json_columns.specs.Gathered.{all_have_reading}
-use Rattle.json_columns.specs.Reading.{has_reading, have_reading}
-use Rattle.json_columns.specs.Reading as reading
+use Rattle.json_flat.specs.Reading.{has_reading, have_reading}
+use Rattle.json_flat.specs.Reading as reading
 use Rattle.json_columns.proofs.ByFields.{struct_readable}
 use Rattle.ndjson_avro.specs.Steps.{IsRootOf}
 use Rattle.ndjson_avro.specs.Target.{HasTarget}

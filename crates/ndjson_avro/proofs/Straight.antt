@@ -13,7 +13,6 @@ use Rattle.arrow_types.specs.declared.slot.Slot.{Slot}
 use Rattle.arrow_types.specs.declared.slot.Slot.TheVariants as slot
 use Rattle.arrow_types.specs.declared.types.DataType as types
 use Rattle.arrow_types.specs.declared.types.DataType.{DataType}
-use Rattle.arrow_types.specs.declared.types.IntervalUnit.TheVariants as interval
 use Rattle.arrow_types.specs.declared.types.Field.{Field}
 use Rattle.json_tree.specs.Keys.{value_of}
 use Rattle.json_tree.specs.Meaning.{IsJson}
@@ -23,15 +22,14 @@ use Rattle.json_tree.specs.declared.value.Value.{out-Value}
 use Rattle.json_flat.specs.Columns.{AreSlotsOf}
 use Rattle.json_columns.specs.Faults.{AreMemberColumns, IsMemberColumn}
 use Rattle.json_columns.specs.Gathered.{are_objects, is_object as is_object_in, member_in, members_named}
-use Rattle.json_columns.specs.Reading.{or_null, reading}
+use Rattle.json_flat.specs.Reading.{reading}
 use Rattle.json_columns.proofs.ByFields.{struct_ok}
 use Rattle.json_columns.proofs.FieldColumns.{children}
 use Rattle.json_columns.proofs.Layers.{object_member}
 use Rattle.json_columns.proofs.Rows.{structs_column}
-use Rattle.json_lend.specs.Fields.{value_named, or_null as or_null_lent}
+use Rattle.json_lend.specs.Fields.{value_named}
 use Rattle.json_line.specs.Lines.{are_line_fields, values_named, AreColumnsOf, AreObjects, IsColumnOf}
-use Rattle.json_line.specs.Types.{has_line_reading, line_reading}
-use Rattle.ndjson_avro.proofs.LineReadings.{same_or_null, same_slots}
+use Rattle.json_line.proofs.Shapes.{same_or_null}
 use Rattle.ndjson_avro.specs.Steps.{AreBuildersOf, AreRead}
 use Rattle.ndjson_avro.specs.Values.{is_object}
 
@@ -68,7 +66,7 @@ have_values (members ∷ rows) (t ∷ texts) h = (h.0, have_values rows texts h.
 member_column : (rows : List (List (List ℕ × Json))) (f : Field) (a : Array) → IsColumnOf rows f a → IsMemberColumn f (objects_of rows) (array_type a) (array_slots a)
 member_column rows f a c = (
   sym c.data_type,
-  subst (λ vs. AreSlotsOf (reading f.data_type) vs (array_slots a)) (members_of f.name rows) (same_slots f.data_type c.readable (values_named rows f.name) (array_slots a) c.slots),
+  subst (λ vs. AreSlotsOf (reading f.data_type) vs (array_slots a)) (members_of f.name rows) c.slots,
 )
 
 member_columns : (rows : List (List (List ℕ × Json))) (fields : List Field) (columns : List Array) → AllZip (IsColumnOf rows) fields columns → AreMemberColumns fields (objects_of rows) columns

@@ -13,7 +13,7 @@ use Rattle.avro_schema.specs.declared.schema.Schema.{Schema}
 use Rattle.avro_write.specs.declared.flaws.Flaw.TheVariants as flaw
 use Rattle.avro_write.specs.Flaws.{shows}
 use Rattle.json_columns.specs.Faults.{TooMany}
-use Rattle.json_columns.specs.Reading.{reading}
+use Rattle.json_flat.specs.Reading.{reading}
 use Rattle.json_flat.specs.Columns.{AreSlotsOf, Has}
 use Rattle.json_flat.specs.Meaning.{text_timestamp, unfit}
 use Rattle.json_tree.specs.Meaning.{IsJson}

@@ -17,11 +17,13 @@ use Rattle.avro_schema.specs.declared.schema.Schema.{Record, Schema}
 use Rattle.avro_write.specs.declared.flaws.Flaw.TheVariants as flaw
 use Rattle.avro_write.specs.Flaws.{shows}
 use Rattle.json_columns.specs.Names.{names_twice}
-use Rattle.json_columns.specs.Reading.{has_reading, reading}
+use Rattle.json_flat.specs.Reading.{has_reading, reading}
 use Rattle.json_flat.specs.Columns.{AreSlotsOf}
 use Rattle.json_columns.specs.Refusals.{IsRefusal}
 use Rattle.json_tree.specs.Meaning.{IsJson}
 use Rattle.json_tree.specs.Tree.{Json}
+use Rattle.line_encode.specs.declared.lines.LinePlan.{LinePlan}
+use Rattle.line_encode.specs.Makes.{IsLinePlanOf}
 use Rattle.ndjson_read.specs.Reading.{State}
 use Rattle.ndjson_avro.specs.Batches.{WritesBatches}
 use Rattle.ndjson_avro.specs.BatchSteps.{TakesSome}
@@ -44,6 +46,11 @@ pub record IsRootOf (root : Schema) (row_type : DataType) : Type 0 where
 abbrev pub AreBuildersOf : DataType → Option (List Field) → Type 0
 AreBuildersOf row_type lines = IfSome lines (λ fields. row_type ≡ types.Struct fields)
 
+-- the plan by which lines are encoded without columns, if there is any, is that of the row type and the root
+abbrev pub IsPlanFor : DataType → Schema → Option LinePlan → Type 0
+IsPlanFor row_type root plan =
+    IfSome plan (λ p. (fields : List Field) × (r : TheRecord) × (row_type ≡ types.Struct fields) × (root ≡ Record r) × IsLinePlanOf fields r p)
+
 -- An encoder of the rows of these fields, and the record of the file.
 pub record IsEncoderOf (fields : List Field) (name : List ℕ) (encoder : BlockEncoder) (target : TheRecord) : Type 0 where
   pub has : HasTarget fields name target
@@ -51,6 +58,7 @@ pub record IsEncoderOf (fields : List Field) (name : List ℕ) (encoder : BlockE
   pub root : encoder.root ≡ Record target
   pub is_root : IsRootOf encoder.root encoder.row_type
   pub are_lines : AreBuildersOf encoder.row_type encoder.lines
+  pub is_plan : IsPlanFor encoder.row_type encoder.root encoder.plan
 
 -- ---- reading
 

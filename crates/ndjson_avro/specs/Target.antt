@@ -9,7 +9,7 @@ use Rattle.avro_schema.specs.declared.schema.Record.{Record}
 use Rattle.avro_record.specs.Named.{named_root}
 use Rattle.avro_record.specs.Schemas.{record_of}
 use Rattle.json_columns.specs.Names.{names_twice}
-use Rattle.json_columns.specs.Reading.{has_reading}
+use Rattle.json_flat.specs.Reading.{has_reading}
 use Rattle.ndjson_avro.specs.Nulls.{holds_null}
 
 -- Rows of these fields can be read and written: no struct names a field twice, there is a field, the columns have an

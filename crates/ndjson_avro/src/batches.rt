@@ -4,7 +4,7 @@ ghost use Rattle.arrow_base.specs.Outside.{last_count};
 ghost use Rattle.ndjson_read.specs.FileReader.{byte_limit_of, source_of, state_of};
 ghost use Rattle.avro_blocks.specs.Changes.{change_of};
 ghost use Rattle.ndjson_avro.specs.Batches.{BatchFails, StopsAtBatch};
-ghost use Rattle.ndjson_avro.specs.Steps.{AllWritten, AreBuildersOf, IsRootOf, NextWritten};
+ghost use Rattle.ndjson_avro.specs.Steps.{AllWritten, AreBuildersOf, IsPlanFor, IsRootOf, NextWritten};
 ghost use Rattle.ndjson_avro.specs.BatchSteps.{IsOpen};
 
 use crate::batch::{Batch, read_batch};
@@ -29,6 +29,7 @@ fn write_next<S: Source, K: Sink>(
     requires open { IsOpen reader.old }
     requires root { IsRootOf encoder.old.root encoder.old.row_type }
     requires lines { AreBuildersOf encoder.old.row_type encoder.old.lines }
+    requires plan { IsPlanFor encoder.old.row_type encoder.old.root encoder.old.plan }
     ensures ok { IfOk result (NextWritten encoder.old.row_type encoder.old.root marker wanted
         (state_of S.left S.faults reader.old) (state_of S.left S.faults reader.new)
         (K.held sink.old) (K.held sink.new)) }
@@ -39,6 +40,7 @@ fn write_next<S: Source, K: Sink>(
     ensures row_type { encoder.new.row_type ≡ encoder.old.row_type }
     ensures root { encoder.new.root ≡ encoder.old.root }
     ensures lines { encoder.new.lines ≡ encoder.old.lines }
+    ensures plan { encoder.new.plan ≡ encoder.old.plan }
     ensures never_falls_sink { K.faults sink.old ≤ K.faults sink.new }
     ensures same { S.whose (source_of reader.new) ≡ S.whose (source_of reader.old) }
     ensures same_sink { K.whose sink.new ≡ K.whose sink.old }
@@ -68,6 +70,7 @@ pub(crate) fn write_batches<S: Source, K: Sink>(
     requires open { IsOpen reader.old }
     requires root { IsRootOf encoder.old.root encoder.old.row_type }
     requires lines { AreBuildersOf encoder.old.row_type encoder.old.lines }
+    requires plan { IsPlanFor encoder.old.row_type encoder.old.root encoder.old.plan }
     requires wanted { 0 < wanted }
     requires bound { byte_limit_of reader.old ≤ last_count }
     ensures ok { IfOk result (AllWritten encoder.old.row_type encoder.old.root marker wanted

@@ -3,7 +3,7 @@ ghost use Rattle.std.specs.Prelude.{◌≡◌, ◌<◌, ◌≤◌, ℕ, List, If
 ghost use Rattle.arrow_types.specs.declared.types.Field.{Field};
 ghost use Rattle.avro_blocks.specs.Changes.{change_of};
 ghost use Rattle.ndjson_avro.specs.Conversion.{Converts, ConversionFails};
-ghost use Rattle.ndjson_avro.specs.Steps.{AreBuildersOf, IsEncoderOf, IsRootOf};
+ghost use Rattle.ndjson_avro.specs.Steps.{AreBuildersOf, IsEncoderOf, IsPlanFor, IsRootOf};
 
 use crate::batches::write_batches;
 use crate::encoder::BlockEncoder;
@@ -84,6 +84,7 @@ fn write_file<S: Source, K: Sink>(
     requires some { 0 < rows_per_block }
     requires root { IsRootOf encoder.old.root encoder.old.row_type }
     requires lines { AreBuildersOf encoder.old.row_type encoder.old.lines }
+    requires plan { IsPlanFor encoder.old.row_type encoder.old.root encoder.old.plan }
     ensures ok { (fields : List Field) (name : List ℕ) → IsEncoderOf fields name encoder.old target.now
         → IfOk result (Converts fields name marker rows_per_block byte_limit
         (change_of (S.left source.old) (S.faults source.old) (S.left source.new) (S.faults source.new))

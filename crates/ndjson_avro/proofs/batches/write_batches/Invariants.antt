@@ -15,6 +15,7 @@ invariant-batches g l = record {
   row_type : l.encoder.row_type ≡ l.fn.encoder.row_type;
   root : l.encoder.root ≡ l.fn.encoder.root;
   lines : l.encoder.lines ≡ l.fn.encoder.lines;
+  plan : l.encoder.plan ≡ l.fn.encoder.plan;
   never_falls_sink : g.K.Sink.faults l.fn.sink ≤ g.K.Sink.faults l.sink;
   same : g.S.Source.whose (source_of l.reader) ≡ g.S.Source.whose (source_of l.fn.reader);
   same_sink : g.K.Sink.whose l.sink ≡ g.K.Sink.whose l.fn.sink;

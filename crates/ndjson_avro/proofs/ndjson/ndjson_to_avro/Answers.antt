@@ -11,6 +11,9 @@ write_file-requires-clause-root g c = c.in_ok-encoder.ensures.ok.is_root
 pub write_file-requires-clause-lines : goal.write_file-requires-clause-lines
 write_file-requires-clause-lines g c = c.in_ok-encoder.ensures.ok.are_lines
 
+pub write_file-requires-clause-plan : goal.write_file-requires-clause-plan
+write_file-requires-clause-plan g c = c.in_ok-encoder.ensures.ok.is_plan
+
 pub returns-clause-ok : goal.returns-clause-ok
 returns-clause-ok g c = c.write_file.ensures.ok c.args.schema.now.fields c.args.name.now c.in_ok-encoder.ensures.ok
 

@@ -1,0 +1,18 @@
+//! Lines of JSON (RFC 8259) as rows of an Avro file, without columns: each value's canonical
+//! encoding is appended as the value is read.
+//!
+//! This is the fast way: it takes what most lines are, and gives any other lines up, which are then
+//! to be read into columns. The columns alone decide what is refused, and why.
+#![tactic(auto)]
+
+mod fields;
+mod given_up;
+mod lines;
+mod make;
+mod names;
+mod plan;
+mod primitive;
+mod push;
+
+pub use given_up::GivenUp;
+pub use lines::LinePlan;
