@@ -17,7 +17,7 @@ use Rattle.avro_grammar.specs.Rows.{Pieces, Row, Rows}
 use Rattle.avro_grammar.specs.ValidBlock.{EnumsFit, KeptEnumsFit, kept}
 use Rattle.avro_grammar.proofs.ByLists.{encodes_array, encodes_union, encodes_record, moved}
 use Rattle.avro_grammar.proofs.TypeLemmas.{enum_composites}
-use Rattle.avro_verbatim.specs.Alike.{AreAlike, IsAlike, IsFixedAlike}
+use Rattle.avro_verbatim.specs.Alike.{AreAlike, MayBeCopied, IsFixedAlike}
 
 -- ---- arrays
 
@@ -39,7 +39,7 @@ module _ {A : Type 0} (P Q : Grammar A) (f : (bytes : List ℕ) (x : A) → P by
   blocks_alike (last n) = last n
   blocks_alike (block prefix items rest count xs ys n b more) = block prefix items rest count xs ys n (block_alike count items xs b) (blocks_alike more)
 
-array_alike : (s t : Schema) → IsAlike s t → IsAlike (Array s) (Array t)
+array_alike : (s t : Schema) → MayBeCopied s t → MayBeCopied (Array s) (Array t)
 array_alike s t h = record {
   encodes = λ bytes x e.
       let m = moved (λ i. encodes_array t i bytes x) e in
@@ -48,18 +48,18 @@ array_alike s t h = record {
   some = λ n. n;
 }
 
-pub of_array : (s t a b i j : Schema) → s ≡ Array a → t ≡ Array b → i ≡ a → j ≡ b → IsAlike i j → IsAlike s t
-of_array s t a b i j e d x y h = subst (λ (z : Schema). IsAlike z t) (ap Array x ∙ sym e) (subst (λ (z : Schema). IsAlike (Array i) z) (ap Array y ∙ sym d) (array_alike i j h))
+pub of_array : (s t a b i j : Schema) → s ≡ Array a → t ≡ Array b → i ≡ a → j ≡ b → MayBeCopied i j → MayBeCopied s t
+of_array s t a b i j e d x y h = subst (λ (z : Schema). MayBeCopied z t) (ap Array x ∙ sym e) (subst (λ (z : Schema). MayBeCopied (Array i) z) (ap Array y ∙ sym d) (array_alike i j h))
 
 -- ---- unions
 
-member_alike : (s t : Schema) → IsAlike s t → (k : ℕ) (bytes : List ℕ) (x : Slot) → k < 2 → EncodesMemberOf (Null ∷ t ∷ []) k bytes x → EncodesMemberOf (Null ∷ s ∷ []) k bytes x
+member_alike : (s t : Schema) → MayBeCopied s t → (k : ℕ) (bytes : List ℕ) (x : Slot) → k < 2 → EncodesMemberOf (Null ∷ t ∷ []) k bytes x → EncodesMemberOf (Null ∷ s ∷ []) k bytes x
 member_alike s t h zero bytes x l e = e
 member_alike s t h (suc zero) bytes x l (inl e) = inl (h.encodes bytes x e)
 member_alike s t h (suc zero) bytes x l (inr e) = absurd (h.some e.0)
 member_alike s t h (suc (suc k)) bytes x l e = absurd (omega (arith, l))
 
-union_alike : (s t : Schema) → IsAlike s t → IsAlike (Union (Null ∷ s ∷ [])) (Union (Null ∷ t ∷ []))
+union_alike : (s t : Schema) → MayBeCopied s t → MayBeCopied (Union (Null ∷ s ∷ [])) (Union (Null ∷ t ∷ []))
 union_alike s t h = record {
   encodes = λ bytes x e.
       let u : EncodesUnionOf (Null ∷ t ∷ []) bytes x = moved (λ i. encodes_union (Null ∷ t ∷ []) i bytes x) e in
@@ -80,9 +80,9 @@ two_are (x ∷ y ∷ z ∷ more) a b l h e d = absurd (omega (arith, h))
 pub union_is : (ms : List Schema) (a s : Schema) → 2 ≤ length ms → length ms < 3 → a ≡ get_or ms 0 a → s ≡ get_or ms 1 s → a ≡ Null → ms ≡ Null ∷ s ∷ []
 union_is ms a s l h e d n = two_are ms a s l h e d ∙ ap (λ (z : Schema). z ∷ s ∷ []) n
 
-pub of_union : (ms ns : List Schema) (s t : Schema) → ms ≡ Null ∷ s ∷ [] → ns ≡ Null ∷ t ∷ [] → IsAlike s t → IsAlike (Union ms) (Union ns)
+pub of_union : (ms ns : List Schema) (s t : Schema) → ms ≡ Null ∷ s ∷ [] → ns ≡ Null ∷ t ∷ [] → MayBeCopied s t → MayBeCopied (Union ms) (Union ns)
 of_union ms ns s t e d h =
-    subst (λ (zs : List Schema). IsAlike (Union zs) (Union ns)) (sym e) (subst (λ (zs : List Schema). IsAlike (Union (Null ∷ s ∷ [])) (Union zs)) (sym d) (union_alike s t h))
+    subst (λ (zs : List Schema). MayBeCopied (Union zs) (Union ns)) (sym e) (subst (λ (zs : List Schema). MayBeCopied (Union (Null ∷ s ∷ [])) (Union zs)) (sym d) (union_alike s t h))
 
 -- ---- records
 
@@ -102,7 +102,7 @@ symbols_fit (f ∷ fs) (g ∷ gs) h = (h.0.symbols, symbols_fit fs gs h.1)
 all_fit : (fs gs : List AvroField) → AreAlike fs gs → All (λ a. EnumsFit a.schema) fs
 all_fit fs gs h = All-from_recursion (λ a. EnumsFit a.schema) fs (symbols_fit fs gs h)
 
-record_alike : (r q : TheRecord) → AreAlike (out-Record r).fields (out-Record q).fields → IsAlike (Record r) (Record q)
+record_alike : (r q : TheRecord) → AreAlike (out-Record r).fields (out-Record q).fields → MayBeCopied (Record r) (Record q)
 record_alike r q h = record {
   encodes = λ bytes x e.
       let m = moved (λ i. encodes_record q i bytes x) e in
@@ -111,17 +111,17 @@ record_alike r q h = record {
   some = λ n. n;
 }
 
-pub of_record : (s t : Schema) (r q : TheRecord) (fs gs : List AvroField) → s ≡ Record r → t ≡ Record q → fs ≡ (out-Record r).fields → gs ≡ (out-Record q).fields → AreAlike fs gs → IsAlike s t
+pub of_record : (s t : Schema) (r q : TheRecord) (fs gs : List AvroField) → s ≡ Record r → t ≡ Record q → fs ≡ (out-Record r).fields → gs ≡ (out-Record q).fields → AreAlike fs gs → MayBeCopied s t
 of_record s t r q fs gs e d x y h =
     let alike : AreAlike (out-Record r).fields (out-Record q).fields = subst (λ (zs : List AvroField). AreAlike zs (out-Record q).fields) x (subst (AreAlike fs) y h) in
-    subst (λ (z : Schema). IsAlike z t) (sym e) (subst (λ (z : Schema). IsAlike (Record r) z) (sym d) (record_alike r q alike))
+    subst (λ (z : Schema). MayBeCopied z t) (sym e) (subst (λ (z : Schema). MayBeCopied (Record r) z) (sym d) (record_alike r q alike))
 
 -- ---- fields one after another
 
 drop_at : {A : Type 0} (xs : List A) (i : ℕ) (x : A) → i < length xs → drop i xs ≡ get_or xs i x ∷ drop (i + 1) xs
 drop_at xs i x l = drop-cons xs i x l ∙ ap (λ k. get_or xs i x ∷ drop k xs) (sym (add-one i))
 
-pub one_more : (fs gs : List AvroField) (i : ℕ) (f g : AvroField) → i < length fs → length fs ≡ length gs → IsAlike (get_or fs i f).schema (get_or gs i g).schema → (AreAlike (drop i fs) (drop i gs) → AreAlike fs gs) → AreAlike (drop (i + 1) fs) (drop (i + 1) gs) → AreAlike fs gs
+pub one_more : (fs gs : List AvroField) (i : ℕ) (f g : AvroField) → i < length fs → length fs ≡ length gs → MayBeCopied (get_or fs i f).schema (get_or gs i g).schema → (AreAlike (drop i fs) (drop i gs) → AreAlike fs gs) → AreAlike (drop (i + 1) fs) (drop (i + 1) gs) → AreAlike fs gs
 one_more fs gs i f g l same h whole rest =
     let both : AreAlike (get_or fs i f ∷ drop (i + 1) fs) (get_or gs i g ∷ drop (i + 1) gs) = (h, rest) in
     whole (subst (λ (zs : List AvroField). AreAlike zs (drop i gs)) (sym (drop_at fs i f l)) (subst (AreAlike (get_or fs i f ∷ drop (i + 1) fs)) (sym (drop_at gs i g (omega (arith, l, same)))) both))
@@ -161,7 +161,7 @@ fixed_parts : (size other : ℕ) (a b : Option FixedLogical) → a ≡ None → 
 fixed_parts size other a b e d same bytes x h =
     subst (λ (z : Option FixedLogical). EncodesFixed size z bytes x) (sym e) (subst (λ n. EncodesFixed n None bytes x) (sym same) (subst (λ (z : Option FixedLogical). EncodesFixed other z bytes x) d h))
 
-fixed_alike : (f g : Fixed) → IsFixedAlike f g → IsAlike (FixedSchema f) (FixedSchema g)
+fixed_alike : (f g : Fixed) → IsFixedAlike f g → MayBeCopied (FixedSchema f) (FixedSchema g)
 fixed_alike f g h = record {
   encodes = λ bytes x e. fixed_parts f.size g.size f.logical g.logical h.source_logical h.target_logical h.size bytes x e;
   symbols = λ n. n;

@@ -1,6 +1,7 @@
 -- Slots of unions, arrays and records, and rows, in their canonical encoding.
-use Rattle.std.proofs.Common.{◌≡◌, ◌∙◌, inl, inr, ℕ, suc, ◌+◌, ◌-◌, ◌^◌, ◌<◌, ◌≤◌, ℤ, pos, List, [], ◌∷◌, ◌++◌, length, take, drop, get_or, flat_map, refl, sym, ap, subst, append_assoc, length-append, length-drop, drop-cons, add-one, arith}
-use Rattle.std.proofs.lemmas.List.{drop_all, take_all}
+use Rattle.std.proofs.Common.{◌≡◌, ◌∙◌, inl, inr, ℕ, suc, ◌+◌, ◌-◌, ◌^◌, ◌<◌, ◌≤◌, pos, List, [], ◌∷◌, ◌++◌, length, take, drop, get_or, flat_map, map, refl, sym, ap, subst, append_assoc, length-append, length-drop, drop-cons, add-one, arith}
+use Rattle.std.specs.List.{AllByRecursion}
+use Rattle.std.proofs.lemmas.List.{append-nil, drop_all, length-map, take_all}
 use Rattle.std.proofs.Math.Seq.{drop-append_seam}
 use Rattle.arrow_types.specs.declared.slot.Slot.{Slot}
 use Rattle.arrow_types.specs.declared.slot.Slot.TheVariants as slot
@@ -9,15 +10,15 @@ use Rattle.avro_schema.specs.declared.schema.Record.{Record as TheRecord, out-Re
 use Rattle.avro_schema.specs.declared.schema.Schema.{Schema, Array, Union, Record}
 use Rattle.avro_grammar.specs.Carried.{IsNoUnion}
 use Rattle.avro_grammar.specs.Encodes.{IsNull}
-use Rattle.avro_container.specs.Laws.{Has64Bits}
 use Rattle.avro_container.specs.Shortest.{shortest}
 use Rattle.avro_container.proofs.ShortestLemmas.{ends}
-use Rattle.avro_encode.specs.Listed.{PairsUnionOf, plain_fields_of, plain_union_of}
+use Rattle.avro_encode.specs.Listed.{PairsFieldsOf, PairsUnionOf, plain_fields_of, plain_union_of}
 use Rattle.avro_encode.specs.Pairs.{Pairs}
 use Rattle.avro_encode.specs.Plain.{one_block, plain}
 use Rattle.avro_encode.proofs.ByLists.{pairs_array_back, pairs_record_back, pairs_union_back, plain_array, plain_record_is, plain_union_is}
 use Rattle.avro_encode.proofs.PlainLaw.{null_told, pairs_held, parts_list, parts_struct}
-use Rattle.avro_verbatim.specs.Begins.{BeginsWith, BeginsWithFields, BeginsWithItems, BeginsWithMany, BeginsWithNumber, BeginsWithSlot}
+use Rattle.avro_verbatim.specs.Begins.{BeginsWith, BeginsWithFields, BeginsWithItems, BeginsWithLength, BeginsWithMany, BeginsWithRows, BeginsWithSlot}
+use Rattle.avro_verbatim.specs.Canonical.{AreCanonicalRows}
 
 byte_of_0 : shortest (pos 0) ≡ 0 ∷ []
 byte_of_0 = ends 9 0 (omega arith)
@@ -70,33 +71,39 @@ module _ (ms : List Schema) (s u : Schema) (least : 2 ≤ length ms) (most : len
   pub held_of_two : (bytes mid rest : List ℕ) → bytes ≡ 2 ∷ mid → BeginsWithSlot u mid rest → BeginsWithSlot (Union ms) bytes rest
   held_of_two bytes mid rest e h = of_two bytes rest (held_begins s u null no_union bytes mid rest e h)
 
+pub of_union : (s : Schema) (ms slice : List Schema) (bytes rest : List ℕ) → s ≡ Union ms → slice ≡ ms → BeginsWithSlot (Union slice) bytes rest → BeginsWithSlot s bytes rest
+of_union s ms slice bytes rest e d h = subst (λ (z : Schema). BeginsWithSlot z bytes rest) (ap Union d ∙ sym e) h
+
+pub value_as : (s u : Schema) (bytes mid rest : List ℕ) → s ≡ u → bytes ≡ mid → BeginsWithSlot s bytes rest → BeginsWithSlot u mid rest
+value_as s u bytes mid rest e d h = subst (λ (z : Schema). BeginsWithSlot z mid rest) e (subst (λ (xs : List ℕ). BeginsWithSlot s xs rest) d h)
+
 -- ---- arrays
 
 array_plain : (item : Schema) (xs : List Slot) → plain (Array item) (slot.List xs) ≡ one_block (plain item) xs
 array_plain item xs = plain_array item (slot.List xs) ∙ ap (one_block (plain item)) (parts_list xs)
 
-pub no_items : (item : Schema) (bytes rest : List ℕ) (v : ℤ) (n : ℕ) → BeginsWithNumber bytes v rest → v ≡ pos n → n ≡ 0 → BeginsWithSlot (Array item) bytes rest
-no_items item bytes rest v n h is none = record {
+pub no_items : (item : Schema) (bytes rest : List ℕ) (b : ℕ) → bytes ≡ b ∷ rest → b ≡ 0 → BeginsWithSlot (Array item) bytes rest
+no_items item bytes rest b e none = record {
   value = slot.List [];
   holds = pairs_array_back item (slot.List []) ([], refl, omega arith, tt);
-  joined = h.joined ∙ ap (λ z. shortest z ++ rest) (is ∙ ap pos none) ∙ ap (λ (xs : List ℕ). xs ++ rest) (sym (array_plain item []));
+  joined = e ∙ ap (λ k. k ∷ rest) none ∙ ap (λ (xs : List ℕ). xs ++ rest) (sym (array_plain item [] ∙ byte_of_0));
 }
 
 block_is : (item : Schema) (xs : List Slot) (n : ℕ) → 0 < n → length xs ≡ n → one_block (plain item) xs ≡ shortest (pos n) ++ (flat_map (plain item) xs ++ shortest (pos 0))
 block_is item [] n some e = absurd (omega (arith, some, e))
 block_is item (x ∷ xs) n some e = ap (λ k. shortest (pos k) ++ (flat_map (plain item) (x ∷ xs) ++ shortest (pos 0))) e
 
-pub some_items : (item : Schema) (bytes items after rest : List ℕ) (v : ℤ) (n : ℕ) → BeginsWithNumber bytes v items → v ≡ pos n → 0 < n → BeginsWithItems item n items after → after ≡ 0 ∷ rest → BeginsWithSlot (Array item) bytes rest
-some_items item bytes items after rest v n h is some t e =
+pub some_items : (item : Schema) (bytes items after rest : List ℕ) (n : ℕ) → BeginsWithLength bytes n items → 0 < n → BeginsWithItems item n items after → after ≡ 0 ∷ rest → BeginsWithSlot (Array item) bytes rest
+some_items item bytes items after rest n h some t e =
     let xs = t.value in
     let all = flat_map (plain item) xs in
-    let fits : n < 2 ^ 63 = subst Has64Bits is h.fits in
+    let fits : n < 2 ^ 63 = h.fits in
     let last : after ≡ shortest (pos 0) ++ rest = e ∙ ap (λ (zs : List ℕ). zs ++ rest) (sym byte_of_0) in
     record {
       value = slot.List xs;
       holds = pairs_array_back item (slot.List xs) (xs, refl, omega (arith, fits, t.holds.0), t.holds.1);
       joined =
-          h.joined ∙ (λ i. shortest (is i) ++ t.joined i) ∙ ap (λ (zs : List ℕ). shortest (pos n) ++ (all ++ zs)) last
+          h.joined ∙ ap (λ (zs : List ℕ). shortest (pos n) ++ zs) t.joined ∙ ap (λ (zs : List ℕ). shortest (pos n) ++ (all ++ zs)) last
           ∙ ap (λ (zs : List ℕ). shortest (pos n) ++ zs) (sym (append_assoc all (shortest (pos 0)) rest))
           ∙ sym (append_assoc (shortest (pos n)) (all ++ shortest (pos 0)) rest)
           ∙ ap (λ (zs : List ℕ). zs ++ rest) (sym (array_plain item xs ∙ block_is item xs n some t.holds.0));
@@ -155,8 +162,55 @@ of_record s r fs bytes rest e x h =
 pub from_place : (bytes : List ℕ) (n : ℕ) → take (length bytes - n) (drop n bytes) ≡ drop n bytes
 from_place bytes n = take_all (length bytes - n) (drop n bytes) (omega (arith, length-drop n bytes))
 
-pub record_taken : (s : Schema) (r : TheRecord) (fs : List AvroField) (bytes : List ℕ) (n : ℕ) → s ≡ Record r → fs ≡ (out-Record r).fields → BeginsWithFields fs bytes (drop n bytes) → BeginsWithSlot s bytes (take (length bytes - n) (drop n bytes))
-record_taken s r fs bytes n e x h = subst (λ (xs : List ℕ). BeginsWithSlot s bytes xs) (sym (from_place bytes n)) (of_record s r fs bytes (drop n bytes) e x h)
+-- one row is the fields
+row_is_fields : (fs : List AvroField) (bytes rest : List ℕ) → BeginsWithRows fs 1 bytes rest → BeginsWithFields fs bytes rest
+row_is_fields fs bytes rest h = from h.value h.holds.0 h.holds.1 h.joined
+  where
+    from : (table : List (List Slot)) → length table ≡ 1 → AllByRecursion (PairsFieldsOf fs) table → bytes ≡ flat_map (plain_fields_of fs) table ++ rest → BeginsWithFields fs bytes rest
+    from [] e p j = absurd (omega (arith, e))
+    from (xs ∷ []) e p j = record { value = xs; holds = p.0; joined = j ∙ ap (λ (zs : List ℕ). zs ++ rest) (append-nil (plain_fields_of fs xs)) }
+    from (xs ∷ ys ∷ table) e p j = absurd (omega (arith, e))
+
+pub record_taken : (s : Schema) (r : TheRecord) (fs : List AvroField) (bytes : List ℕ) (n : ℕ) → s ≡ Record r → fs ≡ (out-Record r).fields → BeginsWithRows fs 1 bytes (drop n bytes) → BeginsWithSlot s bytes (take (length bytes - n) (drop n bytes))
+record_taken s r fs bytes n e x h =
+    subst (λ (xs : List ℕ). BeginsWithSlot s bytes xs) (sym (from_place bytes n)) (of_record s r fs bytes (drop n bytes) e x (row_is_fields fs bytes (drop n bytes) h))
+
+-- rows are items of a record's schema
+module _ (r : TheRecord) where
+  abbrev fields_of : List AvroField
+  fields_of = (out-Record r).fields
+
+  all_pairs : (table : List (List Slot)) → AllByRecursion (PairsFieldsOf fields_of) table → AllByRecursion (Pairs (Record r)) (map slot.Struct table)
+  all_pairs [] h = tt
+  all_pairs (xs ∷ table) h = (pairs_record_back r (slot.Struct xs) (xs, refl, h.0), all_pairs table h.1)
+
+  row_plain : (xs : List Slot) → plain_fields_of fields_of xs ≡ plain (Record r) (slot.Struct xs)
+  row_plain xs = sym (plain_record_is r (slot.Struct xs) ∙ ap (plain_fields_of fields_of) (parts_struct xs))
+
+  all_plain : (table : List (List Slot)) → flat_map (plain_fields_of fields_of) table ≡ flat_map (plain (Record r)) (map slot.Struct table)
+  all_plain [] = refl
+  all_plain (xs ∷ table) = λ i. row_plain xs i ++ all_plain table i
+
+  rows_are_items : (n : ℕ) (bytes rest : List ℕ) → BeginsWithRows fields_of n bytes rest → BeginsWithItems (Record r) n bytes rest
+  rows_are_items n bytes rest h = record {
+    value = map slot.Struct h.value;
+    holds = (length-map h.value slot.Struct ∙ h.holds.0, all_pairs h.value h.holds.1);
+    joined = h.joined ∙ ap (λ (zs : List ℕ). zs ++ rest) (all_plain h.value);
+  }
+
+pub items_taken : (s : Schema) (r : TheRecord) (fs : List AvroField) (count : ℕ) (bytes : List ℕ) (n : ℕ) → s ≡ Record r → fs ≡ (out-Record r).fields → BeginsWithRows fs count bytes (drop n bytes) → BeginsWithItems s count bytes (take (length bytes - n) (drop n bytes))
+items_taken s r fs count bytes n e x h =
+    subst (λ (z : Schema). BeginsWithItems z count bytes (take (length bytes - n) (drop n bytes))) (sym e)
+    (subst (λ (xs : List ℕ). BeginsWithItems (Record r) count bytes xs) (sym (from_place bytes n)) (rows_are_items r count bytes (drop n bytes) (subst (λ (gs : List AvroField). BeginsWithRows gs count bytes (drop n bytes)) x h)))
+
+-- rows that are all of the bytes
+pub whole_rows : (n : ℕ) (fs : List AvroField) (bytes : List ℕ) (len : ℕ) → len ≡ length bytes → BeginsWithRows fs n bytes (drop len bytes) → AreCanonicalRows n fs bytes
+whole_rows n fs bytes len e h = record {
+  table = h.value;
+  counted = h.holds.0;
+  encoded = h.holds.1;
+  is = h.joined ∙ ap (λ (zs : List ℕ). flat_map (plain_fields_of fs) h.value ++ zs) (drop_all len bytes (omega (arith, e))) ∙ append-nil (flat_map (plain_fields_of fs) h.value);
+}
 
 -- ---- how many bytes were taken
 

@@ -2,7 +2,7 @@
 
 ghost use Rattle.std.specs.Prelude.{IsTrue};
 ghost use Rattle.avro_schema.specs.declared.schema.Schema.{Union};
-ghost use Rattle.avro_verbatim.specs.Alike.{AreAlike, IsAlike, IsFixedAlike};
+ghost use Rattle.avro_verbatim.specs.Alike.{AreAlike, MayBeCopied, IsFixedAlike};
 
 use avro_schema::{AvroField, AvroSchema, Fixed};
 
@@ -31,7 +31,7 @@ pub fn are_alike(sources: &[AvroField], targets: &[AvroField]) -> bool
 
 #[cycle(alike)]
 fn is_alike(source: &AvroSchema, target: &AvroSchema) -> bool
-    ensures { IsTrue result → IsAlike source.now target.now }
+    ensures { IsTrue result → MayBeCopied source.now target.now }
 {
     match (source, target) {
         (AvroSchema::Record(source), AvroSchema::Record(target)) => {
@@ -50,7 +50,7 @@ fn is_alike(source: &AvroSchema, target: &AvroSchema) -> bool
 /// The same of unions, by their members.
 #[cycle(alike)]
 fn is_union_alike(sources: &[AvroSchema], targets: &[AvroSchema]) -> bool
-    ensures { IsTrue result → IsAlike (Union sources.now) (Union targets.now) }
+    ensures { IsTrue result → MayBeCopied (Union sources.now) (Union targets.now) }
 {
     let [source_null, source] = sources else {
         return false;
@@ -66,7 +66,7 @@ fn is_union_alike(sources: &[AvroSchema], targets: &[AvroSchema]) -> bool
 
 /// The same of schemas without others in them.
 fn is_flat_alike(source: &AvroSchema, target: &AvroSchema) -> bool
-    ensures { IsTrue result → IsAlike source.now target.now }
+    ensures { IsTrue result → MayBeCopied source.now target.now }
 {
     match (source, target) {
         (AvroSchema::Boolean, AvroSchema::Boolean) => true,

@@ -5,32 +5,16 @@ ghost use Rattle.avro_schema.specs.declared.schema.Schema.TheVariants as schemas
 ghost use Rattle.avro_grammar.specs.Encodes.{IsInt};
 ghost use Rattle.avro_verbatim.specs.Begins.{BeginsWithSlot};
 
-use crate::parts::{split_counted, split_number};
-use avro_schema::{AvroSchema, Fixed};
+use crate::parts::{skip_groups, split_counted, split_number};
+use avro_schema::Fixed;
 use utf8_check::is_utf8;
 
-/// What follows the canonical encoding of a value that the bytes begin with. The schema has no
-/// others in it.
-// It and what it calls are inlined wherever a value is looked at, since the calls would cost as
-// much as the looking.
-#[inline(always)]
-pub(crate) fn skip_flat<'a>(bytes: &'a [u8], schema: &AvroSchema) -> Option<&'a [u8]>
-    ensures { IfSome result (λ rest. BeginsWithSlot schema.now bytes.now rest.now) }
-{
-    match schema {
-        AvroSchema::Boolean => skip_boolean(bytes),
-        AvroSchema::Int(_) => skip_int(bytes),
-        AvroSchema::Long(_) => skip_long(bytes),
-        AvroSchema::Bytes(None) => skip_binary(bytes),
-        AvroSchema::String(_) => skip_string(bytes),
-        AvroSchema::Fixed(fixed) => skip_fixed(bytes, fixed),
-        _ => None,
-    }
-}
+// Each is inlined wherever a value is looked at, since the calls would cost as much as the looking.
 
+/// What follows the canonical encoding of a boolean that the bytes begin with.
 #[inline(always)]
 #[tactic(auto, using(crate::proofs::Flats::boolean_begins))]
-fn skip_boolean(bytes: &[u8]) -> Option<&[u8]>
+pub(crate) fn skip_boolean(bytes: &[u8]) -> Option<&[u8]>
     ensures { IfSome result (λ rest. BeginsWithSlot schemas.Boolean bytes.now rest.now) }
 {
     match bytes.split_first() {
@@ -39,10 +23,23 @@ fn skip_boolean(bytes: &[u8]) -> Option<&[u8]>
     }
 }
 
-/// A number of 32 bits. Logical types play no part in the encoding of numbers and strings.
+/// A number of 32 bits: its encoding has at most five bytes, the fifth of which adds four bits.
+/// Logical types play no part in the encoding of numbers and strings.
+#[inline(always)]
+#[tactic(auto, using(crate::proofs::Flats::groups_begin_int))]
+pub(crate) fn skip_int(bytes: &[u8]) -> Option<&[u8]>
+    ensures { IfSome result (λ rest. BeginsWithSlot (schemas.Int None) bytes.now rest.now) }
+{
+    if bytes.len() < 5 {
+        return skip_last_int(bytes);
+    }
+    skip_groups(bytes, 4, 16)
+}
+
+/// The same of the last bytes.
 #[inline(always)]
 #[tactic(auto, using(crate::proofs::Flats::int_begins))]
-fn skip_int(bytes: &[u8]) -> Option<&[u8]>
+fn skip_last_int(bytes: &[u8]) -> Option<&[u8]>
     ensures { IfSome result (λ rest. BeginsWithSlot (schemas.Int None) bytes.now rest.now) }
 {
     match split_number(bytes) {
@@ -59,9 +56,22 @@ fn is_int(number: i64) -> bool
     number >= -2147483648 && number <= 2147483647
 }
 
+/// A number of 64 bits: its encoding has at most ten bytes, the tenth of which adds one bit.
+#[inline(always)]
+#[tactic(auto, using(crate::proofs::Flats::groups_begin_long))]
+pub(crate) fn skip_long(bytes: &[u8]) -> Option<&[u8]>
+    ensures { IfSome result (λ rest. BeginsWithSlot (schemas.Long None) bytes.now rest.now) }
+{
+    if bytes.len() < 10 {
+        return skip_last_long(bytes);
+    }
+    skip_groups(bytes, 9, 2)
+}
+
+/// The same of the last bytes.
 #[inline(always)]
 #[tactic(auto, using(crate::proofs::Flats::long_begins))]
-fn skip_long(bytes: &[u8]) -> Option<&[u8]>
+fn skip_last_long(bytes: &[u8]) -> Option<&[u8]>
     ensures { IfSome result (λ rest. BeginsWithSlot (schemas.Long None) bytes.now rest.now) }
 {
     match split_number(bytes) {
@@ -72,7 +82,7 @@ fn skip_long(bytes: &[u8]) -> Option<&[u8]>
 
 #[inline(always)]
 #[tactic(auto, using(crate::proofs::Flats::binary_begins))]
-fn skip_binary(bytes: &[u8]) -> Option<&[u8]>
+pub(crate) fn skip_binary(bytes: &[u8]) -> Option<&[u8]>
     ensures { IfSome result (λ rest. BeginsWithSlot (schemas.Bytes None) bytes.now rest.now) }
 {
     match split_counted(bytes) {
@@ -83,7 +93,7 @@ fn skip_binary(bytes: &[u8]) -> Option<&[u8]>
 
 #[inline(always)]
 #[tactic(auto, using(crate::proofs::Flats::string_begins))]
-fn skip_string(bytes: &[u8]) -> Option<&[u8]>
+pub(crate) fn skip_string(bytes: &[u8]) -> Option<&[u8]>
     ensures { IfSome result (λ rest. BeginsWithSlot (schemas.String None) bytes.now rest.now) }
 {
     match split_counted(bytes) {
@@ -95,7 +105,7 @@ fn skip_string(bytes: &[u8]) -> Option<&[u8]>
 /// A binary value of the declared size; a decimal or a duration isn't looked at.
 #[inline(always)]
 #[tactic(auto, using(crate::proofs::Flats::fixed_begins))]
-fn skip_fixed<'a>(bytes: &'a [u8], fixed: &Fixed) -> Option<&'a [u8]>
+pub(crate) fn skip_fixed<'a>(bytes: &'a [u8], fixed: &Fixed) -> Option<&'a [u8]>
     ensures { IfSome result (λ rest. BeginsWithSlot (schemas.Fixed fixed.now) bytes.now rest.now) }
 {
     if !fixed.logical.is_none() {
