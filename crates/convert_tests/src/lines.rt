@@ -1,8 +1,8 @@
 //! Avro files into JSON lines.
 
 use crate::files::{
-    BINARY, BLOCK, DATES, EVENTS, FALSE_COUNT, FLOAT, HEADER, MAP, NAMES, NAMES_LINE, NANOSECONDS,
-    NESTED, NESTED_BLOCK, NESTED_SIZED, NO_FIELD,
+    BINARY, BLOCK, DATES, DATES_HEADER, EVENTS, FALSE_COUNT, FLOAT, HEADER, MAP, NAMES, NAMES_LINE,
+    NANOSECONDS, NESTED, NESTED_BLOCK, NESTED_SIZED, NO_FIELD,
 };
 use crate::written::{WRITTEN, WRITTEN_LINES};
 use arrow_base::{Bytes, Error, Items, MemorySink, MemorySource, Reason, Result};
@@ -115,11 +115,10 @@ fn arrays_become_lines_in_blocks_or_with_sizes(rt: HostRuntime) {
 #[test]
 fn a_late_row_leaves_no_line_of_its_block(rt: HostRuntime) {
     let alloc = rt.alloc();
-    let header = DATES.get(..131).unwrap_or(DATES);
     let days =
         b"\x04\x10\xc0\x82\xe6\x02\xc2\x82\xe6\x02\x01\x01\x01\x01\x01\x01\x01\x01\x01\x01\x01\x01\x01\x01\x01\x01";
     let range = Err(Error::InvalidArgumentError(Reason::DateRange));
-    assert!(rt; gives(&rt, alloc, &[header, days], None, PLAIN, range, b""));
+    assert!(rt; gives(&rt, alloc, &[DATES_HEADER, days], None, PLAIN, range, b""));
 }
 
 #[test]
@@ -261,7 +260,7 @@ fn whole_blocks_before_a_wrong_one_are_written(rt: HostRuntime) {
         gives(
             &rt,
             alloc,
-            &[DATES],
+            &[DATES_HEADER, DATES],
             None,
             PLAIN,
             range,

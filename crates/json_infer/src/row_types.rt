@@ -17,10 +17,9 @@ use std::alloc::Global;
 use std::marker::Model;
 
 /// The types of rows that came so far, as far as they matter to the type of all: two distinct ones
-/// at most, or the distinct types of each member. So what is kept grows only with a row whose type
-/// is another than those before it, or whose members are. The time that a row takes grows with its
-/// size alone, but that a name is looked for among those that came, in the logarithm of how many
-/// these are.
+/// at most, or the distinct types of each member. What is kept grows only with a row that brings a
+/// new type, a new name, or a new type of a name. A row takes time linear in its size, times the
+/// logarithm of how many names, or types of one name, came before.
 #[derive(Drop)]
 pub struct RowTypes {
     alloc: Global,

@@ -1,4 +1,5 @@
--- The columns beneath rows: what is prepared once for all rows. Cited by private contracts alone, and by those of `json_write`.
+-- The columns beneath rows: what is prepared once for all rows. Private contracts cite it, those of the calls
+-- that append parts of a row, and those of `json_write` and `avro_line`.
 use Rattle.std.specs.Prelude.{◌≡◌, ◌≤◌, ℕ, ℤ, Bool, true, false, ◌==◌, List, [], ◌∷◌, ◌++◌, map, length, take, drop, codes, if◌then◌else◌}
 use Rattle.std.specs.Fmt.{signed_decimal}
 use Rattle.arrow_types.specs.declared.slot.Slot.{Integer}
