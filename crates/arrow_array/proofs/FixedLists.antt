@@ -1,7 +1,7 @@
 -- The slots of fixed-size lists, and of a cut of them.
 use Rattle.std.proofs.Common.{◌≡◌, sym, ◌∙◌, ap, refl, arith, ℕ, ◌+◌, ◌-◌, ◌*◌, ◌/◌, ◌%◌, ◌<◌, ◌≤◌, Bool, List, length, take, drop, IsTrue, Option, zero-add, subst}
 use Rattle.std.proofs.lemmas.Nat.{mod-mul-add, row_fits}
-use Rattle.std.proofs.Math.Nat.{mul-div_cancel, add-mul}
+use Rattle.std.proofs.Math.Nat.{mul-div_cancel, add-mul, mod-eq-sub-div-mul, div-mul-le_self}
 use Rattle.std.specs.Bool.{Decides}
 use Rattle.arrow_types.specs.declared.slot.Slot.{Slot}
 use Rattle.arrow_types.specs.declared.slot.Slot.TheVariants as slot
@@ -27,6 +27,14 @@ module _ {t item : DataType} (items : List Slot) {v : Option Packed} {size count
   -- a held slot is the list of the items at its index
   pub read_fixed : (i : ℕ) → i < length xs → IsTrue (is_held (slot_at xs i)) → slot_at xs i ≡ fixed_list_at (list_size t) items i
   read_fixed i l d = read_held fixed_window is i (omega (arith, l, count_slots fixed_window is)) d ∙ ap (fixed_list_at (list_size t) items) (zero-add i)
+
+  -- the child has the items of all lists, and no more
+  pub child_count : length items ≡ length xs * list_size t
+  child_count =
+      let n = length items in
+      let size = list_size t in
+      let all : n ≡ n / size * size = omega (arith, h.fits.whole_lists, mod-eq-sub-div-mul n size, div-mul-le_self n size) in
+      subst (λ k. n ≡ k * size) (count_slots fixed_window is) all
 
   pub valid_fixed : (i : ℕ) → i < length xs → valid_at v i ≡ is_held (slot_at xs i)
   valid_fixed i l = read_valid fixed_window is i (omega (arith, l, count_slots fixed_window is)) refl

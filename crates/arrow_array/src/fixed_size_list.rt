@@ -1,5 +1,5 @@
 //! Lists of one size.
-ghost use Rattle.std.specs.Prelude.{◌≡◌, ◌+◌, ◌/◌, ◌<◌, ◌≤◌, ◌↔◌, IsTrue, IfOk, IfErr, length, take, drop, All};
+ghost use Rattle.std.specs.Prelude.{◌≡◌, ◌+◌, ◌*◌, ◌/◌, ◌<◌, ◌≤◌, ◌↔◌, ℕ, IsTrue, IfOk, IfErr, length, take, drop, All};
 ghost use Rattle.std.specs.Option.{option_copied};
 ghost use Rattle.arrow_core.specs.Errors.{OnlyOutOfMemory};
 ghost use Rattle.arrow_core.specs.declared.error.Error.TheVariants.{OutOfMemory};
@@ -187,6 +187,21 @@ impl FixedSizeListArray {
         let start = i * self.size;
         let end = start + self.size;
         Part { array, start, end }
+    }
+
+    /// The child, of the items' type, with the items of each list one after another, as many a list
+    /// as the type says. A slot that isn't null is the list of its items in the child; what the
+    /// child has there for a null isn't told.
+    pub fn values(&self) -> &Array
+        ensures data_type { IsFixedListOf self.now.data_type (array_type result.now) }
+        ensures count { length (array_slots result.now)
+            ≡ length self.now.slots * list_size self.now.data_type }
+        ensures slots { (k : ℕ) → k < length self.now.slots
+            → IsTrue (is_held (slot_at self.now.slots k))
+            → slot_at self.now.slots k
+            ≡ fixed_list_at (list_size self.now.data_type) (array_slots result.now) k }
+    {
+        self.values.get()
     }
 
     /// Tells that each slot is one of the data type.
