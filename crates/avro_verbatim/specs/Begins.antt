@@ -67,4 +67,4 @@ abbrev pub TakesSlot : Schema → ℕ → List ℕ → Type 0
 TakesSlot s n bytes = (n ≤ length bytes) × BeginsWithSlot s bytes (drop n bytes)
 
 abbrev pub TakesRows : List AvroField → ℕ → ℕ → List ℕ → Type 0
-TakesRows fields n count bytes = (count ≤ length bytes) × BeginsWithRows fields n bytes (drop count bytes)
+TakesRows fields n len bytes = (len ≤ length bytes) × BeginsWithRows fields n bytes (drop len bytes)

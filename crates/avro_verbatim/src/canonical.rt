@@ -32,7 +32,7 @@ pub fn are_canonical_rows(bytes: &[u8], number_of_rows: usize, fields: &[AvroFie
 
 /// How many bytes so many rows have that the bytes begin with.
 // It and `array_len` are called; the others are inlined, so that a flat value, beneath a union too,
-// takes no call. These answer a length, since a slice in an option is handed back in memory.
+// mostly takes no call. These answer a length, since a slice in an option is handed back in memory.
 #[cycle(canonical)]
 #[inline(never)]
 fn rows_len(bytes: &[u8], number_of_rows: usize, fields: &[AvroField]) -> Option<usize>

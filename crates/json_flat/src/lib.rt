@@ -1,4 +1,5 @@
-//! JSON values (RFC 8259): the whole values of numbers, and values into columns of a type that has no type beneath it.
+//! JSON values (RFC 8259): what they mean under each data type, the whole values of numbers and of
+//! their texts, and values into columns of a type that has no type beneath it.
 #![tactic(auto)]
 
 mod content;
