@@ -228,6 +228,9 @@ PlainKind make kind = Kind make (λ (b : PlainBuilder). b.data_type) (λ (b : Pl
 abbrev pub ContentKind : (ContentBuilder → MutableArray) → PhysicalType → Type 0
 ContentKind make kind = Kind make (λ (b : ContentBuilder). b.data_type) (λ (b : ContentBuilder). b.slots) kind
 
+pub nulls : PlainKind builder.Null physical.Null
+nulls = record { shapes = λ b. refl; held = λ b. refl; tight = λ b. tt }
+
 pub booleans : PlainKind builder.Boolean physical.Boolean
 booleans = record { shapes = λ b. refl; held = λ b. refl; tight = λ b. tt }
 

@@ -14,6 +14,7 @@ row_names end_of-Field = []
 row_names (more_of-Field name t is_nullable metadata rest) = name ∷ row_names rest
 
 abbrev pub kind_has_reading : PhysicalType → Bool
+kind_has_reading physical.Null = true
 kind_has_reading physical.Boolean = true
 kind_has_reading (physical.Primitive primitive.Int8) = true
 kind_has_reading (physical.Primitive primitive.Int16) = true
@@ -30,9 +31,10 @@ kind_has_reading physical.LargeBinary = true
 kind_has_reading _ = false
 
 abbrev mutual
-  -- Whether lines are read into columns of the type: booleans, integers of 8 to 64 bits and the types that are kept as such,
+  -- Whether lines are read into columns of the type: nulls, booleans, integers of 8 to 64 bits and the types that are kept as such,
   -- strings and bytes; lists of these, fixed-size ones of at least one item too, and structs of at least one field, each of these, with
-  -- no name twice; and no extension.
+  -- no name twice; and no extension. These are the types that have a reading (`has_reading`), but for those with a dictionary or with a
+  -- name twice in them.
   pub has_line_reading : DataType → Bool
   has_line_reading (List' shape item) = row_has_readings item
   has_line_reading (LargeList' shape item) = row_has_readings item

@@ -4,7 +4,7 @@ ghost use Rattle.json_line.specs.Builders.{IsGiven};
 
 use crate::content::{push_bytes, push_text};
 use crate::given_up::GivenUp;
-use crate::plain::{push_boolean, push_int64, push_integer};
+use crate::plain::{push_as_null, push_boolean, push_int64, push_integer};
 use arrow_builders::MutableArray;
 use json_lend::Lent;
 use std::alloc::Global;
@@ -22,6 +22,7 @@ pub(crate) fn push_flat<'a>(
     ensures { IsGiven (lent_value lent.now) builder.old builder.new result }
 {
     match builder {
+        MutableArray::Null(nulls) => push_as_null(nulls),
         MutableArray::Boolean(booleans) => push_boolean(booleans, lent),
         MutableArray::Int8(integers) => push_integer(integers, lent),
         MutableArray::Int16(integers) => push_integer(integers, lent),

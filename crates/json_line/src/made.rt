@@ -13,8 +13,8 @@ ghost use Rattle.json_line.specs.Types.{has_line_reading as has_line_reading_of}
 
 use arrow_builders::{
     Container, DynMutableLargeListArray, DynMutableListArray, DynMutableStructArray, MutableArray,
-    MutableBinaryArray, MutableBooleanArray, MutableFixedSizeListArray, MutablePrimitiveArray,
-    MutableUtf8Array,
+    MutableBinaryArray, MutableBooleanArray, MutableFixedSizeListArray, MutableNullArray,
+    MutablePrimitiveArray, MutableUtf8Array,
 };
 use arrow_core::Result;
 use arrow_types::{DataType, Field, IntervalUnit, NativeType};
@@ -38,6 +38,7 @@ fn make_flat(alloc: Global, data_type: &DataType) -> Result<MutableArray>
     ensures memory { OnlyOutOfMemory result }
 {
     match data_type {
+        DataType::Null => Ok(MutableArray::Null(MutableNullArray::new(alloc))),
         DataType::Boolean => {
             Ok(MutableArray::Boolean(MutableBooleanArray::with_capacity(alloc, 0)?))
         }

@@ -1,6 +1,7 @@
-//! Booleans and integers that are lent.
+//! Values that are lent, under Null, as booleans and as integers.
 ghost use Rattle.std.specs.Prelude.{◌≡◌, ◌++◌, ◌∷◌, [], cond, true, IfOk, OnOk};
 ghost use Rattle.arrow_flat.specs.Builders.{optional_slot};
+ghost use Rattle.arrow_types.specs.declared.slot.Slot.TheVariants.{Null as NullSlot};
 ghost use Rattle.json_flat.specs.Meaning.{boolean_meaning, int64_in, moment_in, slot_of, truth_in, whole_in};
 ghost use Rattle.json_flat.specs.Columns.{Pushes, means};
 ghost use Rattle.json_lend.specs.Standing.{lent_value};
@@ -8,10 +9,20 @@ ghost use Rattle.json_line.specs.Builders.{is_timestamp as is_timestamp_of};
 
 use crate::given_up::GivenUp;
 use crate::types::is_timestamp;
-use arrow_builders::{MutableBooleanArray, MutablePrimitiveArray};
+use arrow_builders::{MutableBooleanArray, MutableNullArray, MutablePrimitiveArray};
 use arrow_types::DataType;
 use json_flat::IntegerText;
 use json_lend::Lent;
+
+/// Appends a null, which each value means under Null, also one that isn't null.
+#[inline(always)]
+pub(crate) fn push_as_null(builder: &mut MutableNullArray) -> Result<(), GivenUp>
+    ensures data_type { builder.new.data_type ≡ builder.old.data_type }
+    ensures ok { OnOk result (builder.new.slots ≡ builder.old.slots ++ NullSlot ∷ []) }
+{
+    builder.push_null()?;
+    Ok(())
+}
 
 // The boolean; `None` for any other value.
 fn boolean_of<'a>(lent: &Lent<'a>) -> Option<bool>

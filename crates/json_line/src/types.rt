@@ -43,7 +43,7 @@ fn are_distinct(fields: &[Field]) -> bool
     true
 }
 
-/// Whether lines are read into columns of this type: Boolean, integers of 8 to 64 bits, dates,
+/// Whether lines are read into columns of this type: Null, Boolean, integers of 8 to 64 bits, dates,
 /// times, timestamps, durations, intervals of months, Utf8, Binary and their large forms, List and
 /// LargeList of these, FixedSizeList of at least one item of these, and Struct of at least one field,
 /// each of these, with no name twice. It takes no memory.
@@ -52,7 +52,8 @@ fn has_line_reading(data_type: &DataType) -> bool
     ensures { result ≡ has_line_reading_of data_type.now }
 {
     match data_type {
-        DataType::Boolean
+        DataType::Null
+        | DataType::Boolean
         | DataType::Int8
         | DataType::Int16
         | DataType::Int32

@@ -90,6 +90,34 @@ fn lists_of_so_many_items_are_read(rt: HostRuntime) {
 }
 
 #[test]
+fn each_value_under_null_is_null(rt: HostRuntime) {
+    let alloc = rt.alloc();
+    let b = list(&rt, alloc, sized_list(&rt, alloc, DataType::Null, 2));
+    let n = field(&rt, alloc, "n", DataType::Null);
+    let m = field(&rt, alloc, "m", large_list(&rt, alloc, DataType::Null));
+    let c = pair(&rt, alloc, n, m);
+    let mut kept = builders(&rt, alloc, DataType::Null, b, c);
+    let one = "{\"a\":null,\"b\":[[null,null]],\"c\":{\"m\":[null],\"n\":null}}";
+    let columns = read(&rt, alloc, &mut kept, one, "{}");
+    let wanted: [&[u8]; 3] = [
+        b"null,null",
+        b"[[null,null]],null",
+        b"{\"n\":null,\"m\":[null]},null",
+    ];
+    assert!(rt; has_texts(&rt, alloc, columns, wanted));
+    // Values that aren't null mean null as well.
+    let one =
+        "{\"a\":7,\"b\":[[1.5e400,\"\\n\"],[{},[]]],\"c\":{\"n\":{\"a\":[0]},\"m\":[true,[]]}}";
+    let columns = read(&rt, alloc, &mut kept, one, "{\"a\":\"x\",\"c\":{}}");
+    let wanted: [&[u8]; 3] = [
+        b"null,null",
+        b"[[null,null],[null,null]],null",
+        b"{\"n\":null,\"m\":[null,null]},{\"n\":null,\"m\":null}",
+    ];
+    assert!(rt; has_texts(&rt, alloc, columns, wanted));
+}
+
+#[test]
 fn dictionaries_are_made(rt: HostRuntime) {
     let alloc = rt.alloc();
     let a = dictionary(&rt, alloc, IntegerType::UInt8, DataType::Utf8);

@@ -2,13 +2,23 @@ use Rattle.std.proofs.Common.{pos, negsuc, refl, rules, sym, ap, cond}
 use Rattle.arrow_builders.specs.declared.array.MutableArray as builder
 use Rattle.arrow_builders.proofs.NestedCalls.{told}
 use Rattle.arrow_flat.specs.Builders.{PlainBuilder}
-use Rattle.json_flat.specs.Meaning.{int64_in, moment_in, truth_in, whole_in, text_in, bytes_in}
+use Rattle.arrow_types.specs.declared.slot.Slot.TheVariants as slot
+use Rattle.json_flat.specs.Meaning.{int64_in, moment_in, null_in, truth_in, whole_in, text_in, bytes_in}
 use Rattle.json_lend.specs.Standing.{lent_value}
 use Rattle.json_line.specs.Builders.{IsGiven}
 use Rattle.json_line.specs.Builders.{is_timestamp}
 use Rattle.json_line.proofs.Meanings as kind
-use Rattle.json_line.proofs.Meanings.{given}
+use Rattle.json_line.proofs.Meanings.{given, pushed}
 use Rattle.json_line.proofs.flat.push_flat.Goals as goal
+
+pub returns-in-Null : goal.returns-in-Null
+returns-in-Null c =
+    let p = c.push_as_null in
+    let v = lent_value c.args.lent.now in
+    let old = c.args.builder.now in
+    let new = builder.Null p.new.builder in
+    told (λ x y. IsGiven v x y p.result) old _ old new refl (search rules)
+    (given builder.Null _ _ _ kind.nulls null_in p.result v _ c.in-Null.nulls p.new.builder old refl c.in-Null.nulls-is c.in-Null.is p.ensures.data_type (pushed p.result null_in v slot.Null _ _ refl p.ensures.ok))
 
 pub returns-in-Boolean : goal.returns-in-Boolean
 returns-in-Boolean c =
