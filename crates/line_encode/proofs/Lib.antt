@@ -4,5 +4,6 @@ pub mod Items
 pub mod Members
 pub mod Rows
 pub mod Primitives
+pub mod Readable
 pub mod Making
 pub mod Encoded

@@ -30,9 +30,10 @@ use Rattle.json_tree.specs.Tree.{Json, array, null, object}
 use Rattle.json_tree.specs.declared.value.Value.{out-Value}
 use Rattle.json_tree.specs.declared.value.Value.TheVariants as variant
 use Rattle.line_encode.specs.declared.plan.Plan.{Plan, List as ListPlan, Record as RecordPlan}
-use Rattle.line_encode.specs.Makes.{names_of, ArePlansOf, Encodes, EncodesHeld, IsHeldPlanOf, IsListPlanOf, IsPlanOf, IsRecordPlanOf, IsStructPlanOf}
+use Rattle.line_encode.specs.Makes.{names_of, AreNamed, ArePlansOf, Encodes, EncodesHeld, IsHeldPlanOf, IsListPlanOf, IsPlanOf, IsReadable, IsRecordPlanOf, IsStructPlanOf}
 use Rattle.line_encode.specs.Plans.{block, OrNull, Writes, WritesAll, WritesFields, WritesHeld, WritesList, WritesMembers}
 use Rattle.line_encode.proofs.Forms.{record_held}
+use Rattle.line_encode.proofs.Readable.{large_list_readable, list_readable, struct_readable}
 
 -- ---- any plan
 
@@ -46,7 +47,10 @@ held_encoded t s v bytes (x, held, is, pairs, e) = (x, is, pairs, e)
 
 -- where null may not stand
 pub required_plan : (t : DataType) (s : Schema) (p : Plan) → IsHeldPlanOf false t s p → IsPlanOf t s p
-required_plan t s p h v bytes w = held_encoded t s v bytes (h.encodes v bytes (subst (λ n. OrNull n (WritesHeld p) v bytes) h.may w))
+required_plan t s p h = record {
+  readable = h.readable;
+  encodes = λ v bytes w. held_encoded t s v bytes (h.encodes v bytes (subst (λ n. OrNull n (WritesHeld p) v bytes) h.may w));
+}
 
 null_encoded : (t : DataType) (u : Schema) (v : Json) (bytes : List ℕ) → means (reading t) null ≡ slot_of slot.Null → IsNoUnion u → v ≡ null → bytes ≡ 0 ∷ [] → Encodes t (Union (Null ∷ u ∷ [])) v bytes
 null_encoded t u v bytes n single e b = (
@@ -78,13 +82,16 @@ two_members (a ∷ b ∷ []) first second l f s = λ i. sym f i ∷ sym s i ∷ 
 two_members (a ∷ b ∷ d ∷ more) first second l f s = absurd (omega (arith, l))
 
 pub nullable_plan : (t : DataType) (s u : Schema) (members : List Schema) (p : Plan) → s ≡ Null → members ≡ s ∷ u ∷ [] → IsHeldPlanOf true t u p → IsPlanOf t (Union members) p
-nullable_plan t s u members p e m h v bytes w =
-    subst (λ (ms : List Schema). Encodes t (Union ms) v bytes) (sym (m ∙ ap (λ z. z ∷ u ∷ []) e)) (nullable_encoded t u p v bytes h (subst (λ n. OrNull n (WritesHeld p) v bytes) h.may w))
+nullable_plan t s u members p e m h = record {
+  readable = h.readable;
+  encodes = λ v bytes w.
+      subst (λ (ms : List Schema). Encodes t (Union ms) v bytes) (sym (m ∙ ap (λ z. z ∷ u ∷ []) e)) (nullable_encoded t u p v bytes h (subst (λ n. OrNull n (WritesHeld p) v bytes) h.may w));
+}
 
 -- ---- lists
 
 pub list_plan : (nullable : Bool) (t : DataType) (s : Schema) (item : Box Plan) → IsPlanOf t s item.value → IsListPlanOf nullable t s (ListPlan nullable item)
-list_plan nullable t s item h = record { may = refl; encodes = λ v bytes w. (w.0, w.1, w.2, w.3, all_encoded (Writes item.value) (Encodes t s) w.0 w.1 h w.4, w.5) }
+list_plan nullable t s item h = record { may = refl; readable = h.readable; encodes = λ v bytes w. (w.0, w.1, w.2, w.3, all_encoded (Writes item.value) (Encodes t s) w.0 w.1 h.encodes w.4, w.5) }
   where
     all_encoded : (W V : Json → List ℕ → Type 0) (vs : List Json) (bytes : List ℕ) → ((v : Json) (b : List ℕ) → W v b → V v b) → WritesAll W vs bytes → WritesAll V vs bytes
     all_encoded W V [] bytes k w = w
@@ -137,9 +144,10 @@ null_struct : (f : List (List ℕ × Json) → List Meaning) → means (struct_i
 unfolding out-Value denote.Hole.Carrier.out
 null_struct f = refl
 
-lists_encoded : (nullable : Bool) (t list : DataType) (s : Schema) (p : Plan) → reading list ≡ list_in (means (reading t)) → IsListPlanOf nullable t s p → IsHeldPlanOf nullable list (Array s) p
-lists_encoded nullable t list s p is h = record {
+lists_encoded : (nullable : Bool) (t list : DataType) (s : Schema) (p : Plan) → reading list ≡ list_in (means (reading t)) → IsReadable list → IsListPlanOf nullable t s p → IsHeldPlanOf nullable list (Array s) p
+lists_encoded nullable t list s p is readable h = record {
   may = h.may;
+  readable = readable;
   encodes = λ v bytes w. list_encoded (reading t) t list s v bytes is (h.encodes v bytes w);
   null_is = ap (λ (f : Layer → Meaning). means f null) is ∙ null_list (means (reading t));
   no_union = tt;
@@ -147,10 +155,10 @@ lists_encoded nullable t list s p is h = record {
 
 module _ (nullable : Bool) (list : DataType) (f : Field) (s : Schema) (p : Plan) where
   pub lists_plan : list ≡ types.List f → IsListPlanOf nullable f.data_type s p → IsHeldPlanOf nullable list (Array s) p
-  lists_plan e h = lists_encoded nullable f.data_type list s p (ap reading e ∙ list_reading f) h
+  lists_plan e h = lists_encoded nullable f.data_type list s p (ap reading e ∙ list_reading f) (subst IsReadable (sym e) (list_readable f h.readable)) h
 
   pub large_lists_plan : list ≡ types.LargeList f → IsListPlanOf nullable f.data_type s p → IsHeldPlanOf nullable list (Array s) p
-  large_lists_plan e h = lists_encoded nullable f.data_type list s p (ap reading e ∙ large_list_reading f) h
+  large_lists_plan e h = lists_encoded nullable f.data_type list s p (ap reading e ∙ large_list_reading f) (subst IsReadable (sym e) (large_list_readable f h.readable)) h
 
 -- ---- structs
 
@@ -184,7 +192,7 @@ row_slots [] (a ∷ avro_fields) plans members bytes h w = absurd h
 row_slots (f ∷ fields) [] plans members bytes h w = absurd h
 row_slots (f ∷ fields) (a ∷ avro_fields) [] members bytes h w = absurd h
 row_slots (f ∷ fields) (a ∷ avro_fields) (p ∷ plans) members bytes h (first, more, e, one, rest) =
-    let x = h.0 (value_named members f.name) first one in
+    let x = h.0.encodes (value_named members f.name) first one in
     let r = row_slots fields avro_fields plans members more h.1 rest in
     record { slots = x.0 ∷ r.slots; meant = (λ i. beside (x.1 i) (r.meant i)); paired = (x.2, r.paired); are = e ∙ (λ i. x.3 i ++ r.are i) }
 
@@ -203,9 +211,10 @@ row_encoded fields r plans members bytes h w =
       s.are ∙ (ap (plain_fields_of (out-Record r).fields) (sym (parts_struct s.slots)) ∙ sym (plain_record_is r x)),
     )
 
-pub struct_plan : (nullable : Bool) (fields : List Field) (avro_fields : List AvroField) (names : List (List ℕ)) (plans : Vec Plan Global) → names ≡ names_of fields → ArePlansOf fields avro_fields plans.items → IsStructPlanOf nullable fields avro_fields (RecordPlan nullable names plans)
-struct_plan nullable fields avro_fields names plans e h = record {
+pub struct_plan : (nullable : Bool) (fields : List Field) (avro_fields : List AvroField) (names : List (List ℕ)) (plans : Vec Plan Global) → names ≡ names_of fields → AreNamed fields → ArePlansOf fields avro_fields plans.items → IsStructPlanOf nullable fields avro_fields (RecordPlan nullable names plans)
+struct_plan nullable fields avro_fields names plans e named h = record {
   may = refl;
+  named = named;
   plans = plans.items;
   are = h;
   encodes = λ v bytes w.
@@ -219,6 +228,7 @@ record_plan nullable t s r avro_fields p e d (fields, is, h) =
     subst (λ z. IsHeldPlanOf nullable t z p) (sym e)
     (subst (λ z. IsHeldPlanOf nullable z (Record r) p) (sym is) (record {
       may = h.may;
+      readable = struct_readable fields avro_fields h.plans h.named h.are;
       encodes = λ v bytes w.
           let m = h.encodes v bytes w in
           subst (λ z. EncodesHeld (types.Struct fields) (Record r) z bytes) (sym m.1) (row_encoded fields r h.plans m.0 bytes are m.2);

@@ -19,7 +19,7 @@ use Rattle.json_tree.specs.declared.value.Value.{Number as TheNumber, out-Value}
 use Rattle.line_encode.specs.declared.plan.Plan.{Primitive as PrimitivePlan}
 use Rattle.line_encode.specs.declared.plan.Primitive.{Primitive}
 use Rattle.line_encode.specs.declared.plan.Primitive.TheVariants as primitive
-use Rattle.line_encode.specs.Makes.{EncodesHeld, IsHeldPlanOf, IsPrimitiveOf}
+use Rattle.line_encode.specs.Makes.{EncodesHeld, IsHeldPlanOf, IsPrimitiveOf, IsReadable}
 use Rattle.line_encode.specs.Plans.{WritesBoolean, WritesBytes, WritesInteger, WritesPrimitive}
 
 -- ---- what values mean
@@ -136,5 +136,5 @@ no_union primitive.Long t s (r, (logical, e)) = subst IsNoUnion (sym e) tt
 no_union primitive.Bytes t s (inl (r, (logical, e))) = subst IsNoUnion (sym e) tt
 no_union primitive.Bytes t s (inr (r, e)) = subst IsNoUnion (sym e) tt
 
-pub primitive_plan : (nullable : Bool) (p : Primitive) (t : DataType) (s : Schema) → IsPrimitiveOf t s p → IsHeldPlanOf nullable t s (PrimitivePlan nullable p)
-primitive_plan nullable p t s h = record { may = refl; encodes = encoded p t s h; null_is = null_means p t s h; no_union = no_union p t s h }
+pub primitive_plan : (nullable : Bool) (p : Primitive) (t : DataType) (s : Schema) → IsReadable t → IsPrimitiveOf t s p → IsHeldPlanOf nullable t s (PrimitivePlan nullable p)
+primitive_plan nullable p t s r h = record { may = refl; readable = r; encodes = encoded p t s h; null_is = null_means p t s h; no_union = no_union p t s h }

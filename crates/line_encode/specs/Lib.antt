@@ -1,3 +1,4 @@
+pub mod Types
 pub mod Plans
 pub mod Makes
 pub mod Lines

@@ -3,7 +3,8 @@ use arrow_core::Error;
 use json_tree::JsonFault;
 use std::alloc::{AllocError, AllocFailed};
 
-/// The lines are to be read as trees. It may be answered at any time, and says nothing of the lines.
+/// The lines are to be read another way, which decides what is refused. It may be answered at any
+/// time, and says nothing of the lines.
 #[derive(Clone, Copy, PartialEq, Eq, Debug)]
 pub struct GivenUp;
 

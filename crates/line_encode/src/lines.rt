@@ -72,9 +72,9 @@ pub struct LinePlan {
 
 impl LinePlan {
     /// The plan of rows of these fields under the record. `None` where lines of such rows are always
-    /// given up: where two fields of a struct have the same name, where a schema is none of boolean,
-    /// int, long, string, bytes, array, record, and a union of null and one of these, in this order,
-    /// or where the type of a field isn't read so; and where there is no memory.
+    /// given up: where a struct has no field, or two of the same name, where a schema is none of
+    /// boolean, int, long, string, bytes, array, record, and a union of null and one of these, in this
+    /// order, or where the type of a field isn't read so; and where there is no memory.
     pub fn new(alloc: Global, fields: &[Field], root: &Record) -> Option<LinePlan>
         ensures { IfSome result (IsLinePlanOf fields.now root.now) }
     {
@@ -87,8 +87,8 @@ impl LinePlan {
     /// "Binary Encoding"). Each line is an object (RFC 8259), in which at most 128 brackets are open
     /// at once; a missing member is as null, and a member that no field names is passed over.
     ///
-    /// `GivenUp` may come at any time, and then anything may have been appended: at a line that is
-    /// no such row, at members in another order than the fields, and where there is no memory.
+    /// `GivenUp` may come at any time, and `out` may then hold any bytes: at a line that is no such
+    /// row, at members in another order than the fields, and where there is no memory.
     pub fn encode_lines(
         &self,
         alloc: Global,

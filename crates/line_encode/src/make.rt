@@ -1,7 +1,7 @@
 //! Plans are made by data types and schemas.
 ghost use Rattle.std.specs.Prelude.{◌≡◌, true, IfOk, IfSome};
 ghost use Rattle.avro_schema.specs.declared.schema.Schema.{Array, Null, Union};
-ghost use Rattle.line_encode.specs.Makes.{names_of as names_of_fields, ArePlansOf, IsHeldPlanOf, IsListPlanOf, IsPlanOf, IsPrimitiveOf, IsRecordPlanOf, IsStructPlanOf};
+ghost use Rattle.line_encode.specs.Makes.{names_of as names_of_fields, AreNamed, ArePlansOf, IsHeldPlanOf, IsListPlanOf, IsPlanOf, IsPrimitiveOf, IsReadable, IsRecordPlanOf, IsStructPlanOf};
 
 use crate::names::Names;
 use crate::plan::{Plan, Primitive};
@@ -14,7 +14,8 @@ use std::alloc::Global;
 /// How values of a data type without others in it are encoded under a schema. `None` for any other
 /// pair.
 fn primitive_of(data_type: &DataType, schema: &AvroSchema) -> Option<Primitive>
-    ensures { IfSome result (IsPrimitiveOf data_type.now schema.now) }
+    ensures readable { IfSome result (λ _. IsReadable data_type.now) }
+    ensures form { IfSome result (IsPrimitiveOf data_type.now schema.now) }
 {
     match schema {
         AvroSchema::Boolean => match data_type {
@@ -65,10 +66,14 @@ fn is_null(schema: &AvroSchema) -> bool
     matches!(schema, AvroSchema::Null)
 }
 
-/// The names of fields, where no two are the same.
+/// The names of fields, where there is a field and no two have the same name.
 pub(crate) fn make_names(alloc: Global, fields: &[Field]) -> Option<Names>
-    ensures { IfSome result (λ names. names ≡ names_of_fields fields.now) }
+    ensures names { IfSome result (λ names. names ≡ names_of_fields fields.now) }
+    ensures named { IfSome result (λ _. AreNamed fields.now) }
 {
+    if fields.is_empty() {
+        return None;
+    }
     match names_of(alloc, fields) {
         Ok(names) => Names::new(names),
         Err(_) => None,

@@ -28,7 +28,8 @@ impl Model for Names {
 impl Names {
     /// These names, where no two are the same.
     pub(crate) fn new(names: Vec<Name>) -> Option<Names>
-        ensures { IfSome result (λ made. made ≡ names.items) }
+        ensures names { IfSome result (λ made. made ≡ names.items) }
+        ensures distinct { IfSome result (λ made. distinct made ≡ true) }
     {
         if are_distinct(names.as_slice()) {
             Some(Names { names })

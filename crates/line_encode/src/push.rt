@@ -40,9 +40,9 @@ fn opens<'a>(reader: &mut Reader<'a>, bracket: u8, depth: usize) -> bool
 /// Reads the value that is next, in which at most `depth` brackets are open at once, and appends its
 /// encoding by the plan.
 ///
-/// `GivenUp` may come at any time, and then anything may have been appended: where no value stands
-/// there, where it isn't of the plan's kind, where members stand in another order than the fields,
-/// and where there is no memory.
+/// `GivenUp` may come at any time, and `out` may then hold any bytes: where no value stands there,
+/// where it isn't of the plan's kind, where members stand in another order than the fields, and where
+/// there is no memory.
 #[cycle(push)]
 #[inline(always)]
 fn push_value<'a>(
@@ -241,8 +241,8 @@ pub(crate) fn push_record<'a>(
 
 /// Reads a member's value. Where it is of a field from `next` on, null is appended for the fields
 /// before it from `next` on, and then its value. Answers the index of the field after it. A value of
-/// a field before `next` is given up, since a later field's value was appended. Where it is of no
-/// field, it is passed over.
+/// a field before `next` is given up, since its own or a later field's value was appended. Where it is
+/// of no field, it is passed over.
 #[cycle(push)]
 #[inline(always)]
 fn push_field<'a>(

@@ -50,7 +50,7 @@ make_nullable-returns t c =
 
 pub make_struct-returns : goal.make_struct-returns
 make_struct-returns t c =
-    struct_plan c.args.nullable c.args.fields.now c.args.avro_fields.now c.in_ok-names.names c.in_ok-plans.plans c.in_ok-names.ensures c.in_ok-plans.ensures
+    struct_plan c.args.nullable c.args.fields.now c.args.avro_fields.now c.in_ok-names.names c.in_ok-plans.plans c.in_ok-names.ensures.names c.in_ok-names.ensures.named c.in_ok-plans.ensures
 
 pub make_plans-loop-i-init : goal.make_plans-loop-i-init
 make_plans-loop-i-init t c = subst (λ ps. ArePlansOf [] [] ps) (sym c.new-plans.ensures.items) tt
