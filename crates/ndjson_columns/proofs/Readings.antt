@@ -9,9 +9,9 @@ use Rattle.arrow_types.specs.declared.types.IntegerType.{IntegerType}
 use Rattle.json_tree.specs.Keys.{value_of}
 use Rattle.json_tree.specs.Tree.{Json}
 use Rattle.json_flat.specs.Columns.{means}
-use Rattle.json_flat.specs.Reading.{list_in, or_null, reading, struct_in}
+use Rattle.json_flat.specs.Reading.{list_in, or_null, reading, sized_list_in, struct_in}
 use Rattle.json_columns.specs.Gathered.{field_meanings}
-use Rattle.json_columns.proofs.ByFields.{dictionary_reading, large_list_reading, list_reading, struct_reading}
+use Rattle.json_columns.proofs.ByFields.{dictionary_reading, large_list_reading, list_reading, sized_reading, struct_reading}
 use Rattle.ndjson_columns.specs.LineColumns.{AreStoredFor, IsStoredFor}
 
 module _ (t : DataType) where
@@ -22,6 +22,10 @@ module _ (t : DataType) where
   pub large_list_meaning : (f g stored : Field) → t ≡ types.LargeList f → g ≡ f → reading stored.data_type ≡ reading g.data_type → reading (types.LargeList stored) ≡ reading t
   large_list_meaning f g stored e s h =
       large_list_reading stored ∙ (λ i. list_in (means (h i))) ∙ ap (λ (x : Field). list_in (means (reading x.data_type))) s ∙ sym (large_list_reading f) ∙ sym (ap reading e)
+
+  pub sized_list_meaning : (f g stored : Field) (n : ℕ) → t ≡ types.FixedSizeList f n → g ≡ f → reading stored.data_type ≡ reading g.data_type → reading (types.FixedSizeList stored n) ≡ reading t
+  sized_list_meaning f g stored n e s h =
+      sized_reading stored n ∙ (λ i. sized_list_in n (means (h i))) ∙ ap (λ (x : Field). sized_list_in n (means (reading x.data_type))) s ∙ sym (sized_reading f n) ∙ sym (ap reading e)
 
   same_fields : (fs gs : List Field) → AllZip IsStoredFor fs gs → (ms : List (List ℕ × Json)) → field_meanings gs ms ≡ field_meanings fs ms
   same_fields [] [] h ms = refl

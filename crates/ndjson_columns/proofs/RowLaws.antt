@@ -18,8 +18,9 @@ use Rattle.json_tree.specs.Tree.{Json, object}
 use Rattle.json_tree.specs.declared.value.Object.{Object}
 use Rattle.json_tree.specs.declared.value.Value.{out-Value}
 use Rattle.json_flat.specs.Columns.{AreSlotsOf}
-use Rattle.json_flat.specs.Reading.{reading}
+use Rattle.json_flat.specs.Reading.{has_reading, reading}
 use Rattle.json_columns.specs.Faults.{AreMemberColumns, IsMemberColumn}
+use Rattle.json_columns.specs.Names.{names_twice}
 use Rattle.json_columns.specs.Gathered.{are_objects, is_object, member_in, members_named}
 use Rattle.json_columns.proofs.ByFields.{struct_ok}
 use Rattle.json_columns.proofs.FieldColumns.{children}
@@ -97,8 +98,9 @@ first_of n [] (a ∷ columns) some h = absurd h
 first_of n (f ∷ fields) (a ∷ columns) some h = h.0.1
 
 -- the structs of columns that lines were read into
-pub rows_made : (t : DataType) (fields : List Field) (texts : List (List ℕ)) (columns : List Array) (a : Array) → t ≡ types.Struct fields → AreColumnsOf fields texts columns → 0 < length columns → array_slots a ≡ slots_of (record_at (map array_slots columns)) None 0 (first_len columns) → AreRowsOf t texts (array_slots a)
-rows_made t fields texts columns a is c some slots =
+pub rows_made : (t : DataType) (fields : List Field) (texts : List (List ℕ)) (columns : List Array) (a : Array) → t ≡ types.Struct fields → has_reading (types.Struct fields) ≡ true → names_twice (types.Struct fields) ≡ false → array_type a ≡ t
+    → AreColumnsOf fields texts columns → 0 < length columns → array_slots a ≡ slots_of (record_at (map array_slots columns)) None 0 (first_len columns) → AreRowsOf texts t (array_type a) (array_slots a)
+rows_made t fields texts columns a is readable distinct same c some slots =
     let rows = c.rows in
     let ms = member_columns rows fields columns c.members in
     let long : first_len columns ≡ length rows = first_of (length (objects_of rows)) fields columns some (children fields (objects_of rows) (length (objects_of rows)) columns refl ms) ∙ length_map object rows in
@@ -108,5 +110,10 @@ rows_made t fields texts columns a is c some slots =
     record {
       rows = rows;
       objects = c.objects;
-      meant = struct_ok t fields (objects_of rows) r is (structs_column fields (objects_of rows) columns (are_objects (objects_of rows)) r ms refl shown);
+      column = record {
+        distinct = ap names_twice is ∙ distinct;
+        readable = ap has_reading is ∙ readable;
+        same_type = same;
+        meant = struct_ok t fields (objects_of rows) r is (structs_column fields (objects_of rows) columns (are_objects (objects_of rows)) r ms refl shown);
+      };
     }

@@ -1,9 +1,11 @@
 -- The slots of an array, by its validity and by the slots that are held.
-use Rattle.std.proofs.Common.{◌≡◌, ◌∙◌, ℕ, ℤ, zero, suc, ◌+◌, ◌<◌, Bool, true, false, cond, List, [], ◌∷◌, ◌++◌, length, map, slice_index_or, take, drop, Option, Some, None, refl, sym, ap, arith, zero-add}
+use Rattle.std.proofs.Common.{◌≡◌, ◌∙◌, ℕ, ℤ, zero, suc, ◌+◌, ◌*◌, ◌/◌, ◌<◌, Bool, true, false, cond, List, [], ◌∷◌, ◌++◌, length, map, slice_index_or, take, drop, Option, Some, None, refl, sym, ap, arith, zero-add}
 use Rattle.std.specs.Prelude.{IsTrue}
 use Rattle.std.proofs.lemmas.List.{map-append, take_all, take_more}
+use Rattle.std.proofs.Math.Nat.{mul-div_cancel}
 use Rattle.std.proofs.lemmas.List.Elements.{All-get_or}
 use Rattle.arrow_array.specs.Arrays.{array_slots}
+use Rattle.arrow_array.specs.FixedLists.{fixed_list_at}
 use Rattle.arrow_array.specs.Lists.{list_at}
 use Rattle.arrow_array.specs.Slots.{is_held, shown, slot_at, slots_of, TellsHeld}
 use Rattle.arrow_array.specs.Structs.{first_len, AreChildren, IsStructOf}
@@ -42,6 +44,12 @@ slots_again f v xs n e t h =
 pub lists_again : (xs items vals : List Slot) (offsets copied : List ℤ) (v : Option Packed) (n : ℕ) → copied ≡ offsets → vals ≡ items → n ≡ length xs → TellsHeld v xs → ((k : ℕ) → k < length xs → IsTrue (is_held (slot_at xs k)) → slot_at xs k ≡ list_at offsets items k) → slots_of (list_at copied vals) v 0 n ≡ xs
 lists_again xs items vals offsets copied v n o i e t h =
     slots_again (list_at copied vals) v xs n e t (λ k lt held. h k lt held ∙ sym (λ j. list_at (o j) (i j) k))
+
+-- lists of the same size of the same items
+pub fixed_lists_again : (size old : ℕ) (xs vals : List Slot) (v : Option Packed) → size ≡ old → 0 < size → length vals ≡ length xs * old → TellsHeld v xs → ((k : ℕ) → k < length xs → IsTrue (is_held (slot_at xs k)) → slot_at xs k ≡ fixed_list_at old vals k) → slots_of (fixed_list_at size vals) v 0 (length vals / size) ≡ xs
+fixed_lists_again size old xs vals v e some count t h =
+    let many : length vals / size ≡ length xs = ap (λ m. m / size) (count ∙ ap (λ s. length xs * s) (sym e)) ∙ mul-div_cancel (length xs) some in
+    slots_again (fixed_list_at size vals) v xs (length vals / size) many t (λ k lt held. h k lt held ∙ ap (λ s. fixed_list_at s vals k) (sym e))
 
 -- a whole part
 pub whole_part : {A : Type 0} (xs : List A) (n : ℕ) → n ≡ length xs → take n (drop 0 xs) ≡ xs

@@ -1,14 +1,12 @@
 -- The values of rows, row by row.
-use Rattle.std.proofs.Common.{◌≡◌, ℕ, zero, suc, ◌+◌, ◌<◌, List, [], ◌∷◌, ◌++◌, length, get_or, take, drop, sym, ap, ◌∙◌, subst, arith, inr, map, true, false, Option, Some, None, IfSome, Result, Ok, Err, IfErr}
+use Rattle.std.proofs.Common.{◌≡◌, ℕ, zero, suc, ◌+◌, ◌<◌, List, [], ◌∷◌, ◌++◌, length, get_or, take, drop, sym, ap, ◌∙◌, subst, arith, inr, map, Option, Some, None, IfSome, Result, Ok, Err, IfErr}
 use Rattle.std.proofs.lemmas.List.{take_more}
 use Rattle.std.specs.Borrow.{Bor}
 use Rattle.arrow_array.specs.Arrays.{array_slots, array_type}
 use Rattle.arrow_array.specs.declared.array.Array.{Array}
 use Rattle.arrow_core.specs.declared.error.Error.{Error}
 use Rattle.arrow_types.specs.declared.types.DataType.{DataType}
-use Rattle.json_columns.specs.Names.{names_twice}
 use Rattle.json_columns.specs.Refusals.{IsRefusal}
-use Rattle.json_flat.specs.Reading.{has_reading}
 use Rattle.json_line.specs.Lines.{AreObjects}
 use Rattle.ndjson_columns.specs.LineColumns.{AreRowsOf}
 use Rattle.json_tree.specs.Tree.{Json, object}
@@ -54,6 +52,6 @@ lines_stand [] (line ∷ lines) h = absurd h
 lines_stand (members ∷ rows) [] h = absurd h
 lines_stand (members ∷ rows) (line ∷ lines) h = (h.0, lines_stand rows lines h.1)
 
-pub lines_column : (rows : List (List ℕ)) (t : DataType) (o : Option Array) → names_twice t ≡ false → has_reading t ≡ true → IfSome o (λ a. array_type a ≡ t) → IfSome o (λ a. AreRowsOf t rows (array_slots a)) → IfSome o (λ a. IsColumnOf rows t (array_type a) (array_slots a))
-lines_column rows t None d r e h = tt
-lines_column rows t (Some a) d r e h = (map object h.rows, lines_stand h.rows rows h.objects, record { distinct = d; readable = r; same_type = e; meant = h.meant })
+pub lines_column : (rows : List (List ℕ)) (t : DataType) (o : Option Array) → IfSome o (λ a. AreRowsOf rows t (array_type a) (array_slots a)) → IfSome o (λ a. IsColumnOf rows t (array_type a) (array_slots a))
+lines_column rows t None h = tt
+lines_column rows t (Some a) h = (map object h.rows, lines_stand h.rows rows h.objects, h.column)

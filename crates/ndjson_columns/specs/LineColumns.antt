@@ -1,28 +1,30 @@
 -- The columns that lines of JSON (RFC 8259) are read into, dictionaries among them.
-use Rattle.std.specs.Prelude.{◌≡◌, ◌∷◌, [], ℕ, List, map}
+use Rattle.std.specs.Prelude.{◌≡◌, ◌∷◌, [], ℕ, List, map, true, false}
 use Rattle.std.specs.List.{AllZip}
 use Rattle.arrow_array.specs.Arrays.{array_slots, array_type}
 use Rattle.arrow_array.specs.declared.array.Array.{Array}
 use Rattle.arrow_types.specs.declared.slot.Slot.{Slot}
 use Rattle.arrow_types.specs.declared.types.DataType.{DataType}
+use Rattle.arrow_types.specs.declared.types.DataType.TheVariants as types
 use Rattle.arrow_types.specs.declared.types.Field.{Field}
 use Rattle.json_columns.specs.Dictionaries.{HasFirstItems}
-use Rattle.json_flat.specs.Columns.{AreSlotsOf}
-use Rattle.json_flat.specs.Reading.{reading}
+use Rattle.json_columns.specs.Names.{names_twice}
+use Rattle.json_flat.specs.Reading.{has_reading, reading}
 use Rattle.json_line.specs.Lines.{AreObjects}
 use Rattle.json_tree.specs.Tree.{Json, object}
+use Rattle.ndjson_columns.specs.Columns.{IsColumnOfValues}
 
 -- the values of each dictionary are its distinct slots but null, in order of first appearance
 abbrev pub HaveFirstItems : List Field → List Array → Type 0
 HaveFirstItems fields columns = AllZip (λ (field : Field) column. HasFirstItems field.data_type column) fields columns
 
--- the lines are objects, and these are the slots that they mean under the type
-pub record AreRowsOf (row_type : DataType) (lines : List (List ℕ)) (slots : List Slot) : Type 0 where
+-- the lines are objects, and this is the column of these under the type, which has a reading and names no field twice
+pub record AreRowsOf (lines : List (List ℕ)) (row_type column_type : DataType) (slots : List Slot) : Type 0 where
   pub rows : List (List (List ℕ × Json))
   pub objects : AreObjects rows lines
-  pub meant : AreSlotsOf (reading row_type) (map object rows) slots
+  pub column : IsColumnOfValues (map object rows) row_type column_type slots
 
--- ---- Contracts of private functions alone cite what follows.
+-- ---- Contracts of private functions, and the model of `LineColumns`, alone cite what follows.
 
 -- the field that a column is first read under: values mean under its type what they mean under the field's
 pub record IsStoredFor (field stored : Field) : Type 0 where
@@ -31,6 +33,13 @@ pub record IsStoredFor (field stored : Field) : Type 0 where
 
 abbrev pub AreStoredFor : List Field → List Field → Type 0
 AreStoredFor fields stored = AllZip IsStoredFor fields stored
+
+-- What is kept of the fields: those that their columns are first read under; and values are read under a Struct of the fields, which names
+-- no field twice.
+pub record AreKept (fields stored : List Field) : Type 0 where
+  pub stored_for : AreStoredFor fields stored
+  pub readable : has_reading (types.Struct fields) ≡ true
+  pub distinct : names_twice (types.Struct fields) ≡ false
 
 -- a column of the type was made of another: it has the same slots
 pub record IsMadeOf (t : DataType) (old new : Array) : Type 0 where

@@ -11,7 +11,7 @@ use crate::rows::{push_given, push_values};
 use arrow_array::Array;
 use arrow_core::{Error, Reason, Result, Text};
 use arrow_types::{DataType, Field};
-use json_columns::{has_json_reading, names_twice, read_values};
+use json_columns::read_values;
 use json_tree::Value;
 use std::alloc::Global;
 
@@ -41,8 +41,8 @@ fn fields_of(alloc: Global, data_type: &DataType) -> Option<Vec<Field>>
     }
 }
 
-/// The column of rows as structs of these fields, read without trees; `None` where lines aren't read
-/// into columns of one of the types, and where the rows are given up.
+/// The column of rows as structs of these fields, read without trees; `None` where `LineColumns` has
+/// no builders of the fields' columns, and where the rows are given up.
 fn read_structs(
     alloc: Global,
     rows: &[Text],
@@ -50,8 +50,8 @@ fn read_structs(
     data_type: &DataType,
 ) -> Option<Array>
     requires { data_type.now ≡ Struct fields.items }
-    ensures data_type { IfSome result (λ a. array_type a ≡ data_type.now) }
-    ensures ok { IfSome result (λ a. AreRowsOf data_type.now rows.now (array_slots a)) }
+    ensures { IfSome result
+        (λ a. AreRowsOf rows.now data_type.now (array_type a) (array_slots a)) }
 {
     match LineColumns::new(alloc, fields) {
         Ok(Some(mut columns)) => match columns.read_rows(rows, data_type) {
@@ -67,12 +67,6 @@ fn read_lines(alloc: Global, rows: &[Text], data_type: &DataType) -> Option<Arra
     ensures column { IfSome result
         (λ a. IsColumnOf rows.now data_type.now (array_type a) (array_slots a)) }
 {
-    if names_twice(data_type) {
-        return None;
-    }
-    if !has_json_reading(data_type) {
-        return None;
-    }
     match fields_of(alloc, data_type) {
         Some(fields) => read_structs(alloc, rows, fields, data_type),
         None => None,

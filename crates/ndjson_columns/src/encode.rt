@@ -1,10 +1,10 @@
-//! Columns of which dictionaries are made, at every depth but beneath fixed-size lists.
+//! Columns of which dictionaries are made, at every depth.
 ghost use Rattle.std.specs.Prelude.{◌≡◌, map, IfOk, OnOk};
 ghost use Rattle.arrow_array.specs.Arrays.{array_slots, array_type};
 ghost use Rattle.ndjson_columns.specs.LineColumns.{AreMadeOf, IsMadeOf};
 
 use crate::keys::dictionary_of;
-use crate::rebuilt::{large_lists_over, lists_over, structs_over};
+use crate::rebuilt::{fixed_lists_over, large_lists_over, lists_over, structs_over};
 use arrow_array::Array;
 use arrow_types::{DataType, Field};
 use json_line::GivenUp;
@@ -32,6 +32,7 @@ fn encoded(alloc: Global, data_type: &DataType, column: &Array) -> Result<Array,
         DataType::Dictionary(key, _, _) => dictionary_of(alloc, *key, data_type, column),
         DataType::List(item) => encoded_lists(alloc, item.get(), data_type, column),
         DataType::LargeList(item) => encoded_lists(alloc, item.get(), data_type, column),
+        DataType::FixedSizeList(item, _) => encoded_lists(alloc, item.get(), data_type, column),
         DataType::Struct(fields) => encoded_structs(alloc, fields.as_slice(), data_type, column),
         _ => Err(GivenUp),
     }
@@ -58,6 +59,11 @@ fn encoded_lists(
             let values = encoded(alloc, &item.data_type, lists.values())?;
             let array = large_lists_over(alloc, data_type, lists, values)?;
             Ok(Array::LargeList(array))
+        }
+        Array::FixedSizeList(lists) => {
+            let values = encoded(alloc, &item.data_type, lists.values())?;
+            let array = fixed_lists_over(alloc, data_type, lists, values)?;
+            Ok(Array::FixedSizeList(array))
         }
         _ => Err(GivenUp),
     }

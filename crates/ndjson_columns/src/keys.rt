@@ -12,7 +12,8 @@ use json_line::GivenUp;
 use std::alloc::Global;
 
 // The keys and the distinct values of a column. It is given up where it is of another kind than a
-// dictionary's values, and where there are more distinct values than keys.
+// dictionary's values, and where there are more distinct values than the key type has numbers from 0
+// on.
 fn encode(alloc: Global, key: IntegerType, column: &Array) -> Result<(Keys, Array), GivenUp>
     ensures { IfOk result (λ p. EncodesSlots (array_slots column.now) (keys_slots p.0)
         (array_slots p.1)) }

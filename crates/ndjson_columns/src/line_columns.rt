@@ -1,16 +1,19 @@
 //! Builders of columns that are kept from lines to lines.
-ghost use Rattle.std.specs.Prelude.{◌≡◌, IfOk, IfSome};
+ghost use Rattle.std.specs.Prelude.{◌≡◌, true, false, IfOk, IfSome, OnOk};
 ghost use Rattle.arrow_array.specs.Arrays.{array_slots, array_type};
 ghost use Rattle.arrow_core.specs.Errors.{OnlyOutOfMemory};
 ghost use Rattle.arrow_types.specs.declared.types.DataType.{Struct};
+ghost use Rattle.json_columns.specs.Names.{names_twice as names_twice_of};
+ghost use Rattle.json_flat.specs.Reading.{has_reading};
 ghost use Rattle.json_line.specs.Lines.{AreColumnsOf};
 ghost use Rattle.ndjson_columns.specs.LineColumns.{AreRowsOf, HaveFirstItems};
 
 use crate::encode::encode_columns;
 use crate::stored::stored_fields;
 use arrow_array::{Array, StructArray};
-use arrow_core::{Result, Text};
+use arrow_core::{Items, Result, Text};
 use arrow_types::{DataType, Field};
+use json_columns::{has_json_reading, names_twice};
 use json_line::{GivenUp, LineBuilders};
 use std::alloc::Global;
 use std::marker::Model;
@@ -29,7 +32,7 @@ impl Model for LineColumns {
     ghost use Rattle.std.specs.Coded.{coded_list};
     ghost use Rattle.arrow_types.specs.declared.types.Field.{Field};
     ghost use Rattle.arrow_types.specs.contracts.types.Field as the_fields;
-    ghost use Rattle.ndjson_columns.specs.LineColumns.{AreStoredFor};
+    ghost use Rattle.ndjson_columns.specs.LineColumns.{AreKept};
 
     ghost Value = { List Field };
 
@@ -37,18 +40,51 @@ impl Model for LineColumns {
 
     ghost view = { λ b. b.fields.items };
 
-    ghost invariant = { λ b. AreStoredFor b.fields.items b.lines };
+    ghost invariant = { λ b. AreKept b.fields.items b.lines };
+}
+
+/// The fields of a Struct; `None` for another type.
+fn struct_fields(row_type: DataType) -> Option<Vec<Field>>
+    ensures { IfSome result (λ fields. row_type ≡ Struct fields.items) }
+{
+    match row_type {
+        DataType::Struct(fields) => Some(fields.into_vec()),
+        _ => None,
+    }
+}
+
+/// The fields, where values are read under a Struct of them, which names no field twice.
+fn readable_fields(fields: Vec<Field>) -> Option<Vec<Field>>
+    ensures same { IfSome result (λ kept. kept.items ≡ fields.items) }
+    ensures readable { IfSome result (λ _. has_reading (Struct fields.items) ≡ true) }
+    ensures distinct { IfSome result (λ _. names_twice_of (Struct fields.items) ≡ false) }
+{
+    let row_type = DataType::Struct(Items::from_vec(fields));
+    if names_twice(&row_type) {
+        return None;
+    }
+    if !has_json_reading(&row_type) {
+        return None;
+    }
+    struct_fields(row_type)
 }
 
 impl LineColumns {
-    /// Builders of the columns of these fields. `None` where two fields have the same name, or lines
-    /// aren't read into columns of one of the types: those that `json_line` reads, and dictionaries
-    /// over strings or over integers of 8 to 64 bits with a sign, at every depth but beneath
-    /// fixed-size lists. `OutOfMemory` alone.
+    /// Builders of the columns of these fields. `None` where there is no field, where two fields, or
+    /// two of a Struct at any depth, have the same name, or where lines aren't read into columns of
+    /// one of the types: those that `json_line` reads, and dictionaries over strings or over integers
+    /// of 8 to 64 bits with a sign, at every depth. `OutOfMemory` alone.
     pub fn new(alloc: Global, fields: Vec<Field>) -> Result<Option<LineColumns>>
         ensures ok { IfOk result (λ made. IfSome made (λ columns. columns ≡ fields.items)) }
+        ensures readable { IfOk result
+            (λ made. IfSome made (λ _. has_reading (Struct fields.items) ≡ true)) }
+        ensures distinct { IfOk result
+            (λ made. IfSome made (λ _. names_twice_of (Struct fields.items) ≡ false)) }
         ensures memory { OnlyOutOfMemory result }
     {
+        let Some(fields) = readable_fields(fields) else {
+            return Ok(None);
+        };
         let stored = stored_fields(alloc, fields.as_slice())?;
         match LineBuilders::new(alloc, stored)? {
             Some(lines) => Ok(Some(LineColumns {
@@ -62,14 +98,17 @@ impl LineColumns {
 
     /// The columns of the lines' members, one for each field, as `LineBuilders` of `json_line` has
     /// them. The values of a dictionary are its distinct slots but null, in order of first
-    /// appearance.
+    /// appearance. Each field's type has a reading, and no two fields have the same name, nor two of
+    /// a Struct at any depth.
     ///
-    /// `GivenUp` may come at any time, also where there are more distinct values than keys. The
-    /// builders are then fit for other lines all the same.
+    /// `GivenUp` may come at any time, also where there are more distinct values than the key type
+    /// has numbers from 0 on. The builders are then fit for other lines all the same.
     pub fn read_lines(&mut self, lines: &[Text]) -> std::result::Result<Vec<Array>, GivenUp>
         ensures ok { IfOk result
             (λ columns. AreColumnsOf self.old lines.now columns.items) }
         ensures items { IfOk result (λ columns. HaveFirstItems self.old columns.items) }
+        ensures readable { OnOk result (has_reading (Struct self.old) ≡ true) }
+        ensures distinct { OnOk result (names_twice_of (Struct self.old) ≡ false) }
         ensures same { self.new ≡ self.old }
     {
         let mut columns = self.lines.read_lines(lines)?;
@@ -78,7 +117,8 @@ impl LineColumns {
     }
 
     /// The lines as structs of this type, whose fields are those of the columns: each line is an
-    /// object, and its slot is what it means under the type.
+    /// object, and its slot is what it means under the type, which has a reading and names no field
+    /// twice.
     ///
     /// `GivenUp` may come at any time. The builders are then fit for other lines all the same.
     pub fn read_rows(
@@ -87,8 +127,8 @@ impl LineColumns {
         row_type: &DataType,
     ) -> std::result::Result<Array, GivenUp>
         requires { row_type.now ≡ Struct self.old }
-        ensures data_type { IfOk result (λ a. array_type a ≡ row_type.now) }
-        ensures ok { IfOk result (λ a. AreRowsOf row_type.now lines.now (array_slots a)) }
+        ensures ok { IfOk result
+            (λ a. AreRowsOf lines.now row_type.now (array_type a) (array_slots a)) }
         ensures same { self.new ≡ self.old }
     {
         let columns = self.read_lines(lines)?;

@@ -1,12 +1,13 @@
 //! Arrays with other children of the same slots.
-ghost use Rattle.std.specs.Prelude.{◌≡◌, ◌<◌, ℕ, List, length, map, IfOk, IsTrue};
+ghost use Rattle.std.specs.Prelude.{◌≡◌, ◌*◌, ◌<◌, ℕ, List, length, map, IfOk, IsTrue};
 ghost use Rattle.std.specs.Option.{option_copied};
 ghost use Rattle.arrow_array.specs.Arrays.{array_slots};
+ghost use Rattle.arrow_array.specs.FixedLists.{fixed_list_at, list_size};
 ghost use Rattle.arrow_array.specs.Slots.{TellsHeld, is_held, slot_at};
 ghost use Rattle.arrow_array.specs.Structs.{first_len, record_at};
 ghost use Rattle.arrow_types.specs.declared.slot.Slot.{Slot};
 
-use arrow_array::{Array, Bitmap, LargeListArray, ListArray, StructArray};
+use arrow_array::{Array, Bitmap, FixedSizeListArray, LargeListArray, ListArray, StructArray};
 use arrow_types::DataType;
 use json_line::GivenUp;
 use std::alloc::Global;
@@ -58,6 +59,42 @@ pub(crate) fn large_lists_over(
     let offsets = Vec::from_slice(alloc, lists.offsets())?;
     let validity = same_validity(lists.validity())?;
     let array = LargeListArray::try_new(alloc, data_type, offsets, values, validity)?;
+    Ok(array)
+}
+
+// How many items each list of this type has; 0 where it isn't FixedSizeList.
+fn size_of_lists(data_type: &DataType) -> usize
+    ensures { result ≡ list_size data_type.now }
+{
+    match data_type {
+        DataType::FixedSizeList(_, size) => *size,
+        _ => 0,
+    }
+}
+
+/// The fixed-size lists of this type over a child of the same slots. They are given up where the
+/// type is one of lists of another size.
+pub(crate) fn fixed_lists_over(
+    alloc: Global,
+    data_type: &DataType,
+    lists: &FixedSizeListArray,
+    values: Array,
+) -> Result<FixedSizeListArray, GivenUp>
+    requires slots { (k : ℕ) → k < length lists.now.slots
+        → IsTrue (is_held (slot_at lists.now.slots k))
+        → slot_at lists.now.slots k
+        ≡ fixed_list_at (list_size lists.now.data_type) (array_slots values) k }
+    requires count { length (array_slots values)
+        ≡ length lists.now.slots * list_size lists.now.data_type }
+    ensures data_type { IfOk result (λ a. a.data_type ≡ data_type.now) }
+    ensures slots { IfOk result (λ a. a.slots ≡ lists.now.slots) }
+{
+    if size_of_lists(data_type) != size_of_lists(lists.data_type()) {
+        return Err(GivenUp);
+    }
+    let data_type = data_type.try_clone(alloc)?;
+    let validity = same_validity(lists.validity())?;
+    let array = FixedSizeListArray::try_new(alloc, data_type, values, validity)?;
     Ok(array)
 }
 

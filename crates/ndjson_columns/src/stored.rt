@@ -48,6 +48,10 @@ fn stored_type(alloc: Global, data_type: &DataType) -> Result<DataType>
             let item = stored_field(alloc, item.get())?;
             Ok(DataType::LargeList(Box::new(alloc, item)?))
         }
+        DataType::FixedSizeList(item, size) => {
+            let item = stored_field(alloc, item.get())?;
+            Ok(DataType::FixedSizeList(Box::new(alloc, item)?, *size))
+        }
         DataType::Struct(fields) => {
             let fields = stored_fields(alloc, fields.as_slice())?;
             Ok(DataType::Struct(Items::from_vec(fields)))

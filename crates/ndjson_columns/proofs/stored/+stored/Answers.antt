@@ -4,7 +4,7 @@ use Rattle.arrow_types.specs.declared.types.Field.{Field}
 use Rattle.json_flat.specs.Reading.{reading}
 use Rattle.json_line.proofs.Making.{taken-all}
 use Rattle.ndjson_columns.specs.LineColumns.{AreStoredFor}
-use Rattle.ndjson_columns.proofs.Readings.{large_list_meaning, list_meaning, stored_more, struct_meaning, value_meaning}
+use Rattle.ndjson_columns.proofs.Readings.{large_list_meaning, list_meaning, sized_list_meaning, stored_more, struct_meaning, value_meaning}
 use Rattle.ndjson_columns.proofs.stored.+stored.Goals as goal
 
 pub stored_type-value_type_or-requires : goal.stored_type-value_type_or-requires
@@ -20,6 +20,11 @@ pub stored_type-returns-in_ok-new-in-LargeList-clause-meaning : goal.stored_type
 stored_type-returns-in_ok-new-in-LargeList-clause-meaning t c =
     ap (λ (f : Field). reading (types.LargeList f)) c.in_ok-new-in-LargeList.ensures.holds
     ∙ large_list_meaning c.args.data_type.now c.in-LargeList.item c.get-in-LargeList.result.now c.in_ok-item-in-LargeList.item c.in-LargeList.is c.get-in-LargeList.ensures c.in_ok-item-in-LargeList.ensures.stored.meaning
+
+pub stored_type-returns-in_ok-new-in-FixedSizeList-clause-meaning : goal.stored_type-returns-in_ok-new-in-FixedSizeList-clause-meaning
+stored_type-returns-in_ok-new-in-FixedSizeList-clause-meaning t c =
+    ap (λ (f : Field). reading (types.FixedSizeList f c.in-FixedSizeList.size)) c.in_ok-new-in-FixedSizeList.ensures.holds
+    ∙ sized_list_meaning c.args.data_type.now c.in-FixedSizeList.item c.get-in-FixedSizeList.result.now c.in_ok-item-in-FixedSizeList.item c.in-FixedSizeList.size c.in-FixedSizeList.is c.get-in-FixedSizeList.ensures c.in_ok-item-in-FixedSizeList.ensures.stored.meaning
 
 pub stored_type-returns-in_ok-fields-in-Struct-clause-meaning : goal.stored_type-returns-in_ok-fields-in-Struct-clause-meaning
 stored_type-returns-in_ok-fields-in-Struct-clause-meaning t c =

@@ -13,7 +13,7 @@ returns-clause-ok c =
     let new = c.encode_columns.new.columns in
     let made = subst (λ (p : List Field × List Array). AreMadeOf p.0 p.1 new) (λ j. (c.as_slice.ensures.value j, c.as_mut_slice.ensures.value j)) c.in_ok-encode_columns.ensures in
     let same = all_written b.fields.items old new c.in_ok-columns.columns.len made (omega (arith, c.in_ok-columns.columns.ok.0)) in
-    subst (λ (p : List Field × List Array). AreColumnsOf p.0 c.args.lines.now p.1) (λ j. (c.self.view_is j, sym same j)) (lines_made b.fields.items b.lines c.args.lines.now old new c.self.invariant c.in_ok-columns.ensures.ok made)
+    subst (λ (p : List Field × List Array). AreColumnsOf p.0 c.args.lines.now p.1) (λ j. (c.self.view_is j, sym same j)) (lines_made b.fields.items b.lines c.args.lines.now old new c.self.invariant.stored_for c.in_ok-columns.ensures.ok made)
 
 pub returns-clause-items : goal.returns-clause-items
 returns-clause-items c =
