@@ -1,6 +1,7 @@
 pub mod Builders
 pub mod Capacity
 pub mod Columns
+pub mod FieldSteps
 pub mod Fields
 pub mod Frozen
 pub mod Going

@@ -7,4 +7,5 @@ pub mod Growth
 pub mod Making
 pub mod Masks
 pub mod Refusals
+pub mod Steps
 pub mod Suits

@@ -184,7 +184,7 @@ fn decode_pair<C: Ahead>(
 /// Whether the member at an index is null, where null is the first one or the second; None where
 /// there is no such member.
 #[inline(always)]
-fn is_null_at(index: i64, null_first: bool) -> Option<bool>
+pub fn is_null_at(index: i64, null_first: bool) -> Option<bool>
     ensures { result ≡ null_at index null_first }
 {
     if index == 0 {

@@ -13,6 +13,8 @@ mod make;
 mod prepare;
 mod reserve;
 mod rows;
+mod steps;
+mod whole;
 
 pub use blocks::{deserialize, deserialize_into};
 pub use decoder::Decoder;

@@ -18,6 +18,8 @@ ghost use Rattle.avro_decode.specs.Suits.{Suits, AllSuit};
 
 use crate::decode::{decode_items, decode_value};
 use crate::fault::BlockFault;
+use crate::steps::MOST_STEPS;
+use crate::whole::{all_kept, decode_whole_rows};
 use arrow_builders::MutableArray;
 use avro_flat::DecodeFault;
 use avro_reference::Ahead;
@@ -60,7 +62,8 @@ pub fn decode_block<C: Ahead>(
 }
 
 /// Reads so many rows. Where there is one field and it is kept, they are the items of one column,
-/// and no field has to be found again for each row.
+/// and no field has to be found again for each row. Where each field is kept, and they are no more
+/// than there are steps, how a field is read is told once and not again for each row.
 #[inline(always)]
 fn decode_rows<C: Ahead>(
     cursor: &mut C,
@@ -89,6 +92,9 @@ fn decode_rows<C: Ahead>(
 {
     if avro_fields.len() == 1 && projection[0] {
         return decode_only_field(cursor, rows, &avro_fields[0].schema, &mut builders[0]);
+    }
+    if avro_fields.len() <= MOST_STEPS && all_kept(projection) {
+        return decode_whole_rows(cursor, rows, avro_fields, projection, builders);
     }
     decode_each_row(cursor, rows, avro_fields, projection, builders)
 }

@@ -1,0 +1,57 @@
+use Rattle.std.proofs.Common.{length, true, Bool, List, sym, subst, w64, rules, arith}
+use Rattle.std.proofs.lemmas.Int.{to_z-of_z}
+use mir.Val.{SFits}
+use Rattle.arrow_builders.specs.MutableArrays.{nodes}
+use Rattle.avro_reference.specs.Costs.{passed}
+use Rattle.avro_reference.proofs.Counting.{number_first}
+use Rattle.avro_decode.specs.Growth.{Grows, AllOffsetsReach, HaveSpare}
+use Rattle.avro_decode.specs.Masks.{mask}
+use Rattle.avro_decode.proofs.Going.{grows_behind, offsets_less}
+use Rattle.avro_decode.proofs.Members.{no_index}
+use Rattle.avro_decode.proofs.Nodes.{spare_less}
+use Rattle.avro_decode.proofs.FieldSteps.{pair_two, other_fits, other_suits, other_gives}
+use Rattle.avro_decode.proofs.steps.decode_nullable.Goals as goal
+
+pub other_of-schema-requires : goal.other_of-schema-requires
+other_of-schema-requires g c = record { two = pair_two _ _ _ c.requires.fits }
+
+pub returns-in_default-clause-reads : goal.returns-in_default-clause-reads
+returns-in_default-clause-reads g c = no_index _ _ _ c.in_default.ensures.reads
+
+pub decode_pair-requires : goal.decode_pair-requires
+decode_pair-requires g c =
+    let s = c.other_of-schema.result.now in
+    let o = other_suits c.args.null_first c.args.kind c.args.members.now s c.other_of-schema.ensures c.requires.fits _ c.requires.suits in
+    let n = c.in-Some.ensures.costs.shorter in
+    let r : AllOffsetsReach (mask true s) (length (g.C.Ahead.rest c.args.cursor.now)) c.args.builder.now = subst (λ (xs : List Bool). AllOffsetsReach xs (length (g.C.Ahead.rest c.args.cursor.now)) c.args.builder.now) o.1 c.requires.offsets in
+    record {
+      fits = other_fits c.args.null_first c.args.kind c.args.members.now s c.other_of-schema.ensures c.requires.fits;
+      suits = o.0;
+      tight = c.requires.tight;
+      offsets = offsets_less (mask true s) _ _ c.args.builder.now (omega (arith, n)) r;
+    }
+
+pub returns-clause-grows : goal.returns-clause-grows
+returns-clause-grows g c =
+    let s = c.other_of-schema.result.now in
+    let o = other_suits c.args.null_first c.args.kind c.args.members.now s c.other_of-schema.ensures c.requires.fits _ c.requires.suits in
+    let e = c.decode_pair.ensures in
+    let n = c.in-Some.ensures in
+    subst (λ (xs : List Bool). Grows xs (passed (g.C.Ahead.rest c.args.cursor.now) (g.C.Ahead.rest c.decode_pair.new.cursor)) (nodes c.args.builder.now) (nodes c.decode_pair.new.builder)) (sym o.1) (grows_behind (mask true s) _ _ _ _ _ n.costs.shorter e.moves.forward e.grows)
+
+pub returns-clause-has_capacity : goal.returns-clause-has_capacity
+returns-clause-has_capacity g c = λ h.
+    let s = c.other_of-schema.result.now in
+    let o = other_suits c.args.null_first c.args.kind c.args.members.now s c.other_of-schema.ensures c.requires.fits _ c.requires.suits in
+    let n = c.in-Some.ensures.costs.shorter in
+    c.decode_pair.ensures.has_capacity (spare_less (mask true s) _ _ _ (omega (arith, n)) (subst (λ (xs : List Bool). HaveSpare xs (length (g.C.Ahead.rest c.args.cursor.now)) (nodes c.args.builder.now)) o.1 h))
+
+pub returns-clause-moves : goal.returns-clause-moves
+returns-clause-moves g c =
+    let n = c.in-Some.ensures in
+    number_first _ _ _ _ _ _ n.costs n.moves c.decode_pair.ensures.moves
+
+pub returns-clause-reads : goal.returns-clause-reads
+returns-clause-reads g c =
+    let w : SFits w64 c.in-Some.index = search rules in
+    other_gives c.args.null_first c.args.kind c.args.members.now c.other_of-schema.result.now c.other_of-schema.ensures c.requires.fits _ c.decode_pair.result _ _ _ _ c.in-Some.index c.requires.suits c.in-Some.ensures.reads (rw (to_z-of_z w64 c.in-Some.index w) at c.decode_pair.ensures.reads)

@@ -1,0 +1,7 @@
+use Rattle.avro_decode.proofs.FieldSteps.{KeptSoFar}
+use Rattle.avro_decode.proofs.whole.all_kept.Given as goal
+
+abbrev pub invariant-loop-i : goal.invariant-loop-i
+invariant-loop-i l = record {
+  kept : KeptSoFar l.i l.projection;
+}

@@ -1,0 +1,22 @@
+use Rattle.std.proofs.Common.{◌≡◌, ◌≤◌, All, length, map, drop}
+use Rattle.arrow_builders.specs.MutableArrays.{builder_slots}
+use Rattle.arrow_builders.specs.Shapes.{shape}
+use Rattle.arrow_builders.specs.Tight.{IsTight}
+use Rattle.avro_schema.specs.Number.{MovesForward}
+use Rattle.avro_grammar.specs.ValidBlock.{kept}
+use Rattle.avro_reference.specs.Costs.{passed}
+use Rattle.avro_decode.specs.Growth.{ChildrenGrow}
+use Rattle.avro_decode.proofs.RowSteps.{RowSoFar}
+use Rattle.avro_decode.proofs.whole.decode_whole_row.Given as goal
+
+abbrev pub invariant-loop-i : goal.invariant-loop-i
+invariant-loop-i g l = record {
+  same : g.C.Ahead.whose l.cursor ≡ g.C.Ahead.whose l.fn.cursor;
+  shapes : map shape l.builders ≡ map shape l.fn.builders;
+  tight : All IsTight l.builders;
+  within : l.i ≤ length l.fn.builders;
+  left : drop l.i (kept l.avro_fields l.projection) ≡ kept (drop l.i l.avro_fields) (drop l.i l.projection);
+  reads : RowSoFar g.C.Ahead.rest g.C.Ahead.shown g.C.Ahead.calls l.fn.cursor l.cursor l.i l.i l.avro_fields l.projection (map builder_slots l.fn.builders) (map builder_slots l.builders);
+  forward : MovesForward (g.C.Ahead.rest l.fn.cursor) (g.C.Ahead.rest l.cursor);
+  grows : ChildrenGrow (passed (g.C.Ahead.rest l.fn.cursor) (g.C.Ahead.rest l.cursor)) (kept l.avro_fields l.projection) l.fn.builders l.builders;
+}

@@ -1,0 +1,20 @@
+use Rattle.std.proofs.Common.{◌≡◌, ◌-◌, All, map}
+use Rattle.arrow_builders.specs.MutableArrays.{builder_slots}
+use Rattle.arrow_builders.specs.Shapes.{shape}
+use Rattle.arrow_builders.specs.Tight.{IsTight}
+use Rattle.avro_schema.specs.Number.{MovesForward}
+use Rattle.avro_grammar.specs.ValidBlock.{kept}
+use Rattle.avro_reference.specs.Costs.{passed}
+use Rattle.avro_decode.specs.Growth.{ChildrenGrow}
+use Rattle.avro_decode.proofs.RowSteps.{RowsSoFar}
+use Rattle.avro_decode.proofs.whole.decode_whole_rows.Given as goal
+
+abbrev pub invariant-loop : goal.invariant-loop
+invariant-loop g l = record {
+  same : g.C.Ahead.whose l.cursor ≡ g.C.Ahead.whose l.fn.cursor;
+  shapes : map shape l.builders ≡ map shape l.fn.builders;
+  tight : All IsTight l.builders;
+  reads : RowsSoFar g.C.Ahead.rest g.C.Ahead.shown g.C.Ahead.calls l.fn.cursor l.cursor l.rows (l.rows - l.counter) l.avro_fields l.projection (map builder_slots l.fn.builders) (map builder_slots l.builders);
+  forward : MovesForward (g.C.Ahead.rest l.fn.cursor) (g.C.Ahead.rest l.cursor);
+  grows : ChildrenGrow (passed (g.C.Ahead.rest l.fn.cursor) (g.C.Ahead.rest l.cursor)) (kept l.avro_fields l.projection) l.fn.builders l.builders;
+}
