@@ -26,7 +26,7 @@ fn column_indices(alloc: Global, column: &Array) -> Result<Vec<Option<usize>>> {
 }
 
 /// The bytes of the values of a column of a dictionary over Utf8.
-fn bytes(column: &Array) -> &[u8] {
+pub(crate) fn bytes(column: &Array) -> &[u8] {
     match column {
         Array::Dictionary(array) => match array.values() {
             Array::Utf8(values) => values.values(),

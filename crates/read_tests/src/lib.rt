@@ -9,6 +9,8 @@ mod dictionaries;
 #[cfg(test)]
 mod encoded;
 #[cfg(test)]
+mod lines;
+#[cfg(test)]
 mod numbers;
 #[cfg(test)]
 mod records;
