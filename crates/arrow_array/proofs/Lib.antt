@@ -4,6 +4,7 @@ pub mod DataTypes
 pub mod Dictionaries
 pub mod Fits
 pub mod FixedLists
+pub mod HoldsDictionary
 pub mod Lengths
 pub mod ListSlots
 pub mod Records

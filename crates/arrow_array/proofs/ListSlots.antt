@@ -25,6 +25,9 @@ list_types_are e = ap (λ (c : ListColumn). c.data_type) e
 pub list_items_are : {a b : ListColumn} → a ≡ b → a.items ≡ b.items
 list_items_are e = ap (λ (c : ListColumn). c.items) e
 
+pub list_dictionaries_are : {a b : ListColumn} → a ≡ b → a.dictionaries ≡ b.dictionaries
+list_dictionaries_are e = ap (λ (c : ListColumn). c.dictionaries) e
+
 pub list_offsets_are : {a b : ListColumn} → a ≡ b → a.offsets ≡ b.offsets
 list_offsets_are e = ap (λ (c : ListColumn). c.offsets) e
 

@@ -7,7 +7,7 @@ use Rattle.arrow_types.specs.declared.slot.Slot.{Slot}
 use Rattle.arrow_types.specs.declared.slot.Slot.TheVariants as slot
 use Rattle.arrow_types.specs.Numbers.{slot_of_numbers}
 use Rattle.arrow_bitmap.specs.Bits.{Packed}
-use Rattle.arrow_array.specs.Columns.{Column, ContentColumn}
+use Rattle.arrow_array.specs.Columns.{Column, ContentColumn, NestedColumn}
 use Rattle.arrow_array.specs.Offsets.{offset_at, part}
 use Rattle.arrow_array.specs.Parts.{IsValidityOf}
 use Rattle.arrow_array.specs.Slots.{slot_at, is_held, valid_at, TellsHeld, shown, slots_of, native_at}
@@ -23,6 +23,15 @@ slots_are e = ap (λ (c : Column). c.slots) e
 
 pub types_are : {a b : Column} → a ≡ b → a.data_type ≡ b.data_type
 types_are e = ap (λ (c : Column). c.data_type) e
+
+pub nested_slots_are : {a b : NestedColumn} → a ≡ b → a.slots ≡ b.slots
+nested_slots_are e = ap (λ (c : NestedColumn). c.slots) e
+
+pub nested_types_are : {a b : NestedColumn} → a ≡ b → a.data_type ≡ b.data_type
+nested_types_are e = ap (λ (c : NestedColumn). c.data_type) e
+
+pub nested_dictionaries_are : {a b : NestedColumn} → a ≡ b → a.dictionaries ≡ b.dictionaries
+nested_dictionaries_are e = ap (λ (c : NestedColumn). c.dictionaries) e
 
 pub text_slots_are : {a b : ContentColumn} → a ≡ b → a.slots ≡ b.slots
 text_slots_are e = ap (λ (c : ContentColumn). c.slots) e

@@ -1,5 +1,5 @@
--- The data type, the slots and the validity of an array of any kind.
-use Rattle.std.specs.Prelude.{◌≡◌, List, Option, None}
+-- The data type, the slots, the dictionaries and the validity of an array of any kind.
+use Rattle.std.specs.Prelude.{◌≡◌, List, [], ◌∷◌, ◌++◌, Option, None}
 use Rattle.arrow_types.specs.declared.slot.Slot.{Slot}
 use Rattle.arrow_types.specs.declared.types.DataType.{DataType}
 use Rattle.arrow_bitmap.specs.Bits.{Packed}
@@ -54,6 +54,21 @@ array_slots (LargeList a) = a.slots
 array_slots (FixedSizeList a) = a.slots
 array_slots (Struct a) = a.slots
 array_slots (Dictionary a) = a.slots
+
+-- the dictionaries of an array at every depth, in the order of the fields, but those among a dictionary's values: of each its slots, and
+-- the slots of its values
+abbrev pub dictionaries_of : Array → List (List Slot × List Slot)
+dictionaries_of (ListOf a) = a.dictionaries
+dictionaries_of (LargeList a) = a.dictionaries
+dictionaries_of (FixedSizeList a) = a.dictionaries
+dictionaries_of (Struct a) = a.dictionaries
+dictionaries_of (Dictionary a) = (a.slots, a.items) ∷ []
+dictionaries_of _ = []
+
+-- those of several arrays, one array after another
+abbrev pub all_dictionaries : List Array → List (List Slot × List Slot)
+all_dictionaries [] = []
+all_dictionaries (a ∷ arrays) = dictionaries_of a ++ all_dictionaries arrays
 
 -- a Null array, all of whose slots are null, has no validity; that of a dictionary tells which keys are held, and that of any other array which slots
 abbrev pub TellsValidity : Array → Option Packed → Type 0

@@ -14,6 +14,18 @@ pub record Column : Type 0 where
 abbrev pub column_code : Coded Column
 column_code = code_by (DataType × List Slot) (coded× the_types.the_row.coded (coded_list the_slots.the_row.coded)) (λ c. (c.data_type, c.slots)) (λ p. record { data_type = p.0; slots = p.1 }) (λ _. refl)
 
+abbrev pub dictionaries_code : Coded (List (List Slot × List Slot))
+dictionaries_code = coded_list (coded× (coded_list the_slots.the_row.coded) (coded_list the_slots.the_row.coded))
+
+-- an array of structs or of fixed-size lists: besides, the dictionaries beneath it, of each its slots and the slots of its values
+pub record NestedColumn : Type 0 where
+  pub data_type : DataType
+  pub slots : List Slot
+  pub dictionaries : List (List Slot × List Slot)
+
+abbrev pub nested_column_code : Coded NestedColumn
+nested_column_code = code_by (DataType × (List Slot × List (List Slot × List Slot))) (coded× the_types.the_row.coded (coded× (coded_list the_slots.the_row.coded) dictionaries_code)) (λ c. (c.data_type, (c.slots, c.dictionaries))) (λ p. record { data_type = p.0; slots = p.1.0; dictionaries = p.1.1 }) (λ _. refl)
+
 -- an array of strings or of binary values: besides, the offsets of its slots, and the bytes that they point into
 pub record ContentColumn : Type 0 where
   pub data_type : DataType

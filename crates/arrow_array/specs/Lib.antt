@@ -5,6 +5,7 @@ pub mod Depths
 pub mod Dictionaries
 pub mod Falls
 pub mod FixedLists
+pub mod HoldsDictionary
 pub mod Kinds
 pub mod Lent
 pub mod Lists

@@ -9,18 +9,21 @@ use Rattle.arrow_types.specs.declared.types.Field.{Field}
 use Rattle.arrow_types.specs.contracts.types.DataType as the_types
 use Rattle.arrow_types.specs.contracts.slot.Slot as the_slots
 use Rattle.arrow_bitmap.specs.Bits.{Packed}
+use Rattle.arrow_array.specs.Columns.{dictionaries_code}
 use Rattle.arrow_array.specs.Offsets.{part, IsOffsets}
 use Rattle.arrow_array.specs.Parts.{IsValidityOf}
 
--- an array of lists: besides its type and its slots, the offsets of its slots, and the slots of the child that they point into
+-- an array of lists: besides its type and its slots, the offsets of its slots, the slots of the child that they point into, and the
+-- dictionaries beneath it, of each its slots and the slots of its values
 pub record ListColumn : Type 0 where
   pub data_type : DataType
   pub slots : List Slot
   pub offsets : List ℤ
   pub items : List Slot
+  pub dictionaries : List (List Slot × List Slot)
 
 abbrev pub list_column_code : Coded ListColumn
-list_column_code = code_by (DataType × (List Slot × (List ℤ × List Slot))) (coded× the_types.the_row.coded (coded× (coded_list the_slots.the_row.coded) (coded× (coded_list coded_ℤ) (coded_list the_slots.the_row.coded)))) (λ c. (c.data_type, (c.slots, (c.offsets, c.items)))) (λ p. record { data_type = p.0; slots = p.1.0; offsets = p.1.1.0; items = p.1.1.1 }) (λ _. refl)
+list_column_code = code_by (DataType × (List Slot × (List ℤ × (List Slot × List (List Slot × List Slot))))) (coded× the_types.the_row.coded (coded× (coded_list the_slots.the_row.coded) (coded× (coded_list coded_ℤ) (coded× (coded_list the_slots.the_row.coded) dictionaries_code)))) (λ c. (c.data_type, (c.slots, (c.offsets, (c.items, c.dictionaries))))) (λ p. record { data_type = p.0; slots = p.1.0; offsets = p.1.1.0; items = p.1.1.1.0; dictionaries = p.1.1.1.1 }) (λ _. refl)
 
 -- the list of the child's slots between offset k and the next
 abbrev pub list_at : List ℤ → List Slot → ℕ → Slot

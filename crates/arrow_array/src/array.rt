@@ -1,9 +1,10 @@
 //! An array of any kind.
-ghost use Rattle.std.specs.Prelude.{◌≡◌, ◌+◌, ◌<◌, ◌≤◌, IfOk, length, take, drop, All};
+ghost use Rattle.std.specs.Prelude.{◌≡◌, ◌+◌, ◌<◌, ◌≤◌, false, IfOk, [], length, take, drop, All};
 ghost use Rattle.std.specs.Option.{option_copied};
 ghost use Rattle.arrow_core.specs.Errors.{OnlyOutOfMemory};
 ghost use Rattle.arrow_core.specs.declared.error.Error.TheVariants.{OutOfMemory};
-ghost use Rattle.arrow_array.specs.Arrays.{TellsValidity, array_type, array_slots};
+ghost use Rattle.arrow_array.specs.Arrays.{TellsValidity, array_type, array_slots, dictionaries_of};
+ghost use Rattle.arrow_array.specs.HoldsDictionary.{holds_dictionary};
 ghost use Rattle.arrow_array.specs.Kinds.{array_kind};
 ghost use Rattle.arrow_array.specs.Parts.{IsOfKind};
 ghost use Rattle.arrow_array.specs.SlotTypes.{SlotOf};
@@ -229,6 +230,22 @@ impl Array {
             Array::FixedSizeList(array) => array.slots_are_typed(),
             Array::Struct(array) => array.slots_are_typed(),
             Array::Dictionary(array) => array.slots_are_typed(),
+        }
+    }
+
+    /// Law: an array whose type holds no dictionary holds none. It looks at each child once, and
+    /// changes nothing.
+    #[cycle(plain)]
+    pub fn holds_no_dictionary(&self)
+        ensures { holds_dictionary (array_type self.now) ≡ false → dictionaries_of self.now ≡ [] }
+    {
+        match self {
+            Array::List(array) => array.holds_no_dictionary(),
+            Array::LargeList(array) => array.holds_no_dictionary(),
+            Array::FixedSizeList(array) => array.holds_no_dictionary(),
+            Array::Struct(array) => array.holds_no_dictionary(),
+            Array::Dictionary(array) => array.type_holds_dictionary(),
+            _ => {}
         }
     }
 

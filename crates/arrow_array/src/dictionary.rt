@@ -1,10 +1,11 @@
 //! Values by their indices in an array of values.
-ghost use Rattle.std.specs.Prelude.{◌≡◌, ◌+◌, ◌<◌, ◌≤◌, ◌↔◌, ℕ, IsTrue, IfOk, IfErr, length, map, take, drop, All};
+ghost use Rattle.std.specs.Prelude.{◌≡◌, ◌+◌, ◌<◌, ◌≤◌, ◌↔◌, ℕ, true, IsTrue, IfOk, IfErr, length, map, take, drop, All};
 ghost use Rattle.std.specs.Option.{option_copied};
 ghost use Rattle.arrow_core.specs.Errors.{OnlyOutOfMemory};
 ghost use Rattle.arrow_core.specs.declared.error.Error.TheVariants.{OutOfMemory};
 ghost use Rattle.arrow_array.specs.Arrays.{array_type, array_slots};
 ghost use Rattle.arrow_array.specs.Dictionaries.{DictionaryFits, IsDictionaryOf, IsKeyInto, keys_slots, keys_type, looked_up};
+ghost use Rattle.arrow_array.specs.HoldsDictionary.{holds_dictionary};
 ghost use Rattle.arrow_array.specs.Kinds.{IsDictionaryType, key_type};
 ghost use Rattle.arrow_array.specs.SlotTypes.{SlotOf};
 ghost use Rattle.arrow_array.specs.Slots.{TellsHeld, is_held, slot_at};
@@ -208,6 +209,14 @@ impl DictionaryArray {
         ensures { All (SlotOf self.now.data_type) self.now.slots }
     {
         self.values.get().slots_are_typed();
+    }
+
+    /// Tells that its type holds a dictionary.
+    pub(crate) fn type_holds_dictionary(&self)
+        ensures { holds_dictionary self.now.data_type ≡ true }
+    {
+        // The type is that of a dictionary.
+        let _ = &self.data_type;
     }
 
     /// The `count` slots from index `offset` on, over the same values. It shares the buffers.

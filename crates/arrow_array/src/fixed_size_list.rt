@@ -1,11 +1,12 @@
 //! Lists of one size.
-ghost use Rattle.std.specs.Prelude.{◌≡◌, ◌+◌, ◌*◌, ◌/◌, ◌<◌, ◌≤◌, ◌↔◌, ℕ, IsTrue, IfOk, IfErr, length, take, drop, All};
+ghost use Rattle.std.specs.Prelude.{◌≡◌, ◌+◌, ◌*◌, ◌/◌, ◌<◌, ◌≤◌, ◌↔◌, ℕ, false, IsTrue, IfOk, IfErr, [], length, take, drop, All};
 ghost use Rattle.std.specs.Option.{option_copied};
 ghost use Rattle.arrow_core.specs.Errors.{OnlyOutOfMemory};
 ghost use Rattle.arrow_core.specs.declared.error.Error.TheVariants.{OutOfMemory};
 ghost use Rattle.arrow_types.specs.declared.slot.Slot.TheVariants.{List as ListSlot};
-ghost use Rattle.arrow_array.specs.Arrays.{array_type, array_slots};
+ghost use Rattle.arrow_array.specs.Arrays.{array_type, array_slots, dictionaries_of};
 ghost use Rattle.arrow_array.specs.FixedLists.{FixedListFits, IsFixedListOf, fixed_list_at, list_size};
+ghost use Rattle.arrow_array.specs.HoldsDictionary.{holds_dictionary};
 ghost use Rattle.arrow_array.specs.Kinds.{IsFixedListType};
 ghost use Rattle.arrow_array.specs.Lent.{IsPart, part_slots};
 ghost use Rattle.arrow_array.specs.SlotTypes.{SlotOf};
@@ -37,19 +38,20 @@ pub struct FixedSizeListArray {
 impl Model for FixedSizeListArray {
     ghost use Rattle.std.specs.Prelude.{◌/◌, length};
     ghost use Rattle.arrow_types.specs.declared.types.DataType.{size-DataType};
-    ghost use Rattle.arrow_array.specs.Columns.{Column, column_code};
+    ghost use Rattle.arrow_array.specs.Columns.{NestedColumn, nested_column_code};
     ghost use Rattle.arrow_array.specs.FixedLists.{FixedListParts, fixed_list_at, list_size};
     ghost use Rattle.arrow_array.specs.Slots.{slots_of};
 
-    ghost Value = { Column };
+    ghost Value = { NestedColumn };
 
-    ghost coded = { column_code };
+    ghost coded = { nested_column_code };
 
-    ghost use Rattle.arrow_array.specs.Arrays.{array_type, array_slots};
+    ghost use Rattle.arrow_array.specs.Arrays.{array_type, array_slots, dictionaries_of};
 
     ghost view = { λ a. record {
       data_type = a.data_type;
       slots = slots_of (fixed_list_at (list_size a.data_type) (array_slots a.values)) a.validity 0 (length (array_slots a.values) / list_size a.data_type);
+      dictionaries = dictionaries_of a.values;
     } };
 
     ghost invariant = { λ a. FixedListParts a.data_type (array_type a.values) (length (array_slots a.values)) a.validity a.size a.count };
@@ -119,6 +121,7 @@ impl FixedSizeListArray {
             (λ a. a.slots
             ≡ slots_of (fixed_list_at (list_size data_type) (array_slots values)) validity 0
             (length (array_slots values) / list_size data_type)) }
+        ensures dictionaries { IfOk result (λ a. a.dictionaries ≡ dictionaries_of values) }
         ensures fits { IfOk result
             (λ _. FixedListFits data_type (array_type values) (length (array_slots values))
             validity) }
@@ -200,6 +203,7 @@ impl FixedSizeListArray {
             → IsTrue (is_held (slot_at self.now.slots k))
             → slot_at self.now.slots k
             ≡ fixed_list_at (list_size self.now.data_type) (array_slots result.now) k }
+        ensures dictionaries { dictionaries_of result.now ≡ self.now.dictionaries }
     {
         self.values.get()
     }
@@ -210,6 +214,14 @@ impl FixedSizeListArray {
         ensures { All (SlotOf self.now.data_type) self.now.slots }
     {
         self.values.get().slots_are_typed();
+    }
+
+    /// Tells that it holds no dictionary where its type holds none.
+    #[cycle(plain)]
+    pub(crate) fn holds_no_dictionary(&self)
+        ensures { holds_dictionary self.now.data_type ≡ false → self.now.dictionaries ≡ [] }
+    {
+        self.values.get().holds_no_dictionary();
     }
 
     /// The `count` slots from index `offset` on, and of the child the slots that they need. It

@@ -1,10 +1,11 @@
 //! Lists with offsets of 32 bits, or of 64.
-ghost use Rattle.std.specs.Prelude.{◌≡◌, ℕ, ◌+◌, ◌-◌, ◌<◌, ◌≤◌, ◌↔◌, false, true, IsTrue, IfOk, IfErr, length, map, take, drop, vec_len, All};
+ghost use Rattle.std.specs.Prelude.{◌≡◌, ℕ, ◌+◌, ◌-◌, ◌<◌, ◌≤◌, ◌↔◌, false, true, IsTrue, IfOk, IfErr, [], length, map, take, drop, vec_len, All};
 ghost use Rattle.std.specs.Option.{option_copied};
 ghost use Rattle.arrow_core.specs.Errors.{OnlyOutOfMemory};
 ghost use Rattle.arrow_core.specs.declared.error.Error.TheVariants.{OutOfMemory};
 ghost use Rattle.arrow_types.specs.declared.slot.Slot.TheVariants.{List as ListSlot};
-ghost use Rattle.arrow_array.specs.Arrays.{array_type, array_slots};
+ghost use Rattle.arrow_array.specs.Arrays.{array_type, array_slots, dictionaries_of};
+ghost use Rattle.arrow_array.specs.HoldsDictionary.{holds_dictionary};
 ghost use Rattle.arrow_array.specs.Kinds.{IsListType};
 ghost use Rattle.arrow_array.specs.Lent.{IsPart, part_slots};
 ghost use Rattle.arrow_array.specs.Lists.{IsListOf, ListFits, list_at};
@@ -47,13 +48,14 @@ impl Model for ListArray {
 
     ghost coded = { list_column_code };
 
-    ghost use Rattle.arrow_array.specs.Arrays.{array_type, array_slots};
+    ghost use Rattle.arrow_array.specs.Arrays.{array_type, array_slots, dictionaries_of};
 
     ghost view = { λ a. record {
       data_type = a.data_type;
       slots = slots_of (list_at a.offsets (array_slots a.values)) a.validity 0 (length a.offsets - 1);
       offsets = a.offsets;
       items = array_slots a.values;
+      dictionaries = dictionaries_of a.values;
     } };
 
     ghost invariant = { λ a. ListFits false a.data_type (array_type a.values) a.offsets (array_slots a.values) a.validity };
@@ -86,13 +88,14 @@ impl Model for LargeListArray {
 
     ghost coded = { list_column_code };
 
-    ghost use Rattle.arrow_array.specs.Arrays.{array_type, array_slots};
+    ghost use Rattle.arrow_array.specs.Arrays.{array_type, array_slots, dictionaries_of};
 
     ghost view = { λ a. record {
       data_type = a.data_type;
       slots = slots_of (list_at a.offsets (array_slots a.values)) a.validity 0 (length a.offsets - 1);
       offsets = a.offsets;
       items = array_slots a.values;
+      dictionaries = dictionaries_of a.values;
     } };
 
     ghost invariant = { λ a. ListFits true a.data_type (array_type a.values) a.offsets (array_slots a.values) a.validity };
@@ -174,6 +177,7 @@ impl ListArray {
             (vec_len offsets - 1)) }
         ensures offsets { IfOk result (λ a. a.offsets ≡ offsets.items) }
         ensures items { IfOk result (λ a. a.items ≡ array_slots values) }
+        ensures dictionaries { IfOk result (λ a. a.dictionaries ≡ dictionaries_of values) }
         ensures fits { IfOk result
             (λ _. ListFits false data_type (array_type values) offsets.items (array_slots values)
             validity) }
@@ -228,6 +232,7 @@ impl ListArray {
     pub fn values(&self) -> &Array
         ensures data_type { IsListOf false self.now.data_type (array_type result.now) }
         ensures items { array_slots result.now ≡ self.now.items }
+        ensures dictionaries { dictionaries_of result.now ≡ self.now.dictionaries }
     {
         self.values.get()
     }
@@ -265,6 +270,14 @@ impl ListArray {
     {
         tell_offset_ranges(self.offsets.as_slice());
         self.values.get().slots_are_typed();
+    }
+
+    /// Tells that it holds no dictionary where its type holds none.
+    #[cycle(plain)]
+    pub(crate) fn holds_no_dictionary(&self)
+        ensures { holds_dictionary self.now.data_type ≡ false → self.now.dictionaries ≡ [] }
+    {
+        self.values.get().holds_no_dictionary();
     }
 
     /// The `count` slots from index `offset` on. It shares the offsets and the buffers of the
@@ -318,6 +331,7 @@ impl LargeListArray {
             (vec_len offsets - 1)) }
         ensures offsets { IfOk result (λ a. a.offsets ≡ offsets.items) }
         ensures items { IfOk result (λ a. a.items ≡ array_slots values) }
+        ensures dictionaries { IfOk result (λ a. a.dictionaries ≡ dictionaries_of values) }
         ensures fits { IfOk result
             (λ _. ListFits true data_type (array_type values) offsets.items (array_slots values)
             validity) }
@@ -372,6 +386,7 @@ impl LargeListArray {
     pub fn values(&self) -> &Array
         ensures data_type { IsListOf true self.now.data_type (array_type result.now) }
         ensures items { array_slots result.now ≡ self.now.items }
+        ensures dictionaries { dictionaries_of result.now ≡ self.now.dictionaries }
     {
         self.values.get()
     }
@@ -409,6 +424,14 @@ impl LargeListArray {
     {
         tell_offset_ranges(self.offsets.as_slice());
         self.values.get().slots_are_typed();
+    }
+
+    /// Tells that it holds no dictionary where its type holds none.
+    #[cycle(plain)]
+    pub(crate) fn holds_no_dictionary(&self)
+        ensures { holds_dictionary self.now.data_type ≡ false → self.now.dictionaries ≡ [] }
+    {
+        self.values.get().holds_no_dictionary();
     }
 
     /// The `count` slots from index `offset` on. It shares the offsets and the buffers of the

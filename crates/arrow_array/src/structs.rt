@@ -1,9 +1,10 @@
 //! Structs.
-ghost use Rattle.std.specs.Prelude.{◌≡◌, ℕ, ◌+◌, ◌<◌, ◌≤◌, ◌↔◌, IsTrue, IfOk, IfErr, length, map, take, drop, All};
+ghost use Rattle.std.specs.Prelude.{◌≡◌, ℕ, ◌+◌, ◌<◌, ◌≤◌, ◌↔◌, false, IsTrue, IfOk, IfErr, [], length, map, take, drop, All};
 ghost use Rattle.std.specs.Option.{option_copied};
 ghost use Rattle.arrow_core.specs.Errors.{OnlyOutOfMemory};
 ghost use Rattle.arrow_core.specs.declared.error.Error.TheVariants.{OutOfMemory};
-ghost use Rattle.arrow_array.specs.Arrays.{array_type, array_slots};
+ghost use Rattle.arrow_array.specs.Arrays.{array_type, array_slots, all_dictionaries};
+ghost use Rattle.arrow_array.specs.HoldsDictionary.{HoldsNone, holds_dictionary};
 ghost use Rattle.arrow_array.specs.Kinds.{IsStructType};
 ghost use Rattle.arrow_array.specs.SlotTypes.{IsTyped, SlotOf};
 ghost use Rattle.arrow_array.specs.Slots.{TellsHeld, is_held, slot_at, slots_of};
@@ -33,19 +34,20 @@ pub struct StructArray {
 impl Model for StructArray {
     ghost use Rattle.std.specs.Prelude.{map};
     ghost use Rattle.arrow_types.specs.declared.types.DataType.{size-DataType};
-    ghost use Rattle.arrow_array.specs.Columns.{Column, column_code};
+    ghost use Rattle.arrow_array.specs.Columns.{NestedColumn, nested_column_code};
     ghost use Rattle.arrow_array.specs.Slots.{slots_of};
 
-    ghost Value = { Column };
+    ghost Value = { NestedColumn };
 
-    ghost coded = { column_code };
+    ghost coded = { nested_column_code };
 
-    ghost use Rattle.arrow_array.specs.Arrays.{array_slots};
+    ghost use Rattle.arrow_array.specs.Arrays.{array_slots, all_dictionaries};
     ghost use Rattle.arrow_array.specs.Structs.{StructParts, record_at};
 
     ghost view = { λ a. record {
       data_type = a.data_type;
       slots = slots_of (record_at (map array_slots a.values.items)) a.validity 0 a.count;
+      dictionaries = all_dictionaries a.values.items;
     } };
 
     ghost invariant = { λ a. StructParts a.data_type a.values.items a.count a.validity };
@@ -119,6 +121,8 @@ impl StructArray {
             (λ a. a.slots
             ≡ slots_of (record_at (map array_slots values.items)) validity 0
             (first_len values.items)) }
+        ensures dictionaries { IfOk result
+            (λ a. a.dictionaries ≡ all_dictionaries values.items) }
         ensures fits { IfOk result (λ _. StructFits data_type values.items validity) }
         ensures err { IfErr result (IsRefusalOf (StructFits data_type values.items validity)) }
     {
@@ -158,6 +162,7 @@ impl StructArray {
         ensures slots { (k : ℕ) → k < length self.now.slots
             → IsTrue (is_held (slot_at self.now.slots k))
             → slot_at self.now.slots k ≡ record_at (map array_slots result.now) k }
+        ensures dictionaries { all_dictionaries result.now ≡ self.now.dictionaries }
     {
         self.values.as_slice()
     }
@@ -183,6 +188,14 @@ impl StructArray {
         ensures { All (SlotOf self.now.data_type) self.now.slots }
     {
         all_are_typed(self.values.as_slice());
+    }
+
+    /// Tells that it holds no dictionary where its type holds none.
+    #[cycle(plain)]
+    pub(crate) fn holds_no_dictionary(&self)
+        ensures { holds_dictionary self.now.data_type ≡ false → self.now.dictionaries ≡ [] }
+    {
+        all_hold_no_dictionary(self.values.as_slice());
     }
 
     /// The `count` slots from index `offset` on, those of each child. It shares the children's
@@ -231,5 +244,15 @@ fn all_are_typed(arrays: &[Array])
 {
     for array in arrays {
         array.slots_are_typed();
+    }
+}
+
+/// Tells of each array that it holds no dictionary where its type holds none.
+#[cycle(plain)]
+fn all_hold_no_dictionary(arrays: &[Array])
+    ensures { All HoldsNone arrays.now }
+{
+    for array in arrays {
+        array.holds_no_dictionary();
     }
 }

@@ -3,7 +3,7 @@ use denote.Param.Weighed.{most}
 use Rattle.std.proofs.Common.{[], ◌∷◌, ◌≡◌, ◌+◌, ◌*◌, ◌<◌, arith, add-one, length, take, drop}
 use Rattle.arrow_types.specs.declared.types.DataType.{size-DataType}
 use Rattle.arrow_array.specs.Arrays.{array_slots, array_type}
-use Rattle.arrow_array.specs.Columns.{Column}
+use Rattle.arrow_array.specs.Columns.{NestedColumn}
 use Rattle.arrow_array.specs.Dictionaries.{keys_slots}
 use Rattle.arrow_array.specs.FixedLists.{list_size}
 use Rattle.arrow_array.specs.Falls.{fixed_list_falls, struct_falls, sizes_below}
@@ -13,7 +13,7 @@ use Rattle.arrow_array.proofs.Dictionaries.{dictionary_slots_are, dictionary_typ
 use Rattle.arrow_array.proofs.FixedLists.{count_fixed, cut_fixed, cut_fixed_parts}
 use Rattle.arrow_array.proofs.ListSlots.{list_slots_are, list_types_are, list_offsets_are, list_items_are, count_lists, cut_list_parts, cut_lists, whole}
 use Rattle.arrow_array.proofs.Records.{count_records, cut_struct, cut_records, one_more_cut, capacity}
-use Rattle.arrow_array.proofs.Windows.{slots_are, types_are}
+use Rattle.arrow_array.proofs.Windows.{nested_slots_are, nested_types_are}
 use Rattle.arrow_array.proofs.+slices.Goals as goal
 
 pub list::ListArray::slice-slice_with_type-parts-requires-clause-fits : goal.list::ListArray::slice-slice_with_type-parts-requires-clause-fits
@@ -121,20 +121,20 @@ list::LargeListArray::slice-returns-clause-items t c =
     slots ∙ whole _ _ c.len.ensures ∙ ap array_slots c.get-child.ensures ∙ list_items_are c.self.view_is
 
 pub structs::StructArray::slice-slice_with_type-parts-requires-clause-within : goal.structs::StructArray::slice-slice_with_type-parts-requires-clause-within
-structs::StructArray::slice-slice_with_type-parts-requires-clause-within t c = omega (arith, c.requires, count_records c.self.invariant (slots_are c.self.view_is))
+structs::StructArray::slice-slice_with_type-parts-requires-clause-within t c = omega (arith, c.requires, count_records c.self.invariant (nested_slots_are c.self.view_is))
 
 pub structs::StructArray::slice-slice_all-values-requires : goal.structs::StructArray::slice-slice_all-values-requires
 structs::StructArray::slice-slice_all-values-requires t c =
-    let n = count_records c.self.invariant (slots_are c.self.view_is) in
+    let n = count_records c.self.invariant (nested_slots_are c.self.view_is) in
     let d = c.decreases in
     let k = struct_falls c.self.inside.data_type c.self.inside.values.items c.self.inside.count c.self.invariant.kind in (
-      omega (arith, d, k, ap (λ z. most size-Array z) c.as_slice.ensures.value, ap (λ z. most deep-Array z) c.as_slice.ensures.value, ap (λ (a : Column). size-DataType a.data_type) c.self.view_is, sizes_below c.self.inside.values.items),
+      omega (arith, d, k, ap (λ z. most size-Array z) c.as_slice.ensures.value, ap (λ z. most deep-Array z) c.as_slice.ensures.value, ap (λ (a : NestedColumn). size-DataType a.data_type) c.self.view_is, sizes_below c.self.inside.values.items),
       rw c.as_slice.ensures.value (capacity _ _ _ _ c.self.invariant.kind (omega (arith, n, c.requires))),
     )
 
 pub structs::StructArray::slice-invariant_of-result : goal.structs::StructArray::slice-invariant_of-result
 structs::StructArray::slice-invariant_of-result t c =
-    let n = count_records c.self.invariant (slots_are c.self.view_is) in
+    let n = count_records c.self.invariant (nested_slots_are c.self.view_is) in
     let cuts = rw (c.in_ok-values.ensures.first, c.as_slice.ensures.value) at c.slice_all-values.ensures.cuts in
     let data_type = rw c.in_ok-values.ensures.second at c.slice_with_type-parts.ensures.data_type in
     let cut = rw c.in_ok-values.ensures.second at c.slice_with_type-parts.ensures.cut in
@@ -143,14 +143,14 @@ structs::StructArray::slice-invariant_of-result t c =
 pub structs::StructArray::slice-returns-clause-data_type : goal.structs::StructArray::slice-returns-clause-data_type
 structs::StructArray::slice-returns-clause-data_type t c =
     let data_type = rw c.in_ok-values.ensures.second at c.slice_with_type-parts.ensures.data_type in
-    data_type ∙ types_are c.self.view_is
+    data_type ∙ nested_types_are c.self.view_is
 
 pub structs::StructArray::slice-returns-clause-slots : goal.structs::StructArray::slice-returns-clause-slots
 structs::StructArray::slice-returns-clause-slots t c =
-    let n = count_records c.self.invariant (slots_are c.self.view_is) in
+    let n = count_records c.self.invariant (nested_slots_are c.self.view_is) in
     let cuts = rw (c.in_ok-values.ensures.first, c.as_slice.ensures.value) at c.slice_all-values.ensures.cuts in
     let cut = rw c.in_ok-values.ensures.second at c.slice_with_type-parts.ensures.cut in
-    cut_records c.self.inside.data_type c.self.inside.count c.args.offset c.args.count c.self.inside.values.items c.in_ok-values.values.items _ c.in_ok-values.validity _ c.self.invariant (slots_are c.self.view_is) (omega (arith, n, c.requires)) cuts cut
+    cut_records c.self.inside.data_type c.self.inside.count c.args.offset c.args.count c.self.inside.values.items c.in_ok-values.values.items _ c.in_ok-values.validity _ c.self.invariant (nested_slots_are c.self.view_is) (omega (arith, n, c.requires)) cuts cut
 
 pub structs::slice_all-loop-array-preserved : goal.structs::slice_all-loop-array-preserved
 structs::slice_all-loop-array-preserved t c =
@@ -160,32 +160,32 @@ pub fixed_size_list::FixedSizeListArray::slice-slice_with_type-parts-requires-cl
 fixed_size_list::FixedSizeListArray::slice-slice_with_type-parts-requires-clause-fits t c = rw c.self.invariant.count_is c.self.invariant.fits.validity_fits
 
 pub fixed_size_list::FixedSizeListArray::slice-slice_with_type-parts-requires-clause-within : goal.fixed_size_list::FixedSizeListArray::slice-slice_with_type-parts-requires-clause-within
-fixed_size_list::FixedSizeListArray::slice-slice_with_type-parts-requires-clause-within t c = omega (arith, c.requires, count_fixed (array_slots c.self.inside.values) c.self.invariant (slots_are c.self.view_is))
+fixed_size_list::FixedSizeListArray::slice-slice_with_type-parts-requires-clause-within t c = omega (arith, c.requires, count_fixed (array_slots c.self.inside.values) c.self.invariant (nested_slots_are c.self.view_is))
 
 pub fixed_size_list::FixedSizeListArray::slice-overflow_mul-offset : goal.fixed_size_list::FixedSizeListArray::slice-overflow_mul-offset
 fixed_size_list::FixedSizeListArray::slice-overflow_mul-offset t c =
-    let n = count_fixed (array_slots c.self.inside.values) c.self.invariant (slots_are c.self.view_is) in
+    let n = count_fixed (array_slots c.self.inside.values) c.self.invariant (nested_slots_are c.self.view_is) in
     let b = bytes_within c.args.offset c.args.count (list_size c.self.inside.data_type) (length (array_slots c.self.inside.values)) (omega (arith, n, c.requires, c.self.invariant.count_is)) in
     rw c.self.invariant.size_is (omega (arith, b, c.self.invariant.bounded))
 
 pub fixed_size_list::FixedSizeListArray::slice-overflow_mul-count : goal.fixed_size_list::FixedSizeListArray::slice-overflow_mul-count
 fixed_size_list::FixedSizeListArray::slice-overflow_mul-count t c =
-    let n = count_fixed (array_slots c.self.inside.values) c.self.invariant (slots_are c.self.view_is) in
+    let n = count_fixed (array_slots c.self.inside.values) c.self.invariant (nested_slots_are c.self.view_is) in
     let b = bytes_within c.args.offset c.args.count (list_size c.self.inside.data_type) (length (array_slots c.self.inside.values)) (omega (arith, n, c.requires, c.self.invariant.count_is)) in
     rw c.self.invariant.size_is (omega (arith, b, c.self.invariant.bounded))
 
 pub fixed_size_list::FixedSizeListArray::slice-slice-requires : goal.fixed_size_list::FixedSizeListArray::slice-slice-requires
 fixed_size_list::FixedSizeListArray::slice-slice-requires t c =
-    let n = count_fixed (array_slots c.self.inside.values) c.self.invariant (slots_are c.self.view_is) in
+    let n = count_fixed (array_slots c.self.inside.values) c.self.invariant (nested_slots_are c.self.view_is) in
     let d = c.decreases in
     let k = fixed_list_falls c.self.inside.data_type c.self.inside.values c.self.invariant.fits.kind in (
-      omega (arith, d, k, ap size-Array c.get-child.ensures, ap deep-Array c.get-child.ensures, ap (λ (a : Column). size-DataType a.data_type) c.self.view_is, sizes_below (c.self.inside.values ∷ [])),
+      omega (arith, d, k, ap size-Array c.get-child.ensures, ap deep-Array c.get-child.ensures, ap (λ (a : NestedColumn). size-DataType a.data_type) c.self.view_is, sizes_below (c.self.inside.values ∷ [])),
       rw (c.get-child.ensures, c.self.invariant.size_is) (bytes_within c.args.offset c.args.count (list_size c.self.inside.data_type) (length (array_slots c.self.inside.values)) (omega (arith, n, c.requires, c.self.invariant.count_is))),
     )
 
 pub fixed_size_list::FixedSizeListArray::slice-invariant_of-result : goal.fixed_size_list::FixedSizeListArray::slice-invariant_of-result
 fixed_size_list::FixedSizeListArray::slice-invariant_of-result t c =
-    let n = count_fixed (array_slots c.self.inside.values) c.self.invariant (slots_are c.self.view_is) in
+    let n = count_fixed (array_slots c.self.inside.values) c.self.invariant (nested_slots_are c.self.view_is) in
     let child = rw c.in_ok-values.ensures.first at c.boxed-values.ensures.value in
     let slots = rw child at c.slice.ensures.slots in
     let items = slots ∙ ap (λ a. take (c.args.count * c.self.inside.size) (drop (c.args.offset * c.self.inside.size) (array_slots a))) c.get-child.ensures in
@@ -197,18 +197,18 @@ fixed_size_list::FixedSizeListArray::slice-invariant_of-result t c =
 
 pub fixed_size_list::FixedSizeListArray::slice-returns-clause-slots : goal.fixed_size_list::FixedSizeListArray::slice-returns-clause-slots
 fixed_size_list::FixedSizeListArray::slice-returns-clause-slots t c =
-    let n = count_fixed (array_slots c.self.inside.values) c.self.invariant (slots_are c.self.view_is) in
+    let n = count_fixed (array_slots c.self.inside.values) c.self.invariant (nested_slots_are c.self.view_is) in
     let child = rw c.in_ok-values.ensures.first at c.boxed-values.ensures.value in
     let slots = rw child at c.slice.ensures.slots in
     let items = slots ∙ ap (λ a. take (c.args.count * c.self.inside.size) (drop (c.args.offset * c.self.inside.size) (array_slots a))) c.get-child.ensures in
     let data_type = rw c.in_ok-values.ensures.second at c.slice_with_type-parts.ensures.data_type in
     let cut = rw c.in_ok-values.ensures.second at c.slice_with_type-parts.ensures.cut in
-    cut_fixed _ (array_type c.self.inside.values) (array_slots c.self.inside.values) _ _ _ c.self.invariant c.args.offset c.args.count (omega (arith, n, c.requires)) c.in_ok-values.validity cut (array_slots c.in_ok-values.values) items _ _ data_type (slots_are c.self.view_is)
+    cut_fixed _ (array_type c.self.inside.values) (array_slots c.self.inside.values) _ _ _ c.self.invariant c.args.offset c.args.count (omega (arith, n, c.requires)) c.in_ok-values.validity cut (array_slots c.in_ok-values.values) items _ _ data_type (nested_slots_are c.self.view_is)
 
 pub fixed_size_list::FixedSizeListArray::slice-returns-clause-data_type : goal.fixed_size_list::FixedSizeListArray::slice-returns-clause-data_type
 fixed_size_list::FixedSizeListArray::slice-returns-clause-data_type t c =
     let data_type = rw c.in_ok-values.ensures.second at c.slice_with_type-parts.ensures.data_type in
-    data_type ∙ types_are c.self.view_is
+    data_type ∙ nested_types_are c.self.view_is
 
 pub dictionary::DictionaryArray::slice-slice-requires-2 : goal.dictionary::DictionaryArray::slice-slice-requires-2
 dictionary::DictionaryArray::slice-slice-requires-2 t c = omega (arith, c.requires, count_keys _ _ _ (dictionary_slots_are c.self.view_is))

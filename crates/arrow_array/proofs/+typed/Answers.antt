@@ -4,7 +4,7 @@ use Rattle.arrow_array.specs.Dictionaries.{keys_slots}
 use Rattle.arrow_array.proofs.Dictionaries.{dictionary_slots_are, dictionary_types_are}
 use Rattle.arrow_array.proofs.ListSlots.{list_slots_are, list_types_are}
 use Rattle.arrow_array.proofs.Typed.{dictionary_typed, fixed_lists_typed, lists_typed, structs_typed}
-use Rattle.arrow_array.proofs.Windows.{slots_are, types_are}
+use Rattle.arrow_array.proofs.Windows.{nested_slots_are, nested_types_are}
 use Rattle.arrow_array.proofs.+typed.Goals as goal
 
 pub list::ListArray::slots_are_typed-returns : goal.list::ListArray::slots_are_typed-returns
@@ -22,12 +22,12 @@ list::LargeListArray::slots_are_typed-returns t c =
 pub fixed_size_list::FixedSizeListArray::slots_are_typed-returns : goal.fixed_size_list::FixedSizeListArray::slots_are_typed-returns
 fixed_size_list::FixedSizeListArray::slots_are_typed-returns t c =
     let child = rw c.get.ensures at c.slots_are_typed.ensures in
-    rw (← types_are c.self.view_is) (fixed_lists_typed (array_slots c.self.inside.values) c.self.invariant (slots_are c.self.view_is) child)
+    rw (← nested_types_are c.self.view_is) (fixed_lists_typed (array_slots c.self.inside.values) c.self.invariant (nested_slots_are c.self.view_is) child)
 
 pub structs::StructArray::slots_are_typed-returns : goal.structs::StructArray::slots_are_typed-returns
 structs::StructArray::slots_are_typed-returns t c =
     let children = rw c.as_slice.ensures.value at c.all_are_typed.ensures in
-    rw (← types_are c.self.view_is) (structs_typed c.self.invariant (slots_are c.self.view_is) children)
+    rw (← nested_types_are c.self.view_is) (structs_typed c.self.invariant (nested_slots_are c.self.view_is) children)
 
 pub dictionary::DictionaryArray::slots_are_typed-returns : goal.dictionary::DictionaryArray::slots_are_typed-returns
 dictionary::DictionaryArray::slots_are_typed-returns t c =

@@ -4,7 +4,7 @@ use Rattle.std.proofs.lemmas.List.{length-set, map-id}
 use Rattle.std.proofs.lemmas.List.Elements.{All-cons}
 use Rattle.arrow_core.specs.declared.error.Error.TheVariants.{OutOfMemory}
 use Rattle.arrow_array.specs.Arrays.{array_type, array_slots}
-use Rattle.arrow_array.specs.Columns.{Column}
+use Rattle.arrow_array.specs.Columns.{NestedColumn}
 use Rattle.arrow_array.specs.FixedLists.{FixedListFits}
 use Rattle.arrow_array.specs.Lists.{ListColumn, ListFits}
 use Rattle.arrow_array.specs.Parts.{IsRefusalOf}
@@ -77,7 +77,7 @@ array::MutableArray::box_nodes-returns-in-Ok-as_box-2 t c =
     let x = FixedSizeList c.in-FixedSizeList.builder in
     let a = c.in-Ok-as_box-2.array in
     told (λ x y. Boxes array_type array_slots x y (Ok (array.FixedSizeList a))) c.args.self.now _ x n c.in-FixedSizeList.is (search rules)
-    (boxed_as (λ (a : Column). a.data_type) (λ (a : Column). a.slots) array_type array_slots x n a (array.FixedSizeList a) refl refl (subst (λ (b : MutableFixedSizeListArray). Boxes (λ (a : Column). a.data_type) (λ (a : Column). a.slots) (FixedSizeList b) n (Ok a)) c.in-FixedSizeList.builder-is c.in-Ok-as_box-2.ensures))
+    (boxed_as (λ (a : NestedColumn). a.data_type) (λ (a : NestedColumn). a.slots) array_type array_slots x n a (array.FixedSizeList a) refl refl (subst (λ (b : MutableFixedSizeListArray). Boxes (λ (a : NestedColumn). a.data_type) (λ (a : NestedColumn). a.slots) (FixedSizeList b) n (Ok a)) c.in-FixedSizeList.builder-is c.in-Ok-as_box-2.ensures))
 
 pub array::MutableArray::box_nodes-returns-in-Err-as_box-2 : goal.array::MutableArray::box_nodes-returns-in-Err-as_box-2
 array::MutableArray::box_nodes-returns-in-Err-as_box-2 t c =
@@ -85,7 +85,7 @@ array::MutableArray::box_nodes-returns-in-Err-as_box-2 t c =
     let x = FixedSizeList c.in-FixedSizeList.builder in
     let a = c.in-Err-as_box-2.error in
     told (λ x y. Boxes array_type array_slots x y (Err a)) c.args.self.now _ x n c.in-FixedSizeList.is (search rules)
-    (refused_as (λ (a : Column). a.data_type) (λ (a : Column). a.slots) array_type array_slots x n a (subst (λ (b : MutableFixedSizeListArray). Boxes (λ (a : Column). a.data_type) (λ (a : Column). a.slots) (FixedSizeList b) n (Err a)) c.in-FixedSizeList.builder-is c.in-Err-as_box-2.ensures))
+    (refused_as (λ (a : NestedColumn). a.data_type) (λ (a : NestedColumn). a.slots) array_type array_slots x n a (subst (λ (b : MutableFixedSizeListArray). Boxes (λ (a : NestedColumn). a.data_type) (λ (a : NestedColumn). a.slots) (FixedSizeList b) n (Err a)) c.in-FixedSizeList.builder-is c.in-Err-as_box-2.ensures))
 
 pub array::MutableArray::box_nodes-returns-in-Ok-as_box-3 : goal.array::MutableArray::box_nodes-returns-in-Ok-as_box-3
 array::MutableArray::box_nodes-returns-in-Ok-as_box-3 t c =
@@ -93,7 +93,7 @@ array::MutableArray::box_nodes-returns-in-Ok-as_box-3 t c =
     let x = Struct c.in-Struct.builder in
     let a = c.in-Ok-as_box-3.array in
     told (λ x y. Boxes array_type array_slots x y (Ok (array.Struct a))) c.args.self.now _ x n c.in-Struct.is (search rules)
-    (boxed_as (λ (a : Column). a.data_type) (λ (a : Column). a.slots) array_type array_slots x n a (array.Struct a) refl refl (subst (λ (b : DynMutableStructArray). Boxes (λ (a : Column). a.data_type) (λ (a : Column). a.slots) (Struct b) n (Ok a)) c.in-Struct.builder-is c.in-Ok-as_box-3.ensures))
+    (boxed_as (λ (a : NestedColumn). a.data_type) (λ (a : NestedColumn). a.slots) array_type array_slots x n a (array.Struct a) refl refl (subst (λ (b : DynMutableStructArray). Boxes (λ (a : NestedColumn). a.data_type) (λ (a : NestedColumn). a.slots) (Struct b) n (Ok a)) c.in-Struct.builder-is c.in-Ok-as_box-3.ensures))
 
 pub array::MutableArray::box_nodes-returns-in-Err-as_box-3 : goal.array::MutableArray::box_nodes-returns-in-Err-as_box-3
 array::MutableArray::box_nodes-returns-in-Err-as_box-3 t c =
@@ -101,7 +101,7 @@ array::MutableArray::box_nodes-returns-in-Err-as_box-3 t c =
     let x = Struct c.in-Struct.builder in
     let a = c.in-Err-as_box-3.error in
     told (λ x y. Boxes array_type array_slots x y (Err a)) c.args.self.now _ x n c.in-Struct.is (search rules)
-    (refused_as (λ (a : Column). a.data_type) (λ (a : Column). a.slots) array_type array_slots x n a (subst (λ (b : DynMutableStructArray). Boxes (λ (a : Column). a.data_type) (λ (a : Column). a.slots) (Struct b) n (Err a)) c.in-Struct.builder-is c.in-Err-as_box-3.ensures))
+    (refused_as (λ (a : NestedColumn). a.data_type) (λ (a : NestedColumn). a.slots) array_type array_slots x n a (subst (λ (b : DynMutableStructArray). Boxes (λ (a : NestedColumn). a.data_type) (λ (a : NestedColumn). a.slots) (Struct b) n (Err a)) c.in-Struct.builder-is c.in-Err-as_box-3.ensures))
 
 pub list::DynMutableListArray::as_box-returns-in_err-values : goal.list::DynMutableListArray::as_box-returns-in_err-values
 list::DynMutableListArray::as_box-returns-in_err-values t c =
@@ -197,14 +197,14 @@ fixed_size_list::MutableFixedSizeListArray::as_box-returns-in_err-values t c =
     let same : c.deref_mut.result.now ≡ child = c.deref_mut.ensures.value in
     let e = c.in_err-values.field-0.0 in
     let h : IsRefusalOf (ChildrenFit child) e = subst (λ (x : MutableArray). IsRefusalOf (ChildrenFit x) e) same c.in_err-values.ensures.err in
-    unboxed (λ (a : Column). a.data_type) (λ (a : Column). a.slots) (FixedSizeList b) _ e c.from_residual.result c.from_residual.ensures.1 (fixed_lists_same b.marks.data_type b.marks.data_type (shape child) (shape new) refl (c.box_nodes.ensures.same_shape ∙ ap shape same))
+    unboxed (λ (a : NestedColumn). a.data_type) (λ (a : NestedColumn). a.slots) (FixedSizeList b) _ e c.from_residual.result c.from_residual.ensures.1 (fixed_lists_same b.marks.data_type b.marks.data_type (shape child) (shape new) refl (c.box_nodes.ensures.same_shape ∙ ap shape same))
     (refusal_of (ChildrenFit child) (ChildrenFit (FixedSizeList b)) e (λ q. q.below) h)
 
 pub fixed_size_list::MutableFixedSizeListArray::as_box-returns-in_err-data_type : goal.fixed_size_list::MutableFixedSizeListArray::as_box-returns-in_err-data_type
 fixed_size_list::MutableFixedSizeListArray::as_box-returns-in_err-data_type t c =
     let b = c.args.self.now in
     let r = c.from_residual-in_err-data_type in
-    unboxed (λ (a : Column). a.data_type) (λ (a : Column). a.slots) (FixedSizeList b) _ c.in_err-data_type.field-0.0 r.result r.ensures.1 (fixed_lists_same b.marks.data_type c.take.new.self.data_type (shape b.values.value) (shape c.box_nodes.new.self) c.take.ensures.data_type (c.box_nodes.ensures.same_shape ∙ ap shape c.deref_mut.ensures.value)) (inl c.in_err-data_type.ensures.memory)
+    unboxed (λ (a : NestedColumn). a.data_type) (λ (a : NestedColumn). a.slots) (FixedSizeList b) _ c.in_err-data_type.field-0.0 r.result r.ensures.1 (fixed_lists_same b.marks.data_type c.take.new.self.data_type (shape b.values.value) (shape c.box_nodes.new.self) c.take.ensures.data_type (c.box_nodes.ensures.same_shape ∙ ap shape c.deref_mut.ensures.value)) (inl c.in_err-data_type.ensures.memory)
 
 pub fixed_size_list::MutableFixedSizeListArray::as_box-returns : goal.fixed_size_list::MutableFixedSizeListArray::as_box-returns
 fixed_size_list::MutableFixedSizeListArray::as_box-returns t c =
@@ -222,8 +222,8 @@ fixed_size_list::MutableFixedSizeListArray::as_box-returns t c =
     let first : IsEmpty (marks_node m) = record { slots = ap length c.take.ensures.booleans; bytes = refl } in
     record {
       same_shape = fixed_lists_same b.marks.data_type m.data_type (shape child) (shape new) c.take.ensures.data_type (c.box_nodes.ensures.same_shape ∙ ap shape same);
-      same_type = typed (λ (a : Column). a.data_type) c.try_new.result _ _ c.try_new.ensures.data_type te;
-      same_slots = shown_slots (λ (a : Column). a.slots) parts c.try_new.result _ _ c.try_new.ensures.slots c.try_new.ensures.fits (λ p. same_fixed_lists b.marks.data_type c.in_ok-data_type.data_type (builder_type child) (array_type c.in_ok-values.values) b.marks.booleans (builder_slots child) (array_slots c.in_ok-values.values) c.in_ok-data_type.validity te ie ye ve p);
+      same_type = typed (λ (a : NestedColumn). a.data_type) c.try_new.result _ _ c.try_new.ensures.data_type te;
+      same_slots = shown_slots (λ (a : NestedColumn). a.slots) parts c.try_new.result _ _ c.try_new.ensures.slots c.try_new.ensures.fits (λ p. same_fixed_lists b.marks.data_type c.in_ok-data_type.data_type (builder_type child) (array_type c.in_ok-values.values) b.marks.booleans (builder_slots child) (array_slots c.in_ok-values.values) c.in_ok-data_type.validity te ie ye ve p);
       emptied = always _ c.try_new.result (All-cons IsEmpty (marks_node m) (nodes new) first c.in_ok-values.ensures.emptied);
       fits = accepted parts (ChildrenFit (FixedSizeList b)) c.try_new.result (λ p. from_fixed_parts b.marks.data_type c.in_ok-data_type.data_type (builder_type child) (array_type c.in_ok-values.values) b.marks.booleans (builder_slots child) (array_slots c.in_ok-values.values) c.in_ok-data_type.validity te ie ye ve (ChildrenFit child) below p) c.try_new.ensures.fits;
       err = refusal parts (ChildrenFit (FixedSizeList b)) c.try_new.result (λ q. to_fixed_parts b.marks.data_type c.in_ok-data_type.data_type (builder_type child) (array_type c.in_ok-values.values) b.marks.booleans (builder_slots child) (array_slots c.in_ok-values.values) c.in_ok-data_type.validity te ie ye ve (ChildrenFit child) q) c.try_new.ensures.err;
@@ -235,7 +235,7 @@ structs::DynMutableStructArray::as_box-returns-in_err-values t c =
     let d : DynMutableStructArray = record { marks = b.marks; values = with_items b.values c.box_all.new.children } in
     let e = c.in_err-values.field-0.0 in
     let h = subst (λ (xs : List MutableArray). IsRefusalOf (AllFit xs) e) c.deref_mut.ensures.value c.in_err-values.ensures.err in
-    unboxed (λ (a : Column). a.data_type) (λ (a : Column). a.slots) (Struct b) (Struct d) e c.from_residual.result c.from_residual.ensures.1 (shape_same b d refl (shapes_back b.values c.deref_mut.result.now c.box_all.new.children c.box_all.ensures.shapes c.deref_mut.ensures.value))
+    unboxed (λ (a : NestedColumn). a.data_type) (λ (a : NestedColumn). a.slots) (Struct b) (Struct d) e c.from_residual.result c.from_residual.ensures.1 (shape_same b d refl (shapes_back b.values c.deref_mut.result.now c.box_all.new.children c.box_all.ensures.shapes c.deref_mut.ensures.value))
     (refusal_of (AllFit b.values.items) (ChildrenFit (Struct b)) e (λ q. let k = subst (λ (P : Type 0). P) (fit-record b) q in k.below) h)
 
 pub structs::DynMutableStructArray::as_box-returns-in_err-data_type : goal.structs::DynMutableStructArray::as_box-returns-in_err-data_type
@@ -243,7 +243,7 @@ structs::DynMutableStructArray::as_box-returns-in_err-data_type t c =
     let b = c.args.self.now in
     let d : DynMutableStructArray = record { marks = c.take.new.self; values = with_items b.values c.box_all.new.children } in
     let r = c.from_residual-in_err-data_type in
-    unboxed (λ (a : Column). a.data_type) (λ (a : Column). a.slots) (Struct b) (Struct d) c.in_err-data_type.field-0.0 r.result r.ensures.1 (shape_same b d c.take.ensures.data_type (shapes_back b.values c.deref_mut.result.now c.box_all.new.children c.box_all.ensures.shapes c.deref_mut.ensures.value)) (inl c.in_err-data_type.ensures.memory)
+    unboxed (λ (a : NestedColumn). a.data_type) (λ (a : NestedColumn). a.slots) (Struct b) (Struct d) c.in_err-data_type.field-0.0 r.result r.ensures.1 (shape_same b d c.take.ensures.data_type (shapes_back b.values c.deref_mut.result.now c.box_all.new.children c.box_all.ensures.shapes c.deref_mut.ensures.value)) (inl c.in_err-data_type.ensures.memory)
 
 pub structs::DynMutableStructArray::as_box-returns : goal.structs::DynMutableStructArray::as_box-returns
 structs::DynMutableStructArray::as_box-returns t c =
@@ -262,8 +262,8 @@ structs::DynMutableStructArray::as_box-returns t c =
     let first : IsEmpty (marks_node c.take.new.self) = record { slots = ap length c.take.ensures.booleans; bytes = refl } in
     record {
       same_shape = shape_same b d c.take.ensures.data_type (shapes_back b.values c.deref_mut.result.now c.box_all.new.children c.box_all.ensures.shapes c.deref_mut.ensures.value);
-      same_type = typed (λ (a : Column). a.data_type) c.try_new.result _ _ c.try_new.ensures.data_type te;
-      same_slots = shown_slots (λ (a : Column). a.slots) parts c.try_new.result _ _ c.try_new.ensures.slots c.try_new.ensures.fits alike;
+      same_type = typed (λ (a : NestedColumn). a.data_type) c.try_new.result _ _ c.try_new.ensures.data_type te;
+      same_slots = shown_slots (λ (a : NestedColumn). a.slots) parts c.try_new.result _ _ c.try_new.ensures.slots c.try_new.ensures.fits alike;
       emptied = always _ c.try_new.result (nodes_of (All IsEmpty) d (All-cons IsEmpty (marks_node c.take.new.self) _ first empty));
       fits = accepted parts (ChildrenFit (Struct b)) c.try_new.result (λ p. subst (λ (P : Type 0). P) (sym (fit-record b)) (records_fit b.marks.data_type c.in_ok-data_type.data_type (map builder_type items) (map builder_slots items) (length b.marks.booleans) c.in_ok-data_type.validity te (ap length ve) c.in_ok-values.values.items ke ye (AllFit items) below p)) c.try_new.ensures.fits;
       err = refusal parts (ChildrenFit (Struct b)) c.try_new.result (λ q. record_parts b.marks.data_type c.in_ok-data_type.data_type (map builder_type items) (map builder_slots items) (length b.marks.booleans) c.in_ok-data_type.validity te (ap length ve) c.in_ok-values.values.items ke ye (AllFit items) (subst (λ (P : Type 0). P) (fit-record b) q)) c.try_new.ensures.err;

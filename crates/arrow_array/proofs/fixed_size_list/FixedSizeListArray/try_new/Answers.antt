@@ -16,5 +16,10 @@ returns-clause-slots c =
     let values = rw c.in_ok-values.ensures.first at c.new-values.ensures.holds in
     rw (c.in_ok-values.ensures.second, c.in_ok-values.ensures.third, values) refl
 
+pub returns-clause-dictionaries : goal.returns-clause-dictionaries
+returns-clause-dictionaries c =
+    let values = rw c.in_ok-values.ensures.first at c.new-values.ensures.holds in
+    rw values refl
+
 pub returns-clause-fits : goal.returns-clause-fits
 returns-clause-fits c = c.fits.ensures.0 c.if-not-fits.false

@@ -32,5 +32,11 @@ returns-clause-items c =
     let values = rw second at c.new.ensures.holds in
     rw values refl
 
+pub returns-clause-dictionaries : goal.returns-clause-dictionaries
+returns-clause-dictionaries c =
+    let second = rw c.in_ok-offsets.ensures.first at c.both-shared.ensures.second in
+    let values = rw second at c.new.ensures.holds in
+    rw values refl
+
 pub returns-clause-fits : goal.returns-clause-fits
 returns-clause-fits c = rw (map-id c.as_slice.result.now, c.as_slice.ensures.value) at (c.fits.ensures.0 c.if-not-fits.false)
