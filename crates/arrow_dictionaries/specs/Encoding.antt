@@ -1,6 +1,8 @@
 -- Dictionary encoding (Arrow columnar format, "Dictionary-encoded Layout"): each distinct slot once, and for each slot its index among these.
 use Rattle.std.specs.Prelude.{◌≡◌, ◌⊎◌, ℕ, ◌<◌, true, List, [], ◌∷◌, ◌++◌, length, map, sum_by}
 use Rattle.std.specs.List.{All, Contains}
+use Rattle.arrow_array.specs.declared.array.Array.{Array}
+use Rattle.arrow_array.specs.Arrays.{dictionaries_of, all_dictionaries}
 use Rattle.arrow_array.specs.Dictionaries.{IsKeyInto, looked_up}
 use Rattle.arrow_array.specs.Slots.{is_held}
 use Rattle.arrow_core.specs.declared.error.Error.{Error}
@@ -17,6 +19,14 @@ pub data FirstSlots : List Slot → List Slot → Type 0 where
   null : (slots firsts : List Slot) → FirstSlots slots firsts → FirstSlots (slots ++ slot.Null ∷ []) firsts
   again : (slots firsts : List Slot) (s : Slot) → FirstSlots slots firsts → Contains firsts s → FirstSlots (slots ++ s ∷ []) firsts
   new : (slots firsts : List Slot) (s : Slot) → FirstSlots slots firsts → is_held s ≡ true → (Contains firsts s → ⊥) → FirstSlots (slots ++ s ∷ []) (firsts ++ s ∷ [])
+
+-- the values of each dictionary of an array, at every depth, are its distinct slots but null, in order of first appearance
+abbrev pub HasFirstValues : Array → Type 0
+HasFirstValues a = All (λ d. FirstSlots d.0 d.1) (dictionaries_of a)
+
+-- the same of several arrays
+abbrev pub HaveFirstValues : List Array → Type 0
+HaveFirstValues arrays = All (λ d. FirstSlots d.0 d.1) (all_dictionaries arrays)
 
 -- keys and values that stand for slots: the values are the distinct slots, and each slot is the value at its key, or null where the key is null
 pub record EncodesSlots (slots keys items : List Slot) : Type 0 where

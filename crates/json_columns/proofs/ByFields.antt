@@ -1,5 +1,5 @@
 -- The definitions at lists and structs, in terms of the fields that code sees.
-use Rattle.std.proofs.Common.{◌≡◌, ◌∙◌, ◌⊎◌, ℕ, zero, suc, ◌<◌, Bool, true, false, not, ◌&&◌, eqb, List, [], ◌∷◌, length, refl, sym, ap, subst, arith, Result, Ok, Err, IfOk, IfErr}
+use Rattle.std.proofs.Common.{◌≡◌, ◌∙◌, ◌⊎◌, ℕ, zero, suc, ◌<◌, Bool, true, false, not, ◌&&◌, eqb, List, [], ◌∷◌, length, refl, sym, ap, subst, arith, Result, IfOk, IfErr}
 use Rattle.std.proofs.lemmas.Result.{IfErr-weaker}
 use Rattle.arrow_array.specs.Arrays.{array_slots}
 use Rattle.arrow_array.specs.declared.array.Array.{Array}
@@ -15,7 +15,7 @@ use Rattle.json_tree.specs.Keys.{value_of}
 use Rattle.json_flat.specs.Meaning.{Meaning, Layer}
 use Rattle.json_flat.specs.Columns.{AreSlotsOf, IsColumnFault, means}
 use Rattle.arrow_array.specs.Dictionaries.{IsDictionaryOf}
-use Rattle.json_columns.specs.Dictionaries.{HasFirstItems, TooManyDistinct}
+use Rattle.json_columns.specs.Dictionaries.{TooManyDistinct}
 use Rattle.json_columns.specs.Faults.{IsFault, IsListFault, IsSizedFault, IsStructFault, TooMany, TooManyFields, TooManyListed, TooManyMembers}
 use Rattle.json_columns.specs.Gathered.{all_have_reading, field_meanings, members_named, struct_has_reading}
 use Rattle.json_flat.specs.Reading.{has_field, has_reading, have_reading, is_value_type, list_in, member_meanings, or_null, reading, sized_list_in, struct_in}
@@ -166,11 +166,6 @@ module _ (t : DataType) (f : Field) (n : ℕ) (e : t ≡ types.FixedSizeList f n
   pub sized_ok : (vs : List Json) (r : Result Array Error) → IfOk r (λ a. AreSlotsOf (sized_list_in n (means (reading f.data_type))) vs (array_slots a)) → IfOk r (λ a. AreSlotsOf (reading t) vs (array_slots a))
   sized_ok vs r h = subst (λ (q : Layer → Meaning). IfOk r (λ a. AreSlotsOf q vs (array_slots a))) (sym (ap reading e ∙ sized_reading f n)) h
 
-pub sized_list_items : (t : DataType) (f : Field) (n : ℕ) → t ≡ types.FixedSizeList f n → (r : Result Array Error) → IfOk r (HasFirstItems t)
-unfolding shape-the_row-Field-0 hidden-the_row-Field-0 denote.Hole.Carrier.hidden
-sized_list_items t f n e (Ok a) = subst (λ z. HasFirstItems z a) (sym e) tt
-sized_list_items t f n e (Err x) = tt
-
 -- ---- dictionaries
 
 pub dictionary_reading : (key : IntegerType) (t : DataType) (b : Bool) → reading (types.Dictionary key t b) ≡ reading t
@@ -195,20 +190,3 @@ module _ (d t : DataType) (key : IntegerType) (h : IsDictionaryOf key d t) where
 
   pub dictionary_ok : (vs : List Json) (r : Result Array Error) → IfOk r (λ a. AreSlotsOf (reading t) vs (array_slots a)) → IfOk r (λ a. AreSlotsOf (reading d) vs (array_slots a))
   dictionary_ok vs r k = subst (λ (q : Layer → Meaning). IfOk r (λ a. AreSlotsOf q vs (array_slots a))) (sym (ap reading h.1 ∙ dictionary_reading key t h.0)) k
-
--- ---- types that aren't a dictionary's
-
-pub list_items : (t : DataType) (f : Field) → t ≡ types.List f → (r : Result Array Error) → IfOk r (HasFirstItems t)
-unfolding shape-the_row-Field-0 hidden-the_row-Field-0 denote.Hole.Carrier.hidden
-list_items t f e (Ok a) = subst (λ z. HasFirstItems z a) (sym e) tt
-list_items t f e (Err x) = tt
-
-pub large_list_items : (t : DataType) (f : Field) → t ≡ types.LargeList f → (r : Result Array Error) → IfOk r (HasFirstItems t)
-unfolding shape-the_row-Field-0 hidden-the_row-Field-0 denote.Hole.Carrier.hidden
-large_list_items t f e (Ok a) = subst (λ z. HasFirstItems z a) (sym e) tt
-large_list_items t f e (Err x) = tt
-
-pub struct_items : (t : DataType) (fs : List Field) → t ≡ types.Struct fs → (r : Result Array Error) → IfOk r (HasFirstItems t)
-unfolding shape-the_row-Field-1 hidden-the_row-Field-1 denote.Hole.Carrier.hidden
-struct_items t fs e (Ok a) = subst (λ z. HasFirstItems z a) (sym e) tt
-struct_items t fs e (Err x) = tt

@@ -1,23 +1,22 @@
 -- Columns of dictionaries, by their keys and values.
-use Rattle.std.proofs.Common.{◌≡◌, ◌∙◌, ◌⊎◌, inl, inr, List, length, map, sym, subst, Result, Ok, Err, IfOk, IfErr}
+use Rattle.std.proofs.Common.{◌≡◌, ◌∙◌, ◌⊎◌, inl, inr, List, [], ◌∷◌, length, map, sym, subst, Result, Ok, Err, IfOk, IfErr}
 use Rattle.std.proofs.lemmas.List.Elements.{All-get_or}
-use Rattle.arrow_array.specs.Arrays.{array_slots, array_type}
+use Rattle.arrow_array.specs.Arrays.{array_slots, array_type, dictionaries_of}
 use Rattle.arrow_array.specs.declared.array.Array.{Array}
-use Rattle.arrow_array.specs.declared.array.Array.TheVariants as kind
 use Rattle.arrow_array.specs.declared.keys.Keys.{Keys}
-use Rattle.arrow_array.specs.Dictionaries.{DictionaryColumn, DictionaryFits, IsDictionaryOf, IsKeyInto, keys_slots, keys_type, looked_up}
+use Rattle.arrow_array.specs.Dictionaries.{DictionaryFits, IsDictionaryOf, IsKeyInto, keys_slots, keys_type, looked_up}
 use Rattle.arrow_core.specs.declared.error.Error.{Error}
-use Rattle.arrow_dictionaries.specs.Encoding.{EncodesSlots, FirstSlots, HasTooManyDistinct, IsEncodingFault}
+use Rattle.arrow_dictionaries.specs.Encoding.{EncodesSlots, FirstSlots, HasFirstValues, HasTooManyDistinct, IsEncodingFault}
 use Rattle.arrow_types.specs.declared.slot.Slot.{Slot}
 use Rattle.arrow_types.specs.declared.slot.Slot.TheVariants as slot
 use Rattle.arrow_types.specs.declared.types.DataType.{DataType}
-use Rattle.arrow_types.specs.declared.types.DataType.TheBlock.{hidden-the_row-DataType-2}
 use Rattle.arrow_types.specs.declared.types.IntegerType.{IntegerType}
 use Rattle.json_tree.specs.Tree.{Json}
 use Rattle.json_flat.specs.Meaning.{Layer, Meaning}
 use Rattle.json_flat.specs.Columns.{AreSlotsOf, IsColumnFault}
-use Rattle.json_columns.specs.Dictionaries.{AreEncoded, AreTooMany, HasFirstItems}
+use Rattle.json_columns.specs.Dictionaries.{AreEncoded, AreTooMany}
 use Rattle.json_flat.specs.Reading.{reading}
+use Rattle.json_columns.proofs.FirstValues.{one_dictionary}
 
 -- ---- keys and values of an array that was read
 
@@ -66,11 +65,5 @@ module _ (key : IntegerType) (t d : DataType) (vs : List Json) (keys : Keys) (co
   slots (Ok a) e = subst (AreSlotsOf (reading t) vs) (sym (e ∙ h.2.looks_up)) h.1
   slots (Err x) e = tt
 
-  has_items : (a : Array) → IsDictionaryOf key d t → (c : DictionaryColumn) → a ≡ kind.Dictionary c → FirstSlots c.slots c.items → HasFirstItems d a
-  unfolding hidden-the_row-DataType-2 denote.Hole.Carrier.hidden
-  has_items a k c e f = subst (λ z. HasFirstItems z a) (sym k.1) (c, e, f)
-
-  pub first_items : (r : Result Array Error) → IsDictionaryOf key d t → IfOk r (λ a. array_slots a ≡ map (looked_up (array_slots column)) (keys_slots keys))
-      → IfOk r (λ a. (c : DictionaryColumn) × (a ≡ kind.Dictionary c) × (c.slots ≡ array_slots a) × (c.items ≡ array_slots column)) → IfOk r (HasFirstItems d)
-  first_items (Ok a) k e c = has_items a k c.0 c.1 (rw (c.2 ∙ e ∙ h.2.looks_up, c.3) h.2.first)
-  first_items (Err x) k e c = tt
+  pub first_values : (r : Result Array Error) → IfOk r (λ a. dictionaries_of a ≡ (map (looked_up (array_slots column)) (keys_slots keys), array_slots column) ∷ []) → IfOk r HasFirstValues
+  first_values r e = one_dictionary r (map (looked_up (array_slots column)) (keys_slots keys)) (array_slots column) (subst (λ s. FirstSlots s (array_slots column)) (sym h.2.looks_up) h.2.first) e

@@ -2,6 +2,7 @@ pub mod Anywhere
 pub mod ByFields
 pub mod DictionaryColumns
 pub mod FieldColumns
+pub mod FirstValues
 pub mod Gathering
 pub mod Layers
 pub mod ListColumns

@@ -1,6 +1,6 @@
 -- The answers of a column, as those of the call.
 use Rattle.std.proofs.Common.{◌≡◌, ◌⊎◌, inl, inr, true, false, List, refl, sym, subst, Result, Ok, Err, OnOk, IfOk, IfErr}
-use Rattle.std.proofs.lemmas.Result.{IfErr-weaker, IfOk-weaker}
+use Rattle.std.proofs.lemmas.Result.{IfErr-weaker}
 use Rattle.arrow_array.specs.Arrays.{array_slots, array_type}
 use Rattle.arrow_array.specs.declared.array.Array.{Array}
 use Rattle.arrow_core.specs.declared.error.Error.{Error}
@@ -13,7 +13,6 @@ use Rattle.json_tree.specs.Tree.{Json, array}
 use Rattle.json_tree.specs.declared.value.Value.TheVariants as variant
 use Rattle.json_flat.specs.Meaning.{Meaning, Layer, slot_of, text_timestamp, unfit}
 use Rattle.json_flat.specs.Columns.{AreSlotsOf, Has, HasNoSlot, IsNoSlot, means}
-use Rattle.json_columns.specs.Dictionaries.{HasFirstItems, HasFirstItemsUnder}
 use Rattle.json_columns.specs.Faults.{IsFault}
 use Rattle.json_columns.specs.Names.{names_twice}
 use Rattle.json_flat.specs.Reading.{has_reading, reading}
@@ -54,9 +53,6 @@ module _ (items : List Json) (t : DataType) (f : Field) (r : Result Array Error)
       all : (r : Result Array Error) → OnOk r (names_twice f.data_type ≡ false) → OnOk r (has_reading f.data_type ≡ true) → IfOk r (λ a. array_type a ≡ f.data_type) → IfOk r (λ a. AreSlotsOf (reading f.data_type) items (array_slots a)) → IfOk r (λ a. IsColumnOf (array items) t (array_type a) (array_slots a))
       all (Ok a) d o h s = (items, f, (refl, k), d, o, h, s)
       all (Err e) d o h s = tt
-
-  pub listed_items : IfOk r (HasFirstItems f.data_type) → IfOk r (HasFirstItemsUnder t)
-  listed_items h = IfOk-weaker r (HasFirstItems f.data_type) (HasFirstItemsUnder t) (λ a i. (f, k, i)) h
 
   pub listed_refusal : IfErr r (IsRefusal f.data_type items) → IfErr r (IsListRefusal (array items) t)
   listed_refusal h = IfErr-weaker r (IsRefusal f.data_type items) (IsListRefusal (array items) t) (λ e p. inr (items, f, (refl, k), p)) h

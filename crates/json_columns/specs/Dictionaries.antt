@@ -1,14 +1,10 @@
 -- Dictionaries of the slots that values mean (Arrow columnar format, "Dictionary-encoded Layout").
-use Rattle.std.specs.Prelude.{◌≡◌, ◌⊎◌, true, false, List}
-use Rattle.arrow_array.specs.declared.array.Array.{Array}
-use Rattle.arrow_array.specs.declared.array.Array.TheVariants as kind
-use Rattle.arrow_array.specs.Dictionaries.{DictionaryColumn}
-use Rattle.arrow_dictionaries.specs.Encoding.{EncodesSlots, FirstSlots, HasTooLongStrings, HasTooManyDistinct}
+use Rattle.std.specs.Prelude.{◌⊎◌, true, false, List}
+use Rattle.arrow_dictionaries.specs.Encoding.{EncodesSlots, HasTooLongStrings, HasTooManyDistinct}
 use Rattle.arrow_types.specs.Numbers.{greatest_offset}
 use Rattle.arrow_types.specs.declared.slot.Slot.{Slot}
 use Rattle.arrow_types.specs.declared.types.DataType.{DataType}
 use Rattle.arrow_types.specs.declared.types.DataType as types
-use Rattle.arrow_types.specs.declared.types.Field.{Field}
 use Rattle.arrow_types.specs.declared.types.IntegerType.{IntegerType}
 use Rattle.json_tree.specs.Tree.{Json}
 use Rattle.json_flat.specs.Meaning.{Layer, Meaning, text_in}
@@ -35,15 +31,6 @@ AreTooMany reading key are_long all_long values =
 -- there are more distinct slots than keys number, or strings too long to be counted
 abbrev pub TooManyDistinct : IntegerType → DataType → List Json → Type 0
 TooManyDistinct key t values = AreTooMany (reading t) key (HasLongStrings t) (AreLongStrings t values) values
-
--- the values of a dictionary are its distinct slots but null, in order of first appearance
-abbrev pub HasFirstItems : DataType → Array → Type 0
-HasFirstItems (types.Dictionary' key shape value is_sorted) a = (d : DictionaryColumn) × (a ≡ kind.Dictionary d) × FirstSlots d.slots d.items
-HasFirstItems _ a = Unit {0}
-
--- the same under the item type of lists
-abbrev pub HasFirstItemsUnder : DataType → Array → Type 0
-HasFirstItemsUnder t a = (item : Field) × ((t ≡ types.List item) ⊎ (t ≡ types.LargeList item)) × HasFirstItems item.data_type a
 
 -- ---- Contracts of private functions alone cite what follows.
 

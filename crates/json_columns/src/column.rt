@@ -1,10 +1,10 @@
 //! Columns of any type, a column at a time.
 ghost use Rattle.std.specs.Prelude.{◌≡◌, ◌<◌, false, true, IfOk, IfErr};
 ghost use Rattle.arrow_array.specs.Arrays.{array_slots, array_type};
+ghost use Rattle.arrow_dictionaries.specs.Encoding.{HasFirstValues, HaveFirstValues};
 ghost use Rattle.arrow_types.specs.declared.types.DataType.TheVariants.{FixedSizeList as FixedSizeListType, LargeList as LargeListType, List as ListType, Struct as StructType};
 ghost use Rattle.json_tree.specs.Tree.{null as null_value};
 ghost use Rattle.json_flat.specs.Columns.{AreSlotsOf, lent, means};
-ghost use Rattle.json_columns.specs.Dictionaries.{HasFirstItems};
 ghost use Rattle.json_columns.specs.Faults.{AreMemberColumns, IsFault, IsFieldsFault, IsListFault, IsMemberColumn, IsMemberFault, IsSizedFault, IsStructFault};
 ghost use Rattle.json_columns.specs.Gathered.{all_have_reading, field_meanings, struct_has_reading};
 ghost use Rattle.json_flat.specs.Reading.{has_reading, list_in, reading, sized_list_in, struct_in};
@@ -21,6 +21,8 @@ use json_tree::Value;
 use std::alloc::Global;
 
 /// The column of values under a type, one slot a value. `null` stands for members that are missing.
+/// The values of each dictionary, at every depth, are its distinct slots but null, in order of
+/// first appearance.
 ///
 /// `NotYetImplemented(TextTimestamp)` where a text under a timestamp comes, and `Overflow` where
 /// another value without a slot comes or the column can't count what it has, whichever is first.
@@ -37,7 +39,7 @@ pub(crate) fn read_column<'a>(
     ensures data_type { IfOk result (λ a. array_type a ≡ data_type.now) }
     ensures slots { IfOk result
         (λ a. AreSlotsOf (reading data_type.now) (lent values.now) (array_slots a)) }
-    ensures items { IfOk result (HasFirstItems data_type.now) }
+    ensures dictionaries { IfOk result HasFirstValues }
     ensures err { IfErr result (IsFault data_type.now (lent values.now)) }
 {
     match data_type {
@@ -71,6 +73,7 @@ fn read_lists<'a>(
     ensures data_type { IfOk result (λ a. array_type a ≡ data_type.now) }
     ensures slots { IfOk result (λ a. AreSlotsOf (list_in (means (reading item.now.data_type)))
         (lent values.now) (array_slots a)) }
+    ensures dictionaries { IfOk result HasFirstValues }
     ensures err { IfErr result (IsListFault false item.now (lent values.now)) }
 {
     let mut lists = MutableLists::<i32>::new(alloc, data_type.try_clone(alloc)?, values.len())?;
@@ -95,6 +98,7 @@ fn read_large_lists<'a>(
     ensures data_type { IfOk result (λ a. array_type a ≡ data_type.now) }
     ensures slots { IfOk result (λ a. AreSlotsOf (list_in (means (reading item.now.data_type)))
         (lent values.now) (array_slots a)) }
+    ensures dictionaries { IfOk result HasFirstValues }
     ensures err { IfErr result (IsListFault true item.now (lent values.now)) }
 {
     let mut lists = MutableLists::<i64>::new(alloc, data_type.try_clone(alloc)?, values.len())?;
@@ -122,6 +126,7 @@ fn read_sized_lists<'a>(
     ensures slots { IfOk result
         (λ a. AreSlotsOf (sized_list_in size (means (reading item.now.data_type)))
         (lent values.now) (array_slots a)) }
+    ensures dictionaries { IfOk result HasFirstValues }
     ensures err { IfErr result (IsSizedFault size item.now (lent values.now)) }
 {
     let mut marks = MutableMarks::new(alloc, data_type.try_clone(alloc)?);
@@ -146,6 +151,7 @@ fn read_structs<'a>(
     ensures data_type { IfOk result (λ a. array_type a ≡ data_type.now) }
     ensures slots { IfOk result (λ a. AreSlotsOf (struct_in (field_meanings fields.now))
         (lent values.now) (array_slots a)) }
+    ensures dictionaries { IfOk result HasFirstValues }
     ensures err { IfErr result (IsStructFault fields.now (lent values.now)) }
 {
     let columns = read_fields(alloc, fields, values, null)?;
@@ -165,6 +171,7 @@ pub(crate) fn read_fields<'a>(
     requires null { null.now ≡ null_value }
     ensures columns { IfOk result
         (λ columns. AreMemberColumns fields.now (lent values.now) columns.items) }
+    ensures dictionaries { IfOk result (λ columns. HaveFirstValues columns.items) }
     ensures err { IfErr result (IsFieldsFault fields.now (lent values.now)) }
 {
     let mut columns = Vec::new(alloc);
@@ -187,6 +194,7 @@ fn read_members<'a>(
     requires null { null.now ≡ null_value }
     ensures column { IfOk result
         (λ a. IsMemberColumn field.now (lent values.now) (array_type a) (array_slots a)) }
+    ensures dictionaries { IfOk result HasFirstValues }
     ensures err { IfErr result (IsMemberFault field.now (lent values.now)) }
 {
     let members = members_named(alloc, field.name.as_str(), values, null)?;

@@ -3,12 +3,12 @@ ghost use Rattle.std.specs.Prelude.{◌≡◌, true, IfOk, IfErr};
 ghost use Rattle.arrow_array.specs.Arrays.{array_slots, array_type};
 ghost use Rattle.arrow_array.specs.Dictionaries.{IsDictionaryOf, keys_slots, keys_type};
 ghost use Rattle.arrow_array.specs.Parts.{IsPlain, utf8_type};
-ghost use Rattle.arrow_dictionaries.specs.Encoding.{HasTooLongStrings};
+ghost use Rattle.arrow_dictionaries.specs.Encoding.{HasFirstValues, HasTooLongStrings};
 ghost use Rattle.arrow_types.specs.Numbers.{greatest_offset};
 ghost use Rattle.arrow_types.specs.declared.types.DataType.TheVariants.{LargeUtf8 as LargeUtf8Type, Utf8 as Utf8Type};
 ghost use Rattle.json_flat.specs.Columns.{AreSlotsOf, IsColumnFault, IsTooLong, lent};
 ghost use Rattle.json_flat.specs.Meaning.{text_in, whole_in};
-ghost use Rattle.json_columns.specs.Dictionaries.{AreEncoded, AreTooMany, HasFirstItems, TooManyDistinct};
+ghost use Rattle.json_columns.specs.Dictionaries.{AreEncoded, AreTooMany, TooManyDistinct};
 ghost use Rattle.json_flat.specs.Reading.{is_value_type, reading};
 
 use crate::parts::dictionary_array;
@@ -137,7 +137,7 @@ pub(crate) fn read_dictionary(
     ensures data_type { IfOk result (λ a. array_type a ≡ data_type.now) }
     ensures slots { IfOk result
         (λ a. AreSlotsOf (reading value_type.now) (lent values.now) (array_slots a)) }
-    ensures items { IfOk result (HasFirstItems data_type.now) }
+    ensures dictionaries { IfOk result HasFirstValues }
     ensures err { IfErr result (IsColumnFault (reading value_type.now)
         (TooManyDistinct key value_type.now (lent values.now)) (lent values.now)) }
 {

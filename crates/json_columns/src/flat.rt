@@ -1,11 +1,10 @@
 //! Columns of types with no type beneath them.
-ghost use Rattle.std.specs.Prelude.{◌≡◌, true, IfOk, IfErr};
-ghost use Rattle.arrow_array.specs.Arrays.{array_slots, array_type};
+ghost use Rattle.std.specs.Prelude.{◌≡◌, [], true, IfOk, IfErr};
+ghost use Rattle.arrow_array.specs.Arrays.{array_slots, array_type, dictionaries_of};
 ghost use Rattle.arrow_array.specs.Parts.{IsPlain};
 ghost use Rattle.arrow_types.specs.declared.physical.PrimitiveType.TheVariants.{Int32 as Int32Layout, Int64 as Int64Layout};
 ghost use Rattle.json_flat.specs.Columns.{AreSlotsOf, IsColumnFault, lent};
 ghost use Rattle.json_flat.specs.Meaning.{int64_in};
-ghost use Rattle.json_columns.specs.Dictionaries.{HasFirstItems};
 ghost use Rattle.json_columns.specs.Faults.{IsFault};
 ghost use Rattle.json_columns.specs.Gathered.{HasNoFields};
 ghost use Rattle.json_flat.specs.Reading.{has_reading, int32_in, reading};
@@ -25,6 +24,7 @@ fn read_int32(alloc: Global, data_type: &DataType, values: &[&Value]) -> Result<
     ensures data_type { IfOk result (λ a. array_type a ≡ data_type.now) }
     ensures slots { IfOk result
         (λ a. AreSlotsOf int32_in (lent values.now) (array_slots a)) }
+    ensures dictionaries { IfOk result (λ a. dictionaries_of a ≡ []) }
     ensures err { IfErr result (IsColumnFault int32_in ⊥ (lent values.now)) }
 {
     Ok(Array::Int32(read_integers(alloc, values, data_type)?))
@@ -36,19 +36,20 @@ fn read_int64(alloc: Global, data_type: &DataType, values: &[&Value]) -> Result<
     ensures data_type { IfOk result (λ a. array_type a ≡ data_type.now) }
     ensures slots { IfOk result
         (λ a. AreSlotsOf int64_in (lent values.now) (array_slots a)) }
+    ensures dictionaries { IfOk result (λ a. dictionaries_of a ≡ []) }
     ensures err { IfErr result (IsColumnFault int64_in ⊥ (lent values.now)) }
 {
     Ok(Array::Int64(read_integers(alloc, values, data_type)?))
 }
 
-/// The column of values under a type with no type beneath it.
+/// The column of values under a type with no type beneath it, which holds no dictionary.
 pub(crate) fn read_flat(alloc: Global, data_type: &DataType, values: &[&Value]) -> Result<Array>
     requires flat { HasNoFields data_type.now }
     requires readable { has_reading data_type.now ≡ true }
     ensures data_type { IfOk result (λ a. array_type a ≡ data_type.now) }
     ensures slots { IfOk result
         (λ a. AreSlotsOf (reading data_type.now) (lent values.now) (array_slots a)) }
-    ensures items { IfOk result (HasFirstItems data_type.now) }
+    ensures dictionaries { IfOk result (λ a. dictionaries_of a ≡ []) }
     ensures err { IfErr result (IsFault data_type.now (lent values.now)) }
 {
     match data_type {

@@ -1,8 +1,7 @@
 //! Arrays of lists, of structs and of dictionaries, whose parts fit together.
-ghost use Rattle.std.specs.Prelude.{◌≡◌, ◌*◌, ◌≤◌, ◌<◌, false, true, length, map, IfOk};
-ghost use Rattle.arrow_array.specs.Arrays.{array_slots, array_type};
-ghost use Rattle.arrow_array.specs.declared.array.Array.TheVariants.{Dictionary as DictionaryOf};
-ghost use Rattle.arrow_array.specs.Dictionaries.{DictionaryColumn, DictionaryFits, keys_slots, keys_type, looked_up};
+ghost use Rattle.std.specs.Prelude.{◌≡◌, ◌*◌, ◌≤◌, ◌<◌, [], ◌∷◌, false, true, length, map, IfOk};
+ghost use Rattle.arrow_array.specs.Arrays.{all_dictionaries, array_slots, array_type, dictionaries_of};
+ghost use Rattle.arrow_array.specs.Dictionaries.{DictionaryFits, keys_slots, keys_type, looked_up};
 ghost use Rattle.arrow_array.specs.FixedLists.{fixed_list_at, IsFixedListOf, list_size};
 ghost use Rattle.arrow_array.specs.Lists.{IsListOf};
 ghost use Rattle.arrow_array.specs.Structs.{IsStructOf, record_at};
@@ -29,6 +28,7 @@ pub(crate) fn list_array(
     ensures data_type { IfOk result (λ a. array_type a ≡ lists.old.data_type) }
     ensures slots { IfOk result
         (λ a. array_slots a ≡ lists_from 0 lists.old.lens (array_slots items)) }
+    ensures dictionaries { IfOk result (λ a. dictionaries_of a ≡ dictionaries_of items) }
     ensures memory { OnlyOutOfMemory result }
 {
     let (data_type, offsets, validity) = lists.take()?;
@@ -47,6 +47,7 @@ pub(crate) fn large_list_array(
     ensures data_type { IfOk result (λ a. array_type a ≡ lists.old.data_type) }
     ensures slots { IfOk result
         (λ a. array_slots a ≡ lists_from 0 lists.old.lens (array_slots items)) }
+    ensures dictionaries { IfOk result (λ a. dictionaries_of a ≡ dictionaries_of items) }
     ensures memory { OnlyOutOfMemory result }
 {
     let (data_type, offsets, validity) = lists.take()?;
@@ -68,6 +69,7 @@ pub(crate) fn fixed_list_array(
     ensures slots { IfOk result (λ a. array_slots a
         ≡ slots_where marks.old.booleans
         (fixed_list_at (list_size marks.old.data_type) (array_slots items))) }
+    ensures dictionaries { IfOk result (λ a. dictionaries_of a ≡ dictionaries_of items) }
     ensures memory { OnlyOutOfMemory result }
 {
     let (data_type, validity) = marks.take()?;
@@ -86,6 +88,8 @@ pub(crate) fn struct_array(
     ensures data_type { IfOk result (λ a. array_type a ≡ marks.old.data_type) }
     ensures slots { IfOk result (λ a. array_slots a
         ≡ slots_where marks.old.booleans (record_at (map array_slots columns.items))) }
+    ensures dictionaries { IfOk result
+        (λ a. dictionaries_of a ≡ all_dictionaries columns.items) }
     ensures memory { OnlyOutOfMemory result }
 {
     let (data_type, validity) = marks.take()?;
@@ -105,9 +109,9 @@ pub(crate) fn dictionary_array(
     ensures data_type { IfOk result (λ a. array_type a ≡ data_type) }
     ensures slots { IfOk result
         (λ a. array_slots a ≡ map (looked_up (array_slots items)) (keys_slots keys)) }
-    ensures items { IfOk result
-        (λ a. (d : DictionaryColumn) × (a ≡ DictionaryOf d) × (d.slots ≡ array_slots a)
-        × (d.items ≡ array_slots items)) }
+    ensures dictionaries { IfOk result
+        (λ a. dictionaries_of a
+        ≡ (map (looked_up (array_slots items)) (keys_slots keys), array_slots items) ∷ []) }
     ensures memory { OnlyOutOfMemory result }
 {
     let array = DictionaryArray::try_new(alloc, data_type, keys, items)?;

@@ -1,8 +1,8 @@
 //! Arrays of JSON values as columns.
 ghost use Rattle.std.specs.Prelude.{◌≡◌, true, false, IfOk, IfErr, OnOk};
 ghost use Rattle.arrow_array.specs.Arrays.{array_slots, array_type};
+ghost use Rattle.arrow_dictionaries.specs.Encoding.{HasFirstValues};
 ghost use Rattle.json_flat.specs.Columns.{AreSlotsOf};
-ghost use Rattle.json_columns.specs.Dictionaries.{HasFirstItems, HasFirstItemsUnder};
 ghost use Rattle.json_columns.specs.Names.{names_twice as names_twice_of};
 ghost use Rattle.json_flat.specs.Reading.{has_reading, reading};
 ghost use Rattle.json_columns.specs.Refusals.{IsColumnOf, IsListRefusal, IsRefusal, IsTypeRefusal};
@@ -42,7 +42,7 @@ fn read_all(alloc: Global, values: &[Value], data_type: &DataType) -> Result<Arr
     ensures data_type { IfOk result (λ a. array_type a ≡ data_type.now) }
     ensures slots { IfOk result
         (λ a. AreSlotsOf (reading data_type.now) values.now (array_slots a)) }
-    ensures items { IfOk result (HasFirstItems data_type.now) }
+    ensures dictionaries { IfOk result HasFirstValues }
     ensures err { IfErr result (IsFault data_type.now values.now) }
 {
     let null = Value::Null;
@@ -52,7 +52,8 @@ fn read_all(alloc: Global, values: &[Value], data_type: &DataType) -> Result<Arr
 }
 
 /// The column of JSON values under a type, one slot a value, as the table of types in
-/// `docs/FORMATS.md` has them.
+/// `docs/FORMATS.md` has them. The values of each dictionary, at every depth, are its distinct slots
+/// but null, in order of first appearance.
 ///
 /// The first of these that applies: `InvalidArgumentError(DuplicateName)` where a Struct at any
 /// depth names a field twice, `NotYetImplemented(NoJsonReading)` where a type has no reading,
@@ -65,7 +66,7 @@ pub fn read_values(alloc: Global, values: &[Value], data_type: &DataType) -> Res
     ensures data_type { IfOk result (λ a. array_type a ≡ data_type.now) }
     ensures slots { IfOk result
         (λ a. AreSlotsOf (reading data_type.now) values.now (array_slots a)) }
-    ensures items { IfOk result (HasFirstItems data_type.now) }
+    ensures dictionaries { IfOk result HasFirstValues }
     ensures distinct { OnOk result (names_twice_of data_type.now ≡ false) }
     ensures readable { OnOk result (has_reading data_type.now ≡ true) }
     ensures err { IfErr result (IsRefusal data_type.now values.now) }
@@ -104,7 +105,9 @@ fn overflow(data_type: &DataType, values: &[Value]) -> Error
     }
 }
 
-/// The column of the items of a JSON array under the item type of a List or a LargeList.
+/// The column of the items of a JSON array under the item type of a List or a LargeList. The values
+/// of each dictionary, at every depth, are its distinct slots but null, in order of first
+/// appearance.
 ///
 /// The first of these that applies: `NotYetImplemented(NotAnArray)` where the value is no array or
 /// the type neither List nor LargeList, and then what `read_values` refuses of the items under the
@@ -112,7 +115,7 @@ fn overflow(data_type: &DataType, values: &[Value]) -> Error
 pub fn deserialize(alloc: Global, json: &Value, data_type: DataType) -> Result<Array>
     ensures column { IfOk result
         (λ a. IsColumnOf json.now data_type (array_type a) (array_slots a)) }
-    ensures items { IfOk result (HasFirstItemsUnder data_type) }
+    ensures dictionaries { IfOk result HasFirstValues }
     ensures err { IfErr result (IsListRefusal json.now data_type) }
 {
     match json {
@@ -125,7 +128,7 @@ pub fn deserialize(alloc: Global, json: &Value, data_type: DataType) -> Result<A
 fn read_items(alloc: Global, items: &[Value], data_type: &DataType) -> Result<Array>
     ensures column { IfOk result
         (λ a. IsColumnOf (array items.now) data_type.now (array_type a) (array_slots a)) }
-    ensures items { IfOk result (HasFirstItemsUnder data_type.now) }
+    ensures dictionaries { IfOk result HasFirstValues }
     ensures err { IfErr result (IsListRefusal (array items.now) data_type.now) }
 {
     match data_type {

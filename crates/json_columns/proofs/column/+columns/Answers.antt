@@ -10,8 +10,9 @@ use Rattle.arrow_types.specs.declared.types.DataType.TheViews.{the_lemmas}
 use Rattle.json_flat.specs.Columns.{lent, means}
 use Rattle.json_columns.specs.Faults.{TooManyListed}
 use Rattle.json_flat.specs.Reading.{list_in, reading, sized_list_in}
-use Rattle.json_columns.proofs.ByFields.{list_ok, list_err, large_list_ok, large_list_err, struct_ok, struct_err, list_item_readable, large_list_item_readable, struct_fields_readable, dictionary_err, dictionary_item, dictionary_ok, list_items, large_list_items, sized_list_items, struct_items, sized_err, sized_item, sized_ok}
+use Rattle.json_columns.proofs.ByFields.{list_ok, list_err, large_list_ok, large_list_err, struct_ok, struct_err, list_item_readable, large_list_item_readable, struct_fields_readable, dictionary_err, dictionary_item, dictionary_ok, sized_err, sized_item, sized_ok}
 use Rattle.json_columns.proofs.FieldColumns.{one_column, struct_children, some_column, field_fault, members_fault}
+use Rattle.json_columns.proofs.FirstValues.{no_dictionary, of_child, of_children, one_array_more}
 use Rattle.json_columns.proofs.ListColumns.{items_enough, lists_column, gathered_fault, count_fault, memory_fault}
 use Rattle.json_columns.proofs.Rows.{structs_column}
 use Rattle.json_columns.specs.Faults.{TooMany}
@@ -80,6 +81,9 @@ pub read_lists-returns-clause-slots : goal.read_lists-returns-clause-slots
 read_lists-returns-clause-slots t c =
     lists_column (reading c.args.item.now.data_type) (lent c.args.values.now) (lent c.as_slice.result.now) _ (array_slots c.in_ok-column.column) c.list_array.result c.in_ok-fill_lists.ensures.lens (ap lent c.as_slice.ensures.value ∙ c.in_ok-fill_lists.ensures.items) c.in_ok-column.ensures.slots c.list_array.ensures.slots
 
+pub read_lists-returns-clause-dictionaries : goal.read_lists-returns-clause-dictionaries
+read_lists-returns-clause-dictionaries t c = of_child c.list_array.result c.in_ok-column.column c.list_array.ensures.dictionaries c.in_ok-column.ensures.dictionaries
+
 pub read_lists-returns-clause-err : goal.read_lists-returns-clause-err
 read_lists-returns-clause-err t c =
     memory_fault (list_in (means (reading c.args.item.now.data_type))) (TooManyListed false c.args.item.now (lent c.args.values.now)) (lent c.args.values.now) c.list_array.result c.list_array.ensures.memory
@@ -106,6 +110,9 @@ pub read_large_lists-returns-clause-slots : goal.read_large_lists-returns-clause
 read_large_lists-returns-clause-slots t c =
     lists_column (reading c.args.item.now.data_type) (lent c.args.values.now) (lent c.as_slice.result.now) _ (array_slots c.in_ok-column.column) c.large_list_array.result c.in_ok-fill_lists.ensures.lens (ap lent c.as_slice.ensures.value ∙ c.in_ok-fill_lists.ensures.items) c.in_ok-column.ensures.slots c.large_list_array.ensures.slots
 
+pub read_large_lists-returns-clause-dictionaries : goal.read_large_lists-returns-clause-dictionaries
+read_large_lists-returns-clause-dictionaries t c = of_child c.large_list_array.result c.in_ok-column.column c.large_list_array.ensures.dictionaries c.in_ok-column.ensures.dictionaries
+
 pub read_large_lists-returns-clause-err : goal.read_large_lists-returns-clause-err
 read_large_lists-returns-clause-err t c =
     memory_fault (list_in (means (reading c.args.item.now.data_type))) (TooManyListed true c.args.item.now (lent c.args.values.now)) (lent c.args.values.now) c.large_list_array.result c.large_list_array.ensures.memory
@@ -117,7 +124,12 @@ read_fields-returns-in_err-column-clause-err t c =
 
 pub read_fields-loop-field-preserved : goal.read_fields-loop-field-preserved
 read_fields-loop-field-preserved t c =
-    one_column c.args.fields.now (lent c.args.values.now) c.loop-field.field-index c.field-item.result _ _ c.in_ok-column.column c.loop-field-test.true c.field-item.is c.loop-field.invariant c.in_ok-column.ensures.column c.in_ok-push.ensures.items
+    let inv = c.loop-field.invariant in
+    let column = c.in_ok-column.column in
+    record {
+      columns = one_column c.args.fields.now (lent c.args.values.now) c.loop-field.field-index c.field-item.result _ _ column c.loop-field-test.true c.field-item.is inv.columns c.in_ok-column.ensures.column c.in_ok-push.ensures.items;
+      dictionaries = one_array_more _ _ column inv.dictionaries c.in_ok-column.ensures.dictionaries c.in_ok-push.ensures.items;
+    }
 
 pub read_structs-returns-in_err-columns-clause-err : goal.read_structs-returns-in_err-columns-clause-err
 read_structs-returns-in_err-columns-clause-err t c =
@@ -134,6 +146,9 @@ read_structs-struct_array-requires-clause-kind t c =
 pub read_structs-returns-clause-slots : goal.read_structs-returns-clause-slots
 read_structs-returns-clause-slots t c =
     structs_column c.args.fields.now (lent c.args.values.now) c.in_ok-columns.columns.items _ c.struct_array.result c.in_ok-columns.ensures.columns c.in_ok-marks.ensures.booleans c.struct_array.ensures.slots
+
+pub read_structs-returns-clause-dictionaries : goal.read_structs-returns-clause-dictionaries
+read_structs-returns-clause-dictionaries t c = of_children c.struct_array.result c.in_ok-columns.columns.items c.struct_array.ensures.dictionaries c.in_ok-columns.ensures.dictionaries
 
 pub read_column-read_sized_lists-requires : goal.read_column-read_sized_lists-requires
 read_column-read_sized_lists-requires t c =
@@ -170,21 +185,12 @@ read_sized_lists-returns-clause-slots t c =
     sized.lists_column (reading c.args.item.now.data_type) c.args.size (lent c.args.values.now) (lent c.as_slice.result.now) _ (array_slots c.in_ok-column.column) c.fixed_list_array.result c.in_ok-fill_sized.ensures.booleans (ap lent c.as_slice.ensures.value ∙ c.in_ok-fill_sized.ensures.items) c.in_ok-column.ensures.slots
     (sized.slots_are _ c.args.item.now c.args.size (c.fill_sized.ensures.data_type ∙ c.new-marks.ensures.data_type ∙ c.in_ok-try_clone.ensures.copy ∙ c.requires.kind) _ (array_slots c.in_ok-column.column) c.fixed_list_array.result c.fixed_list_array.ensures.slots)
 
+pub read_sized_lists-returns-clause-dictionaries : goal.read_sized_lists-returns-clause-dictionaries
+read_sized_lists-returns-clause-dictionaries t c = of_child c.fixed_list_array.result c.in_ok-column.column c.fixed_list_array.ensures.dictionaries c.in_ok-column.ensures.dictionaries
+
 pub read_sized_lists-returns-clause-err : goal.read_sized_lists-returns-clause-err
 read_sized_lists-returns-clause-err t c =
     memory_fault (sized_list_in c.args.size (means (reading c.args.item.now.data_type))) (TooMany c.args.item.now.data_type (all_sized c.args.size (lent c.args.values.now))) (lent c.args.values.now) c.fixed_list_array.result c.fixed_list_array.ensures.memory
-
-pub read_column-returns-in-List-clause-items : goal.read_column-returns-in-List-clause-items
-read_column-returns-in-List-clause-items t c = list_items c.args.data_type.now c.in-List.item c.in-List.is c.read_lists.result
-
-pub read_column-returns-in-LargeList-clause-items : goal.read_column-returns-in-LargeList-clause-items
-read_column-returns-in-LargeList-clause-items t c = large_list_items c.args.data_type.now c.in-LargeList.item c.in-LargeList.is c.read_large_lists.result
-
-pub read_column-returns-in-FixedSizeList-clause-items : goal.read_column-returns-in-FixedSizeList-clause-items
-read_column-returns-in-FixedSizeList-clause-items t c = sized_list_items c.args.data_type.now c.in-FixedSizeList.item c.in-FixedSizeList.size c.in-FixedSizeList.is c.read_sized_lists.result
-
-pub read_column-returns-in-Struct-clause-items : goal.read_column-returns-in-Struct-clause-items
-read_column-returns-in-Struct-clause-items t c = struct_items c.args.data_type.now c.in-Struct.fields c.in-Struct.is c.read_structs.result
 
 pub read_column-read_dictionary-requires : goal.read_column-read_dictionary-requires
 read_column-read_dictionary-requires t c =
@@ -200,3 +206,6 @@ pub read_column-returns-in-Dictionary-clause-err : goal.read_column-returns-in-D
 read_column-returns-in-Dictionary-clause-err t c =
     let kind : IsDictionaryOf c.in-Dictionary.key c.args.data_type.now c.get-in-Dictionary.result.now = (c.in-Dictionary.field-2, c.in-Dictionary.is ∙ ap (λ v. types.Dictionary c.in-Dictionary.key v c.in-Dictionary.field-2) (sym c.get-in-Dictionary.ensures)) in
     dictionary_err c.args.data_type.now c.get-in-Dictionary.result.now c.in-Dictionary.key kind (lent c.args.values.now) c.read_dictionary.result c.read_dictionary.ensures.err
+
+pub read_column-returns-in_default-clause-dictionaries : goal.read_column-returns-in_default-clause-dictionaries
+read_column-returns-in_default-clause-dictionaries t c = no_dictionary c.read_flat.result c.read_flat.ensures.dictionaries

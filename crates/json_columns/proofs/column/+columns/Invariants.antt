@@ -1,8 +1,12 @@
--- The columns so far are those of the fields so far.
+-- The columns so far are those of the fields so far, and the values of each dictionary in them the distinct slots but null, in order of first appearance.
 use Rattle.std.proofs.Common.{take}
+use Rattle.arrow_dictionaries.specs.Encoding.{HaveFirstValues}
 use Rattle.json_flat.specs.Columns.{lent}
 use Rattle.json_columns.specs.Faults.{AreMemberColumns}
 use Rattle.json_columns.proofs.column.+columns.Given as goal
 
 abbrev pub invariant-read_fields-loop-field : goal.invariant-read_fields-loop-field
-invariant-read_fields-loop-field l = AreMemberColumns (take l.field-index l.fields) (lent l.values) l.columns.items
+invariant-read_fields-loop-field l = record {
+  columns : AreMemberColumns (take l.field-index l.fields) (lent l.values) l.columns.items;
+  dictionaries : HaveFirstValues l.columns.items;
+}

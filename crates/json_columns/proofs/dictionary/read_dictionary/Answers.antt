@@ -16,10 +16,10 @@ returns-clause-slots c =
     let d = c.in_ok-keys in
     columns.slots c.args.key c.args.value_type.now c.args.data_type.now (lent c.args.values.now) d.keys d.items d.ensures.key d.ensures.data_type d.ensures.slots c.dictionary_array.result c.dictionary_array.ensures.slots
 
-pub returns-clause-items : goal.returns-clause-items
-returns-clause-items c =
+pub returns-clause-dictionaries : goal.returns-clause-dictionaries
+returns-clause-dictionaries c =
     let d = c.in_ok-keys in
-    columns.first_items c.args.key c.args.value_type.now c.args.data_type.now (lent c.args.values.now) d.keys d.items d.ensures.key d.ensures.data_type d.ensures.slots c.dictionary_array.result c.requires.kind c.dictionary_array.ensures.slots c.dictionary_array.ensures.items
+    columns.first_values c.args.key c.args.value_type.now c.args.data_type.now (lent c.args.values.now) d.keys d.items d.ensures.key d.ensures.data_type d.ensures.slots c.dictionary_array.result c.dictionary_array.ensures.dictionaries
 
 pub returns-clause-err : goal.returns-clause-err
 returns-clause-err c =

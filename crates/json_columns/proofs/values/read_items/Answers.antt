@@ -1,6 +1,6 @@
 use Rattle.std.proofs.Common.{inl, inr, ap, sym, ◌∙◌}
 use Rattle.arrow_types.specs.declared.types.DataType.TheVariants as types
-use Rattle.json_columns.proofs.Refusing.{listed_column, listed_items, listed_refusal}
+use Rattle.json_columns.proofs.Refusing.{listed_column, listed_refusal}
 use Rattle.json_columns.proofs.values.read_items.Goals as goal
 
 pub returns-in-List-clause-column : goal.returns-in-List-clause-column
@@ -14,9 +14,3 @@ returns-in-LargeList-clause-column c = listed_column c.args.items.now c.args.dat
 
 pub returns-in-LargeList-clause-err : goal.returns-in-LargeList-clause-err
 returns-in-LargeList-clause-err c = listed_refusal c.args.items.now c.args.data_type.now c.get-in-LargeList.result.now c.read_values-in-LargeList.result (inr (c.in-LargeList.is ∙ ap types.LargeList (sym c.get-in-LargeList.ensures))) c.read_values-in-LargeList.ensures.err
-
-pub returns-in-List-clause-items : goal.returns-in-List-clause-items
-returns-in-List-clause-items c = listed_items c.args.items.now c.args.data_type.now c.get.result.now c.read_values.result (inl (c.in-List.is ∙ ap types.List (sym c.get.ensures))) c.read_values.ensures.items
-
-pub returns-in-LargeList-clause-items : goal.returns-in-LargeList-clause-items
-returns-in-LargeList-clause-items c = listed_items c.args.items.now c.args.data_type.now c.get-in-LargeList.result.now c.read_values-in-LargeList.result (inr (c.in-LargeList.is ∙ ap types.LargeList (sym c.get-in-LargeList.ensures))) c.read_values-in-LargeList.ensures.items
