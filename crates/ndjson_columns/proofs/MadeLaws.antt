@@ -2,79 +2,17 @@
 use Rattle.std.proofs.Common.{◌≡◌, ◌∙◌, ℕ, zero, suc, ◌<◌, ◌≤◌, List, [], ◌∷◌, ◌++◌, length, get_or, set, take, drop, refl, sym, ap, subst, arith}
 use Rattle.std.specs.List.{AllZip}
 use Rattle.std.proofs.lemmas.List.{append-nil, take_all}
-use Rattle.arrow_array.specs.Arrays.{array_slots, array_type}
+use Rattle.std.proofs.lemmas.List.Elements.{All-append, All-nil}
+use Rattle.arrow_array.specs.Arrays.{all_dictionaries, array_slots, dictionaries_of}
 use Rattle.arrow_array.specs.declared.array.Array.{Array}
-use Rattle.arrow_array.specs.declared.array.Array.TheVariants as kind
-use Rattle.arrow_array.specs.Dictionaries.{DictionaryColumn}
-use Rattle.arrow_dictionaries.specs.Encoding.{FirstSlots}
-use Rattle.arrow_types.specs.declared.types.DataType as types
-use Rattle.arrow_types.specs.declared.types.DataType.{DataType}
-use Rattle.arrow_types.specs.declared.types.DataType.TheBlock.{hidden-the_row-DataType-2}
-use Rattle.arrow_types.specs.declared.types.DataType.TheVariants as variant
+use Rattle.arrow_dictionaries.specs.Encoding.{FirstSlots, HaveFirstValues}
 use Rattle.arrow_types.specs.declared.types.Field.{Field}
-use Rattle.arrow_types.specs.declared.types.IntegerType.{IntegerType}
 use Rattle.json_tree.specs.Tree.{Json}
 use Rattle.json_flat.specs.Columns.{AreSlotsOf}
 use Rattle.json_flat.specs.Meaning.{Layer, Meaning}
 use Rattle.json_flat.specs.Reading.{reading}
-use Rattle.json_columns.specs.Dictionaries.{HasFirstItems}
 use Rattle.json_line.specs.Lines.{values_named, AreColumnsOf, IsColumnOf}
-use Rattle.ndjson_columns.specs.LineColumns.{AreMadeOf, AreStoredFor, HaveFirstItems, IsMadeOf, IsStoredFor}
-
--- ---- one column
-
-has_items : (key : IntegerType) (value : DataType) (sorted : _) (a : Array) (d : DictionaryColumn) → a ≡ kind.Dictionary d → FirstSlots d.slots d.items → HasFirstItems (variant.Dictionary key value sorted) a
-unfolding hidden-the_row-DataType-2 denote.Hole.Carrier.hidden
-has_items key value sorted a d e f = (d, e, f)
-
-pub dictionary_made : (key : IntegerType) (value : DataType) (sorted : _) (t : DataType) (old new : Array) → t ≡ variant.Dictionary key value sorted → array_type new ≡ t → array_slots new ≡ array_slots old → (d : DictionaryColumn) × (new ≡ kind.Dictionary d) × FirstSlots d.slots d.items → IsMadeOf t old new
-dictionary_made key value sorted t old new is e s (d, k, f) =
-    record { data_type = e; slots = s; items = subst (λ x. HasFirstItems x new) (sym is) (has_items key value sorted new d k f) }
-
--- the type isn't one of dictionaries
-abbrev pub IsOther : DataType → Type 0
-IsOther (types.Dictionary' key shape value sorted) = ⊥
-IsOther _ = Unit {0}
-
-other_items : (t : DataType) → IsOther t → (a : Array) → HasFirstItems t a
-other_items types.Null h a = tt
-other_items types.Boolean h a = tt
-other_items types.Int8 h a = tt
-other_items types.Int16 h a = tt
-other_items types.Int32 h a = tt
-other_items types.Int64 h a = tt
-other_items types.UInt8 h a = tt
-other_items types.UInt16 h a = tt
-other_items types.UInt32 h a = tt
-other_items types.UInt64 h a = tt
-other_items types.Float16 h a = tt
-other_items types.Float32 h a = tt
-other_items types.Float64 h a = tt
-other_items (types.Timestamp unit timezone) h a = tt
-other_items types.Date32 h a = tt
-other_items types.Date64 h a = tt
-other_items (types.Time32 unit) h a = tt
-other_items (types.Time64 unit) h a = tt
-other_items (types.Duration unit) h a = tt
-other_items (types.Interval unit) h a = tt
-other_items types.Binary h a = tt
-other_items (types.FixedSizeBinary size) h a = tt
-other_items types.LargeBinary h a = tt
-other_items types.Utf8 h a = tt
-other_items types.LargeUtf8 h a = tt
-other_items (types.List' shape item) h a = tt
-other_items (types.LargeList' shape item) h a = tt
-other_items (types.FixedSizeList' shape item size) h a = tt
-other_items (types.Struct' shape fields) h a = tt
-other_items (types.Map' shape entries sorted) h a = tt
-other_items (types.Union' shape fields ids mode) h a = tt
-other_items (types.Decimal precision scale) h a = tt
-other_items (types.Decimal256 precision scale) h a = tt
-other_items (types.Extension' name shape inner metadata) h a = tt
-other_items (types.Dictionary' key shape value sorted) h a = absurd h
-
-pub other_made : (t : DataType) (old new : Array) → IsOther t → array_type new ≡ t → array_slots new ≡ array_slots old → IsMadeOf t old new
-other_made t old new h e s = record { data_type = e; slots = s; items = other_items t h new }
+use Rattle.ndjson_columns.specs.LineColumns.{AreMadeOf, AreStoredFor, IsMadeOf, IsStoredFor}
 
 -- ---- several columns
 
@@ -170,10 +108,10 @@ columns_made rows (f ∷ fs) (g ∷ gs) (a ∷ olds) (b ∷ bs) s c m = (column_
 pub lines_made : (fs gs : List Field) (lines : List (List ℕ)) (olds bs : List Array) → AreStoredFor fs gs → AreColumnsOf gs lines olds → AreMadeOf fs olds bs → AreColumnsOf fs lines bs
 lines_made fs gs lines olds bs s c m = record { rows = c.rows; objects = c.objects; members = columns_made c.rows fs gs olds bs s c.members m }
 
-pub items_made : (fs : List Field) (olds bs : List Array) → AreMadeOf fs olds bs → HaveFirstItems fs bs
-items_made [] [] [] m = tt
-items_made [] [] (b ∷ bs) m = absurd m
-items_made [] (a ∷ olds) bs m = absurd m
-items_made (f ∷ fs) [] bs m = absurd m
-items_made (f ∷ fs) (a ∷ olds) [] m = absurd m
-items_made (f ∷ fs) (a ∷ olds) (b ∷ bs) m = (m.0.items, items_made fs olds bs m.1)
+pub values_made : (fs : List Field) (olds bs : List Array) → AreMadeOf fs olds bs → HaveFirstValues bs
+values_made [] [] [] m = All-nil (λ d. FirstSlots d.0 d.1)
+values_made [] [] (b ∷ bs) m = absurd m
+values_made [] (a ∷ olds) bs m = absurd m
+values_made (f ∷ fs) [] bs m = absurd m
+values_made (f ∷ fs) (a ∷ olds) [] m = absurd m
+values_made (f ∷ fs) (a ∷ olds) (b ∷ bs) m = All-append (λ d. FirstSlots d.0 d.1) (dictionaries_of b) (all_dictionaries bs) m.0.dictionaries (values_made fs olds bs m.1)

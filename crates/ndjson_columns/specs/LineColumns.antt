@@ -3,20 +3,16 @@ use Rattle.std.specs.Prelude.{◌≡◌, ◌∷◌, [], ℕ, List, map, true, fa
 use Rattle.std.specs.List.{AllZip}
 use Rattle.arrow_array.specs.Arrays.{array_slots, array_type}
 use Rattle.arrow_array.specs.declared.array.Array.{Array}
+use Rattle.arrow_dictionaries.specs.Encoding.{HasFirstValues}
 use Rattle.arrow_types.specs.declared.slot.Slot.{Slot}
 use Rattle.arrow_types.specs.declared.types.DataType.{DataType}
 use Rattle.arrow_types.specs.declared.types.DataType.TheVariants as types
 use Rattle.arrow_types.specs.declared.types.Field.{Field}
-use Rattle.json_columns.specs.Dictionaries.{HasFirstItems}
 use Rattle.json_columns.specs.Names.{names_twice}
 use Rattle.json_flat.specs.Reading.{has_reading, reading}
 use Rattle.json_line.specs.Lines.{AreObjects}
 use Rattle.json_tree.specs.Tree.{Json, object}
 use Rattle.ndjson_columns.specs.Columns.{IsColumnOfValues}
-
--- the values of each dictionary are its distinct slots but null, in order of first appearance
-abbrev pub HaveFirstItems : List Field → List Array → Type 0
-HaveFirstItems fields columns = AllZip (λ (field : Field) column. HasFirstItems field.data_type column) fields columns
 
 -- the lines are objects, and this is the column of these under the type, which has a reading and names no field twice
 pub record AreRowsOf (lines : List (List ℕ)) (row_type column_type : DataType) (slots : List Slot) : Type 0 where
@@ -41,11 +37,12 @@ pub record AreKept (fields stored : List Field) : Type 0 where
   pub readable : has_reading (types.Struct fields) ≡ true
   pub distinct : names_twice (types.Struct fields) ≡ false
 
--- a column of the type was made of another: it has the same slots
+-- A column of the type was made of another: it has the same slots, and the values of each dictionary, at every depth, are its distinct
+-- slots but null, in order of first appearance.
 pub record IsMadeOf (t : DataType) (old new : Array) : Type 0 where
   pub data_type : array_type new ≡ t
   pub slots : array_slots new ≡ array_slots old
-  pub items : HasFirstItems t new
+  pub dictionaries : HasFirstValues new
 
 -- a column for each field was made of another
 abbrev pub AreMadeOf : List Field → List Array → List Array → Type 0

@@ -2,6 +2,7 @@
 ghost use Rattle.std.specs.Prelude.{◌≡◌, ◌≢◌, [], IfOk, IfErr, IfSome, OnOk};
 ghost use Rattle.std.specs.Iterator.{IsFinite};
 ghost use Rattle.arrow_array.specs.Arrays.{array_slots, array_type};
+ghost use Rattle.arrow_dictionaries.specs.Encoding.{HasFirstValues};
 ghost use Rattle.arrow_types.specs.declared.types.DataType.{Struct};
 ghost use Rattle.ndjson_columns.specs.LineColumns.{AreRowsOf};
 ghost use Rattle.ndjson_columns.specs.Columns.{IsColumnOf, IsColumnOfAll, IsNoColumn, IsNoColumnOfAll, IsRefusalOf};
@@ -25,6 +26,7 @@ fn read_rows(
     requires none { values.old.items ≡ [] }
     ensures column { IfOk result
         (λ a. IsColumnOf rows.now data_type.now (array_type a) (array_slots a)) }
+    ensures dictionaries { IfOk result HasFirstValues }
     ensures err { IfErr result (IsNoColumn rows.now data_type.now) }
 {
     push_values(alloc, values, rows)?;
@@ -50,8 +52,9 @@ fn read_structs(
     data_type: &DataType,
 ) -> Option<Array>
     requires { data_type.now ≡ Struct fields.items }
-    ensures { IfSome result
+    ensures rows { IfSome result
         (λ a. AreRowsOf rows.now data_type.now (array_type a) (array_slots a)) }
+    ensures dictionaries { IfSome result HasFirstValues }
 {
     match LineColumns::new(alloc, fields) {
         Ok(Some(mut columns)) => match columns.read_rows(rows, data_type) {
@@ -66,6 +69,7 @@ fn read_structs(
 fn read_lines(alloc: Global, rows: &[Text], data_type: &DataType) -> Option<Array>
     ensures column { IfSome result
         (λ a. IsColumnOf rows.now data_type.now (array_type a) (array_slots a)) }
+    ensures dictionaries { IfSome result HasFirstValues }
 {
     match fields_of(alloc, data_type) {
         Some(fields) => read_structs(alloc, rows, fields, data_type),
@@ -86,6 +90,7 @@ fn read_given<'a, I: Iterator<Item = &'a str> + Drop>(
     requires none { values.old.items ≡ [] }
     ensures column { IfOk result
         (λ a. IsColumnOfAll I.next_gives rows data_type.now (array_type a) (array_slots a)) }
+    ensures dictionaries { IfOk result HasFirstValues }
     ensures err { IfErr result (IsNoColumnOfAll I.next_gives rows data_type.now) }
 {
     push_given(alloc, values, rows)?;
@@ -93,8 +98,9 @@ fn read_given<'a, I: Iterator<Item = &'a str> + Drop>(
 }
 
 /// The column of rows under a type, one slot a row: what the row's value means under the type, as
-/// the table of types in `docs/FORMATS.md` has it. Each row is a JSON text (RFC 8259), and may end
-/// with its line feed.
+/// the table of types in `docs/FORMATS.md` has it. The values of each dictionary, at every depth,
+/// are its distinct slots but null, in order of first appearance. Each row is a JSON text (RFC
+/// 8259), and may end with its line feed.
 ///
 /// The first of these that applies: `ExternalFormat(EmptyInput)` where there is no row; of the first
 /// row that is no such text, `LimitExceeded` where it has more than 128 brackets open at once, else
@@ -105,6 +111,7 @@ pub fn deserialize(alloc: Global, rows: &[Text], data_type: DataType) -> Result<
     ensures some { OnOk result (rows.now ≢ []) }
     ensures column { IfOk result
         (λ a. IsColumnOf rows.now data_type (array_type a) (array_slots a)) }
+    ensures dictionaries { IfOk result HasFirstValues }
     ensures err { IfErr result (IsRefusalOf rows.now data_type) }
 {
     if rows.is_empty() {
@@ -117,8 +124,8 @@ pub fn deserialize(alloc: Global, rows: &[Text], data_type: DataType) -> Result<
     read_rows(alloc, &mut values, rows, &data_type)
 }
 
-/// The column of the rows that an iterator gives under a type, as `deserialize` has it. The column
-/// of no rows is empty. The iterator has to end.
+/// The column of the rows that an iterator gives under a type, as `deserialize` has it, the values
+/// of each dictionary too. The column of no rows is empty. The iterator has to end.
 ///
 /// The refusals are those of `deserialize` but the first. Where a row is no JSON text, none after it
 /// is asked for.
@@ -131,6 +138,7 @@ pub fn deserialize_iter<'a, I: Iterator<Item = &'a str> + Drop>(
     requires ends { IsFinite (I.remaining rows) }
     ensures column { IfOk result
         (λ a. IsColumnOfAll I.next_gives rows data_type (array_type a) (array_slots a)) }
+    ensures dictionaries { IfOk result HasFirstValues }
     ensures err { IfErr result (IsNoColumnOfAll I.next_gives rows data_type) }
 {
     let mut values = Vec::new(alloc);

@@ -1,31 +1,46 @@
-//! Columns of which dictionaries are made, at every depth.
-ghost use Rattle.std.specs.Prelude.{◌≡◌, map, IfOk, OnOk};
+//! Columns of which dictionaries are made, at every depth. The values of each are its distinct
+//! slots but null, in order of first appearance.
+ghost use Rattle.std.specs.Prelude.{◌≡◌, false, map, IfOk, IsTrue, OnOk};
 ghost use Rattle.arrow_array.specs.Arrays.{array_slots, array_type};
+ghost use Rattle.arrow_array.specs.HoldsDictionary.{holds_dictionary as holds_dictionary_of};
+ghost use Rattle.arrow_dictionaries.specs.Encoding.{HasFirstValues, HaveFirstValues};
 ghost use Rattle.ndjson_columns.specs.LineColumns.{AreMadeOf, IsMadeOf};
 
 use crate::keys::dictionary_of;
 use crate::rebuilt::{fixed_lists_over, large_lists_over, lists_over, structs_over};
-use arrow_array::Array;
+use arrow_array::{Array, holds_dictionary};
 use arrow_types::{DataType, Field};
 use json_line::GivenUp;
 use std::alloc::Global;
 
-// All slots of the column, which share its buffers.
+// Whether the column is of this type, and the type holds no dictionary.
+fn is_plain(data_type: &DataType, column: &Array) -> bool
+    ensures same { IsTrue result → array_type column.now ≡ data_type.now }
+    ensures plain { IsTrue result → holds_dictionary_of (array_type column.now) ≡ false }
+{
+    !holds_dictionary(data_type) && column.data_type().is_same(data_type)
+}
+
+// All slots of a column that holds no dictionary, which share its buffers.
 fn whole(alloc: Global, column: &Array) -> Result<Array, GivenUp>
+    requires { holds_dictionary_of (array_type column.now) ≡ false }
     ensures data_type { IfOk result (λ a. array_type a ≡ array_type column.now) }
     ensures slots { IfOk result (λ a. array_slots a ≡ array_slots column.now) }
+    ensures dictionaries { IfOk result HasFirstValues }
 {
     let array = column.slice(alloc, 0, column.len())?;
+    array.holds_no_dictionary();
     Ok(array)
 }
 
-// The column of this type with the same slots, of one that was read under another type.
+// The column of this type with the same slots, of one that was read under this type or another.
 #[cycle(encode)]
 fn encoded(alloc: Global, data_type: &DataType, column: &Array) -> Result<Array, GivenUp>
     ensures data_type { IfOk result (λ a. array_type a ≡ data_type.now) }
     ensures slots { IfOk result (λ a. array_slots a ≡ array_slots column.now) }
+    ensures dictionaries { IfOk result HasFirstValues }
 {
-    if column.data_type().is_same(data_type) {
+    if is_plain(data_type, column) {
         return whole(alloc, column);
     }
     match data_type {
@@ -48,6 +63,7 @@ fn encoded_lists(
 ) -> Result<Array, GivenUp>
     ensures data_type { IfOk result (λ a. array_type a ≡ data_type.now) }
     ensures slots { IfOk result (λ a. array_slots a ≡ array_slots column.now) }
+    ensures dictionaries { IfOk result HasFirstValues }
 {
     match column {
         Array::List(lists) => {
@@ -79,6 +95,7 @@ fn encoded_structs(
 ) -> Result<Array, GivenUp>
     ensures data_type { IfOk result (λ a. array_type a ≡ data_type.now) }
     ensures slots { IfOk result (λ a. array_slots a ≡ array_slots column.now) }
+    ensures dictionaries { IfOk result HasFirstValues }
 {
     match column {
         Array::Struct(structs) => {
@@ -95,6 +112,7 @@ fn encoded_structs(
 fn encoded_all(alloc: Global, fields: &[Field], columns: &[Array]) -> Result<Vec<Array>, GivenUp>
     ensures slots { IfOk result
         (λ made. map array_slots made.items ≡ map array_slots columns.now) }
+    ensures dictionaries { IfOk result (λ made. HaveFirstValues made.items) }
 {
     if fields.len() != columns.len() {
         return Err(GivenUp);
@@ -111,23 +129,16 @@ fn encoded_all(alloc: Global, fields: &[Field], columns: &[Array]) -> Result<Vec
 fn encode_column(alloc: Global, data_type: &DataType, column: &mut Array) -> Result<(), GivenUp>
     ensures { OnOk result (IsMadeOf data_type.now column.old column.new) }
 {
-    match data_type {
-        DataType::Dictionary(key, _, _) => {
-            *column = dictionary_of(alloc, *key, data_type, column)?;
-            Ok(())
-        }
-        _ => {
-            if column.data_type().is_same(data_type) {
-                return Ok(());
-            }
-            *column = encoded(alloc, data_type, column)?;
-            Ok(())
-        }
+    if is_plain(data_type, column) {
+        column.holds_no_dictionary();
+        return Ok(());
     }
+    *column = encoded(alloc, data_type, column)?;
+    Ok(())
 }
 
-/// Makes of each column that was read one of its field's type with the same slots. The values of a
-/// dictionary are its distinct slots but null, in order of first appearance.
+/// Makes of each column that was read one of its field's type with the same slots. The values of
+/// each dictionary, at every depth, are its distinct slots but null, in order of first appearance.
 pub(crate) fn encode_columns(
     alloc: Global,
     fields: &[Field],

@@ -1,9 +1,8 @@
 //! Dictionaries that are made of columns (Arrow columnar format, "Dictionary-encoded Layout").
 ghost use Rattle.std.specs.Prelude.{◌≡◌, IfOk};
 ghost use Rattle.arrow_array.specs.Arrays.{array_slots, array_type};
-ghost use Rattle.arrow_array.specs.declared.array.Array.TheVariants.{Dictionary as DictionaryOf};
-ghost use Rattle.arrow_array.specs.Dictionaries.{DictionaryColumn, keys_slots};
-ghost use Rattle.arrow_dictionaries.specs.Encoding.{EncodesSlots, FirstSlots};
+ghost use Rattle.arrow_array.specs.Dictionaries.{keys_slots};
+ghost use Rattle.arrow_dictionaries.specs.Encoding.{EncodesSlots, HasFirstValues};
 
 use arrow_array::{Array, DictionaryArray, Keys};
 use arrow_dictionaries::{encode_primitives, encode_strings};
@@ -47,7 +46,8 @@ fn encode(alloc: Global, key: IntegerType, column: &Array) -> Result<(Keys, Arra
     }
 }
 
-/// The dictionary of this type that has the slots of the column.
+/// The dictionary of this type that has the slots of the column. Its values are its distinct slots
+/// but null, in order of first appearance.
 pub(crate) fn dictionary_of(
     alloc: Global,
     key: IntegerType,
@@ -56,8 +56,7 @@ pub(crate) fn dictionary_of(
 ) -> Result<Array, GivenUp>
     ensures data_type { IfOk result (λ a. array_type a ≡ data_type.now) }
     ensures slots { IfOk result (λ a. array_slots a ≡ array_slots column.now) }
-    ensures items { IfOk result
-        (λ a. (d : DictionaryColumn) × (a ≡ DictionaryOf d) × FirstSlots d.slots d.items) }
+    ensures dictionaries { IfOk result HasFirstValues }
 {
     let data_type = data_type.try_clone(alloc)?;
     let (keys, items) = encode(alloc, key, column)?;

@@ -2,11 +2,12 @@
 ghost use Rattle.std.specs.Prelude.{◌≡◌, true, false, IfOk, IfSome, OnOk};
 ghost use Rattle.arrow_array.specs.Arrays.{array_slots, array_type};
 ghost use Rattle.arrow_core.specs.Errors.{OnlyOutOfMemory};
+ghost use Rattle.arrow_dictionaries.specs.Encoding.{HasFirstValues, HaveFirstValues};
 ghost use Rattle.arrow_types.specs.declared.types.DataType.{Struct};
 ghost use Rattle.json_columns.specs.Names.{names_twice as names_twice_of};
 ghost use Rattle.json_flat.specs.Reading.{has_reading};
 ghost use Rattle.json_line.specs.Lines.{AreColumnsOf};
-ghost use Rattle.ndjson_columns.specs.LineColumns.{AreRowsOf, HaveFirstItems};
+ghost use Rattle.ndjson_columns.specs.LineColumns.{AreRowsOf};
 
 use crate::encode::encode_columns;
 use crate::stored::stored_fields;
@@ -97,16 +98,16 @@ impl LineColumns {
     }
 
     /// The columns of the lines' members, one for each field, as `LineBuilders` of `json_line` has
-    /// them. The values of a dictionary are its distinct slots but null, in order of first
-    /// appearance. Each field's type has a reading, and no two fields have the same name, nor two of
-    /// a Struct at any depth.
+    /// them. The values of each dictionary, at every depth, are its distinct slots but null, in
+    /// order of first appearance. Each field's type has a reading, and no two fields have the same
+    /// name, nor two of a Struct at any depth.
     ///
     /// `GivenUp` may come at any time, also where there are more distinct values than the key type
     /// has numbers from 0 on. The builders are then fit for other lines all the same.
     pub fn read_lines(&mut self, lines: &[Text]) -> std::result::Result<Vec<Array>, GivenUp>
         ensures ok { IfOk result
             (λ columns. AreColumnsOf self.old lines.now columns.items) }
-        ensures items { IfOk result (λ columns. HaveFirstItems self.old columns.items) }
+        ensures dictionaries { IfOk result (λ columns. HaveFirstValues columns.items) }
         ensures readable { OnOk result (has_reading (Struct self.old) ≡ true) }
         ensures distinct { OnOk result (names_twice_of (Struct self.old) ≡ false) }
         ensures same { self.new ≡ self.old }
@@ -118,7 +119,8 @@ impl LineColumns {
 
     /// The lines as structs of this type, whose fields are those of the columns: each line is an
     /// object, and its slot is what it means under the type, which has a reading and names no field
-    /// twice.
+    /// twice. The values of each dictionary, at every depth, are its distinct slots but null, in
+    /// order of first appearance.
     ///
     /// `GivenUp` may come at any time. The builders are then fit for other lines all the same.
     pub fn read_rows(
@@ -129,6 +131,7 @@ impl LineColumns {
         requires { row_type.now ≡ Struct self.old }
         ensures ok { IfOk result
             (λ a. AreRowsOf lines.now row_type.now (array_type a) (array_slots a)) }
+        ensures dictionaries { IfOk result HasFirstValues }
         ensures same { self.new ≡ self.old }
     {
         let columns = self.read_lines(lines)?;

@@ -1,7 +1,7 @@
 //! Arrays with other children of the same slots.
 ghost use Rattle.std.specs.Prelude.{◌≡◌, ◌*◌, ◌<◌, ℕ, List, length, map, IfOk, IsTrue};
 ghost use Rattle.std.specs.Option.{option_copied};
-ghost use Rattle.arrow_array.specs.Arrays.{array_slots};
+ghost use Rattle.arrow_array.specs.Arrays.{all_dictionaries, array_slots, dictionaries_of};
 ghost use Rattle.arrow_array.specs.FixedLists.{fixed_list_at, list_size};
 ghost use Rattle.arrow_array.specs.Slots.{TellsHeld, is_held, slot_at};
 ghost use Rattle.arrow_array.specs.Structs.{first_len, record_at};
@@ -36,6 +36,7 @@ pub(crate) fn lists_over(
     requires { array_slots values ≡ lists.now.items }
     ensures data_type { IfOk result (λ a. a.data_type ≡ data_type.now) }
     ensures slots { IfOk result (λ a. a.slots ≡ lists.now.slots) }
+    ensures dictionaries { IfOk result (λ a. a.dictionaries ≡ dictionaries_of values) }
 {
     let data_type = data_type.try_clone(alloc)?;
     let offsets = Vec::from_slice(alloc, lists.offsets())?;
@@ -54,6 +55,7 @@ pub(crate) fn large_lists_over(
     requires { array_slots values ≡ lists.now.items }
     ensures data_type { IfOk result (λ a. a.data_type ≡ data_type.now) }
     ensures slots { IfOk result (λ a. a.slots ≡ lists.now.slots) }
+    ensures dictionaries { IfOk result (λ a. a.dictionaries ≡ dictionaries_of values) }
 {
     let data_type = data_type.try_clone(alloc)?;
     let offsets = Vec::from_slice(alloc, lists.offsets())?;
@@ -88,6 +90,7 @@ pub(crate) fn fixed_lists_over(
         ≡ length lists.now.slots * list_size lists.now.data_type }
     ensures data_type { IfOk result (λ a. a.data_type ≡ data_type.now) }
     ensures slots { IfOk result (λ a. a.slots ≡ lists.now.slots) }
+    ensures dictionaries { IfOk result (λ a. a.dictionaries ≡ dictionaries_of values) }
 {
     if size_of_lists(data_type) != size_of_lists(lists.data_type()) {
         return Err(GivenUp);
@@ -112,6 +115,7 @@ pub(crate) fn structs_over(
         → first_len values.items ≡ length structs.now.slots }
     ensures data_type { IfOk result (λ a. a.data_type ≡ data_type.now) }
     ensures slots { IfOk result (λ a. a.slots ≡ structs.now.slots) }
+    ensures dictionaries { IfOk result (λ a. a.dictionaries ≡ all_dictionaries values.items) }
 {
     let data_type = data_type.try_clone(alloc)?;
     let validity = same_validity(structs.validity())?;
