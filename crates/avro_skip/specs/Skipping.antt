@@ -1,7 +1,6 @@
 -- What a call that skips gives, in terms of a skipping function on the bytes ahead, and what it costs.
 use Rattle.std.specs.Prelude.{◌≡◌, ℕ, List, Result, Ok, Err, if◌then◌else◌}
-use Rattle.avro_schema.specs.declared.schema.Schema.{Schema, Record, Array', Union'}
-use Rattle.avro_grammar.specs.Carried.{Carried}
+use Rattle.avro_schema.specs.declared.schema.Schema.{Schema}
 use Rattle.avro_grammar.specs.Encodes.{is_null}
 use Rattle.avro_grammar.specs.Skips.{Passed, nothing, seen_only, both}
 use Rattle.avro_reference.specs.Skip.{◌>>=◌, Fault, Bad, Negative, Parser, measured_at, skip_stated, skip}
@@ -27,13 +26,6 @@ PassesMore rest shown calls old new (Err e) parsing = (before : Passed) → pars
 abbrev pub Jumps : {X : Type 0} → List ℕ → Result X SkipFault → Result (List ℕ) Fault → Type 0
 Jumps rest (Ok _) jumping = jumping ≡ Ok rest
 Jumps rest (Err e) jumping = jumping ≡ Err (fault_of e)
-
--- a carried schema that has no others in it
-abbrev pub IsCarriedFlat : Schema → Type 0
-IsCarriedFlat (Record r) = ⊥
-IsCarriedFlat (Array' shape item) = ⊥
-IsCarriedFlat (Union' shape members) = ⊥
-IsCarriedFlat s = Carried s
 
 -- a union's member, where null has no bytes
 abbrev pub member_at : Schema → Parser Passed

@@ -1,43 +1,19 @@
-//! Skipped values of schemas that have no others in them.
+//! Skipped numbers, and bytes by their number.
 
 ghost use Rattle.std.specs.Prelude.{◌≡◌, ◌+◌, ◌<◌, ◌≤◌, length, Some, None, MatchResult, OnOk};
 ghost use Rattle.avro_grammar.specs.Skips.{fixed_size as fixed_size_of};
-ghost use Rattle.avro_reference.specs.Skip.{skip, jump_at, skip_raw, skip_number as skip_number_at, skip_sized as skip_sized_at};
+ghost use Rattle.avro_reference.specs.Skip.{jump_at, skip_raw, skip_number as skip_number_at, skip_sized as skip_sized_at};
 ghost use Rattle.avro_reference.specs.Costs.{Moves};
 ghost use Rattle.avro_reference.specs.Lengths.{as_length};
-ghost use Rattle.avro_skip.specs.Skipping.{IsCarriedFlat, Passes, PassesMore, Jumps, sized_items_at};
+ghost use Rattle.avro_skip.specs.Skipping.{Passes, PassesMore, Jumps, sized_items_at};
 
 use crate::fault::SkipFault;
 use avro_reference::{Ahead, read_length};
-use avro_schema::{AvroSchema, Fixed, FixedLogical};
-
-/// Skips a value of a schema that has no others in it.
-// It and what it calls are inlined wherever a value is skipped, since the calls would cost as much as
-// the skipping.
-#[inline(always)]
-#[tactic(auto, using(crate::proofs::Sets::flats))]
-pub fn skip_flat<A: Ahead>(cursor: &mut A, schema: &AvroSchema) -> Result<(), SkipFault>
-    requires flat { IsCarriedFlat schema.now }
-    ensures same { A.whose cursor.new ≡ A.whose cursor.old }
-    ensures moves { Moves A.rest A.calls cursor.old cursor.new }
-    ensures shorter { OnOk result (length (A.rest cursor.new) < length (A.rest cursor.old)) }
-    ensures passes { Passes A.rest A.shown A.calls cursor.old cursor.new result
-        (skip schema.now (A.rest cursor.old)) }
-{
-    match schema {
-        AvroSchema::Boolean => skip_byte(cursor),
-        AvroSchema::Int(_) | AvroSchema::Long(_) | AvroSchema::Enum(_) => skip_number(cursor),
-        AvroSchema::Float => skip_bytes(cursor, 4),
-        AvroSchema::Double => skip_bytes(cursor, 8),
-        AvroSchema::Bytes(_) | AvroSchema::String(_) => skip_sized(cursor),
-        AvroSchema::Fixed(fixed) => skip_bytes(cursor, fixed_size(fixed)),
-        _ => unreachable!(),
-    }
-}
+use avro_schema::{Fixed, FixedLogical};
 
 /// How many bytes a fixed-size value has (Avro 1.11, "Fixed" and "Duration").
 #[inline(always)]
-fn fixed_size(fixed: &Fixed) -> usize
+pub fn fixed_size(fixed: &Fixed) -> usize
     ensures { result ≡ fixed_size_of fixed.now.size fixed.now.logical }
 {
     match fixed.logical {
@@ -49,7 +25,7 @@ fn fixed_size(fixed: &Fixed) -> usize
 /// Skips a number.
 #[inline(always)]
 #[tactic(auto, using(crate::proofs::Sets::numbered))]
-fn skip_number<A: Ahead>(cursor: &mut A) -> Result<(), SkipFault>
+pub fn skip_number<A: Ahead>(cursor: &mut A) -> Result<(), SkipFault>
     ensures same { A.whose cursor.new ≡ A.whose cursor.old }
     ensures moves { Moves A.rest A.calls cursor.old cursor.new }
     ensures shorter { OnOk result (length (A.rest cursor.new) < length (A.rest cursor.old)) }
@@ -65,7 +41,7 @@ fn skip_number<A: Ahead>(cursor: &mut A) -> Result<(), SkipFault>
 /// Skips a length and so many bytes, unseen.
 #[inline(always)]
 #[tactic(auto, using(crate::proofs::Sets::numbered))]
-fn skip_sized<A: Ahead>(cursor: &mut A) -> Result<(), SkipFault>
+pub fn skip_sized<A: Ahead>(cursor: &mut A) -> Result<(), SkipFault>
     ensures same { A.whose cursor.new ≡ A.whose cursor.old }
     ensures moves { Moves A.rest A.calls cursor.old cursor.new }
     ensures shorter { OnOk result (length (A.rest cursor.new) < length (A.rest cursor.old)) }
@@ -110,7 +86,7 @@ fn block_size(size: i64) -> Result<usize, SkipFault>
 /// Skips a boolean, which is one byte: to look at it costs less than to pass it unseen.
 #[inline(always)]
 #[tactic(auto, using(crate::proofs::Sets::bytes))]
-fn skip_byte<A: Ahead>(cursor: &mut A) -> Result<(), SkipFault>
+pub fn skip_byte<A: Ahead>(cursor: &mut A) -> Result<(), SkipFault>
     ensures same { A.whose cursor.new ≡ A.whose cursor.old }
     ensures moves { Moves A.rest A.calls cursor.old cursor.new }
     ensures shorter { OnOk result (length (A.rest cursor.new) < length (A.rest cursor.old)) }
@@ -126,7 +102,7 @@ fn skip_byte<A: Ahead>(cursor: &mut A) -> Result<(), SkipFault>
 /// Skips `count` bytes, unseen.
 #[inline(always)]
 #[tactic(auto, using(crate::proofs::Sets::jumps))]
-fn skip_bytes<A: Ahead>(cursor: &mut A, count: usize) -> Result<(), SkipFault>
+pub fn skip_bytes<A: Ahead>(cursor: &mut A, count: usize) -> Result<(), SkipFault>
     ensures same { A.whose cursor.new ≡ A.whose cursor.old }
     ensures moves { Moves A.rest A.calls cursor.old cursor.new }
     ensures shown { A.shown cursor.new ≡ A.shown cursor.old }

@@ -11,7 +11,7 @@ ghost use Rattle.avro_reference.specs.Costs.{Moves};
 ghost use Rattle.avro_skip.specs.Skipping.{Passes, PassesMore, member_at};
 
 use crate::fault::SkipFault;
-use crate::flat::{skip_flat, skip_sized_items};
+use crate::flat::{fixed_size, skip_byte, skip_bytes, skip_number, skip_sized, skip_sized_items};
 use avro_reference::Ahead;
 use avro_schema::{AvroField, AvroSchema};
 
@@ -40,8 +40,12 @@ pub fn skip_value<A: Ahead>(cursor: &mut A, schema: &AvroSchema) -> Result<(), S
 }
 
 /// Skips one value of a schema that is no union.
+// It and what it calls for flat values are inlined wherever a value is skipped, since the calls would
+// cost as much as the skipping; and all kinds stand in one match, since a second one would be a second
+// jump.
 #[cycle(skips)]
 #[inline(always)]
+#[tactic(auto, using(crate::proofs::Sets::flats))]
 fn skip_no_union<A: Ahead>(cursor: &mut A, schema: &AvroSchema) -> Result<(), SkipFault>
     requires carried { Carried schema.now }
     requires no_union { IsNoUnion schema.now }
@@ -52,9 +56,15 @@ fn skip_no_union<A: Ahead>(cursor: &mut A, schema: &AvroSchema) -> Result<(), Sk
         (skip schema.now (A.rest cursor.old)) }
 {
     match schema {
+        AvroSchema::Boolean => skip_byte(cursor),
+        AvroSchema::Int(_) | AvroSchema::Long(_) | AvroSchema::Enum(_) => skip_number(cursor),
+        AvroSchema::Float => skip_bytes(cursor, 4),
+        AvroSchema::Double => skip_bytes(cursor, 8),
+        AvroSchema::Bytes(_) | AvroSchema::String(_) => skip_sized(cursor),
+        AvroSchema::Fixed(fixed) => skip_bytes(cursor, fixed_size(fixed)),
         AvroSchema::Record(record) => skip_fields(cursor, record.fields.as_slice()),
         AvroSchema::Array(item) => skip_blocks(cursor, item.get()),
-        _ => skip_flat(cursor, schema),
+        _ => unreachable!(),
     }
 }
 
