@@ -32,8 +32,8 @@ use avro_reference::Ahead;
 use avro_schema::{AvroField, AvroSchema};
 
 /// Reads one value of a schema into one more slot.
-// It is inlined wherever a value is read, so that a flat one, beneath a union too, takes no call into
-// the cycle: `decode_array` and `decode_record`, which the others go through, are not.
+// It is inlined wherever a value is read, so that a flat one takes no call into the cycle. What a
+// union holds is read by a call: `decode_union` is too large to be inlined.
 #[cycle(decode)]
 #[inline(always)]
 #[tactic(auto, using(crate::proofs::Sets::values))]
@@ -111,7 +111,7 @@ fn decode_no_union<C: Ahead>(
 }
 
 #[cycle(decode)]
-#[inline(always)]
+#[inline(never)]
 #[tactic(auto, using(crate::proofs::Sets::values))]
 fn decode_union<C: Ahead>(
     cursor: &mut C,

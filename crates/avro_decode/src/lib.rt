@@ -8,13 +8,13 @@ mod fault;
 mod flat;
 mod items;
 mod kept;
+mod kept_rows;
 mod laws;
 mod make;
 mod prepare;
 mod reserve;
 mod rows;
 mod steps;
-mod whole;
 
 pub use blocks::{deserialize, deserialize_into};
 pub use decoder::Decoder;

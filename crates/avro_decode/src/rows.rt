@@ -18,8 +18,8 @@ ghost use Rattle.avro_decode.specs.Suits.{Suits, AllSuit};
 
 use crate::decode::{decode_items, decode_value};
 use crate::fault::BlockFault;
+use crate::kept_rows::{all_kept, decode_kept_rows};
 use crate::steps::MOST_STEPS;
-use crate::whole::{all_kept, decode_whole_rows};
 use arrow_builders::MutableArray;
 use avro_flat::DecodeFault;
 use avro_reference::Ahead;
@@ -94,7 +94,7 @@ fn decode_rows<C: Ahead>(
         return decode_only_field(cursor, rows, &avro_fields[0].schema, &mut builders[0]);
     }
     if avro_fields.len() <= MOST_STEPS && all_kept(projection) {
-        return decode_whole_rows(cursor, rows, avro_fields, projection, builders);
+        return decode_kept_rows(cursor, rows, avro_fields, projection, builders);
     }
     decode_each_row(cursor, rows, avro_fields, projection, builders)
 }

@@ -217,8 +217,9 @@ fn decode_kind<C: Ahead>(
     }
 }
 
-/// Reads a value of a kind, of which longs and strings take no call by their schema. It is inlined
-/// twice, where more kinds would be too much to inline.
+/// Reads a value of a kind. Longs and strings are read with no look at their schema, and all others by
+/// it.
+// Beneath a union with null it is inlined a second time, where more kinds would be too much to inline.
 #[inline(always)]
 #[tactic(auto, using(crate::proofs::Sets::kinds))]
 fn decode_frequent<C: Ahead>(

@@ -1,5 +1,5 @@
 use Rattle.avro_decode.proofs.FieldSteps.{KeptSoFar}
-use Rattle.avro_decode.proofs.whole.all_kept.Given as goal
+use Rattle.avro_decode.proofs.kept_rows.all_kept.Given as goal
 
 abbrev pub invariant-loop-i : goal.invariant-loop-i
 invariant-loop-i l = record {

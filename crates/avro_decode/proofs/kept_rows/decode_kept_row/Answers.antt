@@ -11,7 +11,7 @@ use Rattle.avro_decode.proofs.Builders.{all_here, all_set, suits_here, reach_her
 use Rattle.avro_decode.proofs.Fields.{suit_length, suit_same, children_none, children_then, children_reach, children_spare, shapes_length}
 use Rattle.avro_decode.proofs.RowSteps.{row_begun, builder_step, builder_fault, row_ended, kept_here, kept_ended}
 use Rattle.avro_decode.proofs.FieldSteps.{fit_here}
-use Rattle.avro_decode.proofs.whole.decode_whole_row.Goals as goal
+use Rattle.avro_decode.proofs.kept_rows.decode_kept_row.Goals as goal
 
 pub loop-i-init : goal.loop-i-init
 loop-i-init g c = record {

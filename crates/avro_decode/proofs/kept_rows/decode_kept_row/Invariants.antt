@@ -7,7 +7,7 @@ use Rattle.avro_grammar.specs.ValidBlock.{kept}
 use Rattle.avro_reference.specs.Costs.{passed}
 use Rattle.avro_decode.specs.Growth.{ChildrenGrow}
 use Rattle.avro_decode.proofs.RowSteps.{RowSoFar}
-use Rattle.avro_decode.proofs.whole.decode_whole_row.Given as goal
+use Rattle.avro_decode.proofs.kept_rows.decode_kept_row.Given as goal
 
 abbrev pub invariant-loop-i : goal.invariant-loop-i
 invariant-loop-i g l = record {

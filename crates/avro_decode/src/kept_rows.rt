@@ -31,7 +31,7 @@ pub fn all_kept(projection: &[bool]) -> bool
 }
 
 /// Reads so many rows of which each field is kept, by the steps of the fields.
-pub fn decode_whole_rows<C: Ahead>(
+pub fn decode_kept_rows<C: Ahead>(
     cursor: &mut C,
     rows: usize,
     avro_fields: &[AvroField],
@@ -59,14 +59,14 @@ pub fn decode_whole_rows<C: Ahead>(
 {
     let steps = steps_of(avro_fields);
     for _ in 0..rows {
-        decode_whole_row(cursor, &steps, avro_fields, projection, builders)?;
+        decode_kept_row(cursor, &steps, avro_fields, projection, builders)?;
     }
     Ok(())
 }
 
 /// Reads one row, each field into its builder.
 #[inline(always)]
-fn decode_whole_row<C: Ahead>(
+fn decode_kept_row<C: Ahead>(
     cursor: &mut C,
     steps: &[Step],
     avro_fields: &[AvroField],

@@ -7,7 +7,7 @@ use Rattle.avro_grammar.specs.ValidBlock.{kept}
 use Rattle.avro_reference.specs.Costs.{passed}
 use Rattle.avro_decode.specs.Growth.{ChildrenGrow}
 use Rattle.avro_decode.proofs.RowSteps.{RowsSoFar}
-use Rattle.avro_decode.proofs.whole.decode_whole_rows.Given as goal
+use Rattle.avro_decode.proofs.kept_rows.decode_kept_rows.Given as goal
 
 abbrev pub invariant-loop : goal.invariant-loop
 invariant-loop g l = record {

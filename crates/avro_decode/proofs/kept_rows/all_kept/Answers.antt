@@ -1,6 +1,6 @@
 use Rattle.std.proofs.Common.{arith}
 use Rattle.avro_decode.proofs.FieldSteps.{kept_next}
-use Rattle.avro_decode.proofs.whole.all_kept.Goals as goal
+use Rattle.avro_decode.proofs.kept_rows.all_kept.Goals as goal
 
 pub loop-i-init : goal.loop-i-init
 loop-i-init c = record { kept = λ i d lt. absurd (omega (arith, lt)) }

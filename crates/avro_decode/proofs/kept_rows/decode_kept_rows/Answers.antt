@@ -4,7 +4,7 @@ use Rattle.avro_grammar.specs.ValidBlock.{kept}
 use Rattle.avro_reference.proofs.Counting.{forward_more, forward_none, moves_within, moves_so_far}
 use Rattle.avro_decode.proofs.Fields.{suit_length, suit_same, children_none, children_then, children_reach, children_spare}
 use Rattle.avro_decode.proofs.RowSteps.{rows_begun, rows_step, rows_fault, rows_ended}
-use Rattle.avro_decode.proofs.whole.decode_whole_rows.Goals as goal
+use Rattle.avro_decode.proofs.kept_rows.decode_kept_rows.Goals as goal
 
 pub loop-init : goal.loop-init
 loop-init g c = record {
@@ -16,8 +16,8 @@ loop-init g c = record {
   grows = children_none _ _ _ (suit_length _ _ c.requires.suits);
 }
 
-pub decode_whole_row-requires : goal.decode_whole_row-requires
-decode_whole_row-requires g c =
+pub decode_kept_row-requires : goal.decode_kept_row-requires
+decode_kept_row-requires g c =
     let inv = c.loop.invariant in
     let fs = kept c.args.avro_fields.now c.args.projection.now in
     record {
@@ -30,33 +30,33 @@ decode_whole_row-requires g c =
       offsets = children_reach _ _ fs _ _ inv.shapes inv.forward inv.grows.each c.requires.offsets;
     }
 
-pub returns-in_err-decode_whole_row-clause-reads : goal.returns-in_err-decode_whole_row-clause-reads
-returns-in_err-decode_whole_row-clause-reads g c =
+pub returns-in_err-decode_kept_row-clause-reads : goal.returns-in_err-decode_kept_row-clause-reads
+returns-in_err-decode_kept_row-clause-reads g c =
     let p = err_from_is_err_and c.from_residual.result c.from_residual.ensures.1 in
     let s : c.args.rows - c.loop.counter ≡ suc (c.args.rows - (c.loop.counter + 1)) = omega (arith, c.loop-test.true) in
-    rw (p.1, p.2) (rows_fault _ _ _ _ _ c.args.rows _ (c.args.rows - (c.loop.counter + 1)) _ _ _ _ s c.loop.invariant.reads _ c.in_err-decode_whole_row.ensures.reads)
+    rw (p.1, p.2) (rows_fault _ _ _ _ _ c.args.rows _ (c.args.rows - (c.loop.counter + 1)) _ _ _ _ s c.loop.invariant.reads _ c.in_err-decode_kept_row.ensures.reads)
 
-pub returns-in_err-decode_whole_row-clause-grows : goal.returns-in_err-decode_whole_row-clause-grows
-returns-in_err-decode_whole_row-clause-grows g c =
+pub returns-in_err-decode_kept_row-clause-grows : goal.returns-in_err-decode_kept_row-clause-grows
+returns-in_err-decode_kept_row-clause-grows g c =
     let inv = c.loop.invariant in
-    let e = c.in_err-decode_whole_row.ensures in
+    let e = c.in_err-decode_kept_row.ensures in
     children_then _ _ _ _ _ _ _ inv.forward e.moves.forward inv.grows e.grows
 
-pub returns-in_err-decode_whole_row-clause-has_capacity : goal.returns-in_err-decode_whole_row-clause-has_capacity
-returns-in_err-decode_whole_row-clause-has_capacity g c = λ h.
+pub returns-in_err-decode_kept_row-clause-has_capacity : goal.returns-in_err-decode_kept_row-clause-has_capacity
+returns-in_err-decode_kept_row-clause-has_capacity g c = λ h.
     let inv = c.loop.invariant in
     let p = err_from_is_err_and c.from_residual.result c.from_residual.ensures.1 in
-    rw (p.1, p.2) (c.in_err-decode_whole_row.ensures.has_capacity (children_spare _ _ _ _ _ inv.forward inv.grows.each h))
+    rw (p.1, p.2) (c.in_err-decode_kept_row.ensures.has_capacity (children_spare _ _ _ _ _ inv.forward inv.grows.each h))
 
-pub returns-in_err-decode_whole_row-clause-moves : goal.returns-in_err-decode_whole_row-clause-moves
-returns-in_err-decode_whole_row-clause-moves g c =
+pub returns-in_err-decode_kept_row-clause-moves : goal.returns-in_err-decode_kept_row-clause-moves
+returns-in_err-decode_kept_row-clause-moves g c =
     let inv = c.loop.invariant in
-    moves_within _ _ _ _ _ _ _ _ inv.reads.4 inv.forward c.in_err-decode_whole_row.ensures.moves
+    moves_within _ _ _ _ _ _ _ _ inv.reads.4 inv.forward c.in_err-decode_kept_row.ensures.moves
 
 pub loop-preserved : goal.loop-preserved
 loop-preserved g c =
     let inv = c.loop.invariant in
-    let e = c.in_ok-decode_whole_row.ensures in
+    let e = c.in_ok-decode_kept_row.ensures in
     let s : c.args.rows - c.loop.counter ≡ suc (c.args.rows - (c.loop.counter + 1)) = omega (arith, c.loop-test.true) in
     record {
       same = e.same ∙ inv.same;
