@@ -52,6 +52,16 @@ module _ (os : List ℤ) (n : ℕ) (o : IsOffsets os n) where
       let e : at (length os - 1) ≡ b = ap place last in
       omega (arith, at_rising 0 (length os - 1) (omega arith) (omega (arith, o.filled)), s, e)
 
+  -- offsets are offsets into whatever the last one lies within
+  pub reach : (b m : ℕ) → offset_at os (length os - 1) ≡ pos b → b ≤ m → IsOffsets os m
+  reach b m last h =
+      let e : at (length os - 1) ≡ b = ap place last in
+      record {
+        filled = o.filled;
+        within = λ k l. subst (λ z. IsWithin z m) (sym (at_is k l)) (omega (arith, at_rising k (length os - 1) (omega (arith, l)) (omega (arith, o.filled)), e, h));
+        rising = o.rising;
+      }
+
 module _ (os : List ℤ) (bytes : List ℕ) (o : IsOffsets os (length bytes)) where
   abbrev there : ℕ → ℕ
   there = at os (length bytes) o

@@ -23,8 +23,8 @@ pub order_at : (y z : ℤ) (a b : ℕ) → IsNotAbove y z → y ≡ pos a → z 
 order_at y z a b h e d = subst (λ w. IsNotAbove (pos a) w) d (subst (λ w. IsNotAbove w z) e h)
 
 -- offset i is not below the one before it
-pub never_below : (offsets : List ℤ) (n i before here : ℕ) → OffsetsBelow offsets n i before → IsOffsets offsets n → i < length offsets → offset_at offsets i ≡ pos here → before ≤ here
-never_below offsets n i b h w o l e = elim (cases_lt 0 i) [
+pub never_below : (offsets : List ℤ) (m n i before here : ℕ) → OffsetsBelow offsets m i before → IsOffsets offsets n → i < length offsets → offset_at offsets i ≡ pos here → before ≤ here
+never_below offsets m n i b h w o l e = elim (cases_lt 0 i) [
   | inl p ↦ let q : i - 1 + 1 ≡ i = omega (arith, p) in
       order_at _ _ _ _ (o.rising (i - 1) (omega (arith, l, q))) (w.last (i - 1) q) (rw q e)
   | inr z ↦ let s : b ≡ 0 = w.start (omega (arith, z)) in omega (arith, s)

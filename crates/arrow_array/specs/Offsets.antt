@@ -31,6 +31,10 @@ pub record IsOffsets (offsets : List ℤ) (n : ℕ) : Type 0 where
   pub within : (k : ℕ) → k < length offsets → IsWithin (offset_at offsets k) n
   pub rising : (k : ℕ) → k + 1 < length offsets → IsNotAbove (offset_at offsets k) (offset_at offsets (k + 1))
 
+-- offsets into some number of items: at least one, none negative, and none falls
+abbrev pub AreRising : List ℤ → Type 0
+AreRising offsets = (n : ℕ) × IsOffsets offsets n
+
 -- the bytes between each two neighbouring offsets are UTF-8
 abbrev pub AreUtf8 : List ℤ → List ℕ → Type 0
 AreUtf8 offsets bytes = (k : ℕ) → k + 1 < length offsets → IsUtf8 (part offsets bytes k)

@@ -138,6 +138,27 @@ impl DictionaryArray {
             let_go((data_type, keys), values);
             return Err(Error::InvalidArgumentError(Reason::ArrayParts));
         }
+        DictionaryArray::from_parts(alloc, data_type, keys, values)
+    }
+
+    /// The array of parts that fit, as `try_new` gives it, without a look at the keys.
+    ///
+    /// `OutOfMemory` alone.
+    pub fn from_parts(
+        alloc: Global,
+        data_type: DataType,
+        keys: Keys,
+        values: Array,
+    ) -> Result<DictionaryArray>
+        requires { DictionaryFits data_type (keys_type keys) (keys_slots keys) (array_type values)
+            (length (array_slots values)) }
+        ensures data_type { IfOk result (λ a. a.data_type ≡ data_type) }
+        ensures slots { IfOk result
+            (λ a. a.slots ≡ map (looked_up (array_slots values)) (keys_slots keys)) }
+        ensures keys { IfOk result (λ a. a.keys ≡ keys_slots keys) }
+        ensures items { IfOk result (λ a. a.items ≡ array_slots values) }
+        ensures err { OnlyOutOfMemory result }
+    {
         let values = Box::new(alloc, values);
         let (values, data_type, keys) = beside(values, data_type, keys)?;
         Ok(DictionaryArray {

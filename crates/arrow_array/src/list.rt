@@ -9,7 +9,7 @@ ghost use Rattle.arrow_array.specs.HoldsDictionary.{holds_dictionary};
 ghost use Rattle.arrow_array.specs.Kinds.{IsListType};
 ghost use Rattle.arrow_array.specs.Lent.{IsPart, part_slots};
 ghost use Rattle.arrow_array.specs.Lists.{IsListOf, ListFits, list_at};
-ghost use Rattle.arrow_array.specs.Offsets.{IsOffsets, offset_at};
+ghost use Rattle.arrow_array.specs.Offsets.{AreRising, IsOffsets, offset_at};
 ghost use Rattle.arrow_array.specs.SlotTypes.{SlotOf};
 ghost use Rattle.arrow_array.specs.Slots.{TellsHeld, is_held, slot_at, slots_of};
 ghost use Rattle.arrow_array.specs.Parts.{IsRefusalOf};
@@ -17,7 +17,7 @@ ghost use Rattle.arrow_array.specs.Parts.{IsRefusalOf};
 use crate::array::Array;
 use crate::buffer::Buffer;
 use crate::drops::{beside, both, boxed, let_go};
-use crate::offsets::{are_offsets, part_bounds};
+use crate::offsets::{are_rising, end_within, part_bounds};
 use crate::part::Part;
 use crate::ranges::tell_offset_ranges;
 use crate::validity::{self, slice_with_type};
@@ -118,13 +118,14 @@ fn is_list_of<O: Offset>(data_type: &DataType, item: &DataType) -> bool
     }
 }
 
-/// Whether these parts make an array of lists.
+/// Whether these parts, of which the offsets don't fall, make an array of lists.
 fn fits<O: Offset>(
     data_type: &DataType,
     offsets: &[O],
     values: &Array,
     validity: &Option<Bitmap>,
 ) -> bool
+    requires { AreRising (map O.number offsets.now) }
     ensures { IsTrue result
         ↔ ListFits O.IS_LARGE data_type.now (array_type values.now) (map O.number offsets.now)
         (array_slots values.now) validity.now }
@@ -132,7 +133,7 @@ fn fits<O: Offset>(
     if !is_list_of::<O>(data_type, values.data_type()) {
         return false;
     }
-    if !are_offsets(offsets, values.len()) {
+    if !end_within(offsets, values.len()) {
         return false;
     }
     validity::fits(validity, offsets.len() - 1)
@@ -170,6 +171,43 @@ impl ListArray {
         values: Array,
         validity: Option<Bitmap>,
     ) -> Result<ListArray>
+        ensures data_type { IfOk result (λ a. a.data_type ≡ data_type) }
+        ensures slots { IfOk result
+            (λ a. a.slots
+            ≡ slots_of (list_at offsets.items (array_slots values)) validity 0
+            (vec_len offsets - 1)) }
+        ensures offsets { IfOk result (λ a. a.offsets ≡ offsets.items) }
+        ensures items { IfOk result (λ a. a.items ≡ array_slots values) }
+        ensures dictionaries { IfOk result (λ a. a.dictionaries ≡ dictionaries_of values) }
+        ensures fits { IfOk result
+            (λ _. ListFits false data_type (array_type values) offsets.items (array_slots values)
+            validity) }
+        ensures err { IfErr result
+            (IsRefusalOf
+            (ListFits false data_type (array_type values) offsets.items (array_slots values)
+            validity)) }
+    {
+        if !are_rising(offsets.as_slice()) {
+            let_go((data_type, validity), (offsets, values));
+            return Err(Error::InvalidArgumentError(Reason::ArrayParts));
+        }
+        ListArray::try_from_rising(alloc, data_type, offsets, values, validity)
+    }
+
+    /// The array that `try_new` gives, for offsets that are known not to fall: of them it looks at
+    /// the last alone.
+    ///
+    /// `InvalidArgumentError(ArrayParts)` where the type isn't that of lists with such offsets of
+    /// the child's type; where the last offset is past the end of the child; or where a given
+    /// validity hasn't one value fewer than there are offsets. `OutOfMemory`.
+    pub fn try_from_rising(
+        alloc: Global,
+        data_type: DataType,
+        offsets: Vec<i32>,
+        values: Array,
+        validity: Option<Bitmap>,
+    ) -> Result<ListArray>
+        requires { AreRising offsets.items }
         ensures data_type { IfOk result (λ a. a.data_type ≡ data_type) }
         ensures slots { IfOk result
             (λ a. a.slots
@@ -324,6 +362,43 @@ impl LargeListArray {
         values: Array,
         validity: Option<Bitmap>,
     ) -> Result<LargeListArray>
+        ensures data_type { IfOk result (λ a. a.data_type ≡ data_type) }
+        ensures slots { IfOk result
+            (λ a. a.slots
+            ≡ slots_of (list_at offsets.items (array_slots values)) validity 0
+            (vec_len offsets - 1)) }
+        ensures offsets { IfOk result (λ a. a.offsets ≡ offsets.items) }
+        ensures items { IfOk result (λ a. a.items ≡ array_slots values) }
+        ensures dictionaries { IfOk result (λ a. a.dictionaries ≡ dictionaries_of values) }
+        ensures fits { IfOk result
+            (λ _. ListFits true data_type (array_type values) offsets.items (array_slots values)
+            validity) }
+        ensures err { IfErr result
+            (IsRefusalOf
+            (ListFits true data_type (array_type values) offsets.items (array_slots values)
+            validity)) }
+    {
+        if !are_rising(offsets.as_slice()) {
+            let_go((data_type, validity), (offsets, values));
+            return Err(Error::InvalidArgumentError(Reason::ArrayParts));
+        }
+        LargeListArray::try_from_rising(alloc, data_type, offsets, values, validity)
+    }
+
+    /// The array that `try_new` gives, for offsets that are known not to fall: of them it looks at
+    /// the last alone.
+    ///
+    /// `InvalidArgumentError(ArrayParts)` where the type isn't that of lists with such offsets of
+    /// the child's type; where the last offset is past the end of the child; or where a given
+    /// validity hasn't one value fewer than there are offsets. `OutOfMemory`.
+    pub fn try_from_rising(
+        alloc: Global,
+        data_type: DataType,
+        offsets: Vec<i64>,
+        values: Array,
+        validity: Option<Bitmap>,
+    ) -> Result<LargeListArray>
+        requires { AreRising offsets.items }
         ensures data_type { IfOk result (λ a. a.data_type ≡ data_type) }
         ensures slots { IfOk result
             (λ a. a.slots

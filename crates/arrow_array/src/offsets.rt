@@ -1,7 +1,7 @@
 //! Offsets, which cut a buffer into parts (Arrow columnar format, "Variable-size Binary Layout").
 ghost use Rattle.std.specs.Prelude.{◌≡◌, ◌+◌, ◌-◌, ◌<◌, ◌≤◌, ◌↔◌, IsTrue, MatchOption, pos, length, map};
 ghost use Rattle.arrow_types.specs.Numbers.{IsNegative, IsIndex};
-ghost use Rattle.arrow_array.specs.Offsets.{IsOffsets, offset_at, part};
+ghost use Rattle.arrow_array.specs.Offsets.{AreRising, IsOffsets, offset_at, part};
 
 use arrow_types::Offset;
 
@@ -60,10 +60,10 @@ pub(crate) fn part_of<'a, O: Offset, T>(offsets: &[O], values: &'a [T], k: usize
     &values[start..end]
 }
 
-/// Whether these are offsets into a buffer of `len` items: at least one, none negative, none
-/// below the one before, and none past the end.
-pub(crate) fn are_offsets<O: Offset>(offsets: &[O], len: usize) -> bool
-    ensures { IsTrue result ↔ IsOffsets (map O.number offsets.now) len }
+/// Whether these are offsets into some number of items: at least one, none negative, and none
+/// below the one before.
+pub(crate) fn are_rising<O: Offset>(offsets: &[O]) -> bool
+    ensures { IsTrue result ↔ AreRising (map O.number offsets.now) }
 {
     if offsets.is_empty() {
         return false;
@@ -73,7 +73,7 @@ pub(crate) fn are_offsets<O: Offset>(offsets: &[O], len: usize) -> bool
         match checked_offset(offsets, i) {
             None => return false,
             Some(here) => {
-                if here < before || len < here {
+                if here < before {
                     return false;
                 }
                 before = here;
@@ -81,4 +81,24 @@ pub(crate) fn are_offsets<O: Offset>(offsets: &[O], len: usize) -> bool
         }
     }
     true
+}
+
+/// Whether offsets that don't fall are offsets into a buffer of `len` items: the last isn't past
+/// the end, and so none is.
+pub(crate) fn end_within<O: Offset>(offsets: &[O], len: usize) -> bool
+    requires { AreRising (map O.number offsets.now) }
+    ensures { IsTrue result ↔ IsOffsets (map O.number offsets.now) len }
+{
+    offset(offsets, offsets.len() - 1) <= len
+}
+
+/// Whether these are offsets into a buffer of `len` items: at least one, none negative, none
+/// below the one before, and none past the end.
+pub(crate) fn are_offsets<O: Offset>(offsets: &[O], len: usize) -> bool
+    ensures { IsTrue result ↔ IsOffsets (map O.number offsets.now) len }
+{
+    if !are_rising(offsets) {
+        return false;
+    }
+    end_within(offsets, len)
 }

@@ -41,7 +41,8 @@ fn append_through<R: BufRead>(
 ) -> Result<usize>
     requires { 0 < most }
     ensures given { IfOk result (λ n. GivesThrough
-        (R.remaining reader.old) (R.remaining reader.new) byte most line.old.items line.new.items n) }
+        (R.remaining reader.old) (R.remaining reader.new) byte most line.old.items line.new.items
+        n) }
     ensures err { IfErr result (NoneGiven 0 last_count) }
     ensures unchanged { OnErr result (Keeps (R.remaining reader.old) (R.remaining reader.new)) }
     ensures unchanged_line { OnErr result (line.new.items ≡ line.old.items) }
@@ -59,7 +60,8 @@ fn append_through<R: BufRead>(
 fn append_next<R: Read>(reader: &mut R, byte: u8, most: usize, line: &mut Vec<u8>) -> Result<usize>
     requires { 0 < most }
     ensures given { IfOk result (λ n. GivesThrough
-        (R.remaining reader.old) (R.remaining reader.new) byte most line.old.items line.new.items n) }
+        (R.remaining reader.old) (R.remaining reader.new) byte most line.old.items line.new.items
+        n) }
     ensures end { IfOk result (λ n. n ≡ 0 → IsAtEnd (R.remaining reader.new)) }
     ensures err { IfErr result (NoneGiven 0 last_count) }
     ensures unchanged { OnErr result (Keeps (R.remaining reader.old) (R.remaining reader.new)) }
@@ -87,7 +89,8 @@ fn append_some<R: BufRead>(
 ) -> Result<usize>
     requires { 0 < most }
     ensures given { IfOk result (λ n. GivesThrough
-        (R.remaining reader.old) (R.remaining reader.new) byte most line.old.items line.new.items n) }
+        (R.remaining reader.old) (R.remaining reader.new) byte most line.old.items line.new.items
+        n) }
     ensures end { IfOk result (λ n. n ≡ 0 → IsAtEnd (R.remaining reader.new)) }
     ensures err { IfErr result (NoneGiven 0 last_count) }
     ensures unchanged { OnErr result (Keeps (R.remaining reader.old) (R.remaining reader.new)) }

@@ -35,13 +35,13 @@ pub enum MutableArray {
     Null(MutableNullArray),
     /// Booleans.
     Boolean(MutableBooleanArray),
-    /// Numbers of 8 bits, of any type that is kept as such.
+    /// Integers of 8 bits, of any type that is kept as such.
     Int8(MutablePrimitiveArray<i8>),
-    /// Numbers of 16 bits, of any type that is kept as such.
+    /// Integers of 16 bits, of any type that is kept as such.
     Int16(MutablePrimitiveArray<i16>),
-    /// Numbers of 32 bits, of any type that is kept as such.
+    /// Integers of 32 bits, of any type that is kept as such.
     Int32(MutablePrimitiveArray<i32>),
-    /// Numbers of 64 bits, of any type that is kept as such.
+    /// Integers of 64 bits, of any type that is kept as such.
     Int64(MutablePrimitiveArray<i64>),
     /// Unsigned numbers of 8 bits.
     UInt8(MutablePrimitiveArray<u8>),
@@ -51,7 +51,7 @@ pub enum MutableArray {
     UInt32(MutablePrimitiveArray<u32>),
     /// Unsigned numbers of 64 bits.
     UInt64(MutablePrimitiveArray<u64>),
-    /// Numbers of 128 bits, of any type that is kept as such.
+    /// Integers of 128 bits, of any type that is kept as such.
     Int128(MutablePrimitiveArray<i128>),
     /// Intervals.
     MonthDayNano(MutablePrimitiveArray<MonthsDaysNs>),

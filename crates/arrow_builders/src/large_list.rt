@@ -155,6 +155,6 @@ impl DynMutableLargeListArray {
         let alloc = self.lists.alloc();
         let values = self.values.box_nodes()?;
         let (data_type, offsets, validity) = self.lists.take()?;
-        LargeListArray::try_new(alloc, data_type, offsets, values, Some(validity))
+        LargeListArray::try_from_rising(alloc, data_type, offsets, values, Some(validity))
     }
 }

@@ -153,6 +153,6 @@ impl DynMutableListArray {
         let alloc = self.lists.alloc();
         let values = self.values.box_nodes()?;
         let (data_type, offsets, validity) = self.lists.take()?;
-        ListArray::try_new(alloc, data_type, offsets, values, Some(validity))
+        ListArray::try_from_rising(alloc, data_type, offsets, values, Some(validity))
     }
 }

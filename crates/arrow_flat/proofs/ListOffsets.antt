@@ -1,11 +1,12 @@
 -- Lists told by their lengths: their offsets, and one list more.
-use Rattle.std.proofs.Common.{◌≡◌, ap, ◌∙◌, sym, Bool, ℕ, zero, suc, ◌+◌, ◌-◌, ◌≤◌, ℤ, pos, List, [], ◌∷◌, ◌++◌, map, length, take, drop, get_or, Option, Some, None, refl, arith, zero-add}
+use Rattle.std.proofs.Common.{◌≡◌, ap, ◌∙◌, sym, Bool, ℕ, zero, suc, ◌+◌, ◌-◌, ◌≤◌, ℤ, pos, List, [], ◌∷◌, ◌++◌, map, length, take, drop, get_or, Option, Some, None, refl, arith, zero-add, add-one, subst, ◌<◌}
 use Rattle.std.specs.Option.{is_some}
 use Rattle.std.proofs.Math.Seq.{drop-cons}
 use Rattle.std.proofs.lemmas.List.{length-map, get_or-map, map-append, length-drop, take_all}
 use Rattle.arrow_types.specs.Numbers.{greatest_offset}
 use Rattle.arrow_types.specs.declared.slot.Slot.{Slot}
 use Rattle.arrow_types.specs.declared.slot.Slot.TheVariants as slot
+use Rattle.arrow_array.specs.Offsets.{AreRising, IsNotAbove, IsOffsets, IsWithin, offset_at}
 use Rattle.arrow_array.specs.Slots.{slot_at}
 use Rattle.arrow_flat.specs.Nested.{list_len, items_of, slots_from, list_slot, lists_from, ends_from, offsets_of, lens_of, HoldLists}
 
@@ -43,6 +44,24 @@ last_end s (l ∷ ls) d =
 pub last_offset : (ls : List (Option ℕ)) (d : ℤ) → get_or (offsets_of ls) (length ls) d ≡ pos (items_of ls)
 last_offset ls d = last_end 0 ls d ∙ ap pos (zero-add (items_of ls))
 
+ends_within : (s : ℕ) (ls : List (Option ℕ)) (n : ℕ) → s + items_of ls ≤ n → (k : ℕ) → k < length (pos s ∷ ends_from s ls) → IsWithin (offset_at (pos s ∷ ends_from s ls) k) n
+ends_within s ls n h zero l = omega (arith, h)
+ends_within s [] n h (suc k) l = absurd (omega (arith, l))
+ends_within s (o ∷ ls) n h (suc k) l = ends_within (s + list_len o) ls n (omega (arith, h)) k (omega (arith, l))
+
+ends_rising : (s : ℕ) (ls : List (Option ℕ)) (k : ℕ) → suc k < length (pos s ∷ ends_from s ls) → IsNotAbove (offset_at (pos s ∷ ends_from s ls) k) (offset_at (pos s ∷ ends_from s ls) (suc k))
+ends_rising s [] k l = absurd (omega (arith, l))
+ends_rising s (o ∷ ls) zero l = omega arith
+ends_rising s (o ∷ ls) (suc k) l = ends_rising (s + list_len o) ls k (omega (arith, l))
+
+-- the offsets don't fall, and are offsets into as many items as the lists have, or more
+pub are_offsets : (ls : List (Option ℕ)) (n : ℕ) → items_of ls ≤ n → IsOffsets (offsets_of ls) n
+are_offsets ls n h = record {
+  filled = omega (arith, length-offsets ls);
+  within = ends_within 0 ls n (omega (arith, h));
+  rising = λ k l. rw add-one (ends_rising 0 ls k (omega (arith, l)));
+}
+
 -- the lengths are told by offsets and validity
 lens-offsets : (s : ℕ) (ls : List (Option ℕ)) → lens_of (pos s ∷ ends_from s ls) (map is_some ls) ≡ ls
 lens-offsets s [] = refl
@@ -56,6 +75,9 @@ lens_known os ts ls e d = rw (e, d) (lens-offsets 0 ls)
 
 pub hold_lens : (is_large : Bool) (os : List ℤ) (ts : List Bool) (ls : List (Option ℕ)) → os ≡ offsets_of ls → ts ≡ map is_some ls → items_of ls ≤ greatest_offset is_large → HoldLists is_large os ts (lens_of os ts)
 hold_lens is_large os ts ls e d h = rw (lens_known os ts ls e d) (record { offsets_are = e; booleans_are = d; limit = h })
+
+pub hold_rising : (is_large : Bool) (os : List ℤ) (ts : List Bool) (ls : List (Option ℕ)) → HoldLists is_large os ts ls → AreRising os
+hold_rising is_large os ts ls h = subst AreRising (sym h.offsets_are) (items_of ls, are_offsets ls (items_of ls) (omega arith))
 
 -- one list more
 module _ (is_large : Bool) (os us : List ℤ) (ts ss : List Bool) (ls : List (Option ℕ)) (l : Option ℕ) (m : ℕ)

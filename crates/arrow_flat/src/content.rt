@@ -125,7 +125,23 @@ fn reserve_item<T>(items: &mut Vec<T>) -> std::result::Result<(), AllocError>
     items.reserve(1)
 }
 
-/// Appends these bytes. Where there are none, the call that moves bytes is spared.
+/// Up to how many bytes are appended one by one: so few take less time than the call that moves
+/// bytes.
+const FEW_BYTES: usize = 8;
+
+/// Appends these bytes one by one, within spare capacity.
+#[inline(always)]
+fn append_few(values: &mut Vec<u8>, bytes: &[u8])
+    requires { vec_len values.old + length bytes.now ≤ vec_capacity values.old }
+    ensures items { values.new.items ≡ values.old.items ++ bytes.now }
+    ensures capacity { vec_capacity values.new ≡ vec_capacity values.old }
+{
+    for byte in bytes {
+        values.push_reserved(*byte);
+    }
+}
+
+/// Appends these bytes. Where they are few, the call that moves bytes is spared.
 #[inline(always)]
 fn append(values: &mut Vec<u8>, bytes: &[u8]) -> std::result::Result<(), AllocError>
     ensures items { OnOk result (values.new.items ≡ values.old.items ++ bytes.now) }
@@ -134,10 +150,14 @@ fn append(values: &mut Vec<u8>, bytes: &[u8]) -> std::result::Result<(), AllocEr
     ensures succeeds { vec_len values.old + length bytes.now ≤ vec_capacity values.old
         → IsOk result }
 {
-    if bytes.len() == 0 {
-        return Ok(());
+    if bytes.len() > FEW_BYTES {
+        return values.extend_from_slice(bytes);
     }
-    values.extend_from_slice(bytes)
+    if values.capacity() - values.len() < bytes.len() {
+        values.reserve(bytes.len())?;
+    }
+    append_few(values, bytes);
+    Ok(())
 }
 
 #[tactic(auto, using(crate::proofs::Slots::content_counts))]

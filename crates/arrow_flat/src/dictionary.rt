@@ -167,7 +167,7 @@ impl FixedItemsUtf8Dictionary {
         let data_type = self.data_type.try_clone(self.alloc)?;
         let values = self.values.slice(self.alloc, 0, self.values.len())?;
         let keys = self.keys.as_box()?;
-        DictionaryArray::try_new(
+        DictionaryArray::from_parts(
             self.alloc,
             data_type,
             Keys::Int32(keys),

@@ -4,6 +4,7 @@ ghost use Rattle.std.specs.Prelude.{◌≡◌, ◌+◌, ◌-◌, ◌<◌, ◌≤
 ghost use Rattle.arrow_core.specs.Errors.{OnlyOutOfMemory};
 ghost use Rattle.arrow_core.specs.declared.error.Error.TheVariants.{OutOfMemory, Overflow};
 ghost use Rattle.arrow_types.specs.Numbers.{greatest_offset};
+ghost use Rattle.arrow_array.specs.Offsets.{AreRising};
 ghost use Rattle.arrow_flat.specs.Nested.{items_of, lists_node, offsets_of};
 ghost use Rattle.arrow_flat.specs.Nodes.{KeepsCapacity, NoLessSpare, Emptied, HasSpare};
 
@@ -176,6 +177,7 @@ impl<O: Offset> MutableLists<O> {
         ensures lens { OnOk result (self.new.lens ≡ []) }
         ensures same_type { IfOk result (λ p. p.0 ≡ self.old.data_type) }
         ensures offsets { IfOk result (λ p. map O.number p.1.items ≡ offsets_of self.old.lens) }
+        ensures rising { IfOk result (λ p. AreRising (map O.number p.1.items)) }
         ensures validity { IfOk result (λ p. p.2.booleans ≡ map is_some self.old.lens) }
         ensures memory { OnlyOutOfMemory result }
     {

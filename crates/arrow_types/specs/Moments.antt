@@ -1,4 +1,4 @@
--- Intervals are equal exactly where their three parts are.
+-- Intervals are equal exactly where their three parts are. Cited by a model alone; nothing here has to be read to believe a public contract.
 use mathlib.Core.Path.{ap}
 use Rattle.std.specs.Prelude.{◌≡◌, ◌&&◌}
 use Rattle.std.specs.Ordering.{int_eq}

@@ -4,7 +4,7 @@ use arrow_array::{
     BinaryArray, BooleanArray, DictionaryArray, FixedSizeBinaryArray, PrimitiveArray, Utf8Array,
 };
 use arrow_builders::{
-    Container, FixedItemsUtf8Dictionary, MutableBinaryArray, MutableBooleanArray,
+    Container, FixedItemsUtf8Dictionary, MutableArray, MutableBinaryArray, MutableBooleanArray,
     MutableFixedSizeBinaryArray, MutableNullArray, MutablePrimitiveArray, MutableUtf8Array,
 };
 use arrow_types::{DataType, MonthsDaysNs, NativeType};
@@ -136,8 +136,13 @@ fn fixed_size_binary_values_are_kept(rt: HostRuntime) {
     assert!(rt; is_pair_and_null(pair_and_null(&rt, rt.alloc())));
 }
 
+fn are_no_nulls(builder: MutableArray) -> bool {
+    matches!(builder.data_type(), DataType::Null) && builder.len() == 0
+}
+
 #[test]
 fn nulls_are_counted(rt: HostRuntime) {
+    assert!(rt; are_no_nulls(MutableArray::Null(MutableNullArray::new(rt.alloc()))));
     let mut builder = MutableNullArray::new(rt.alloc());
     builder.push_null().expect(&rt, "memory");
     assert!(rt; builder.as_box().expect(&rt, "memory").len() == 1 && builder.len() == 0);

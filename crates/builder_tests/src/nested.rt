@@ -26,59 +26,78 @@ fn given(rt: &impl Abort, mut builder: MutableArray) -> Array {
     array
 }
 
-/// Whether an array has this number last.
-fn ends_with(array: &Array, number: i32) -> bool {
+/// Whether an array is that of 5 alone.
+fn is_five(array: &Array) -> bool {
     match array {
-        Array::Int32(numbers) => numbers.len() > 0 && numbers.value(numbers.len() - 1) == number,
+        Array::Int32(numbers) => numbers.len() == 1 && numbers.value(0) == 5,
         _ => false,
     }
 }
 
-/// Pushes a list of 5 and an empty one.
-fn push_lists(rt: &impl Abort, builder: &mut DynMutableListArray) {
-    push_integer(rt, builder.mut_values(), 5);
-    builder.try_push_valid().expect(rt, "memory");
-    builder.try_push_valid().expect(rt, "memory");
+/// Pushes the list of what the child took since the last one.
+fn push_list(rt: &impl Abort, builder: &mut MutableArray) {
+    match builder {
+        MutableArray::List(lists) => lists.try_push_valid().expect(rt, "memory"),
+        MutableArray::LargeList(lists) => lists.try_push_valid().expect(rt, "memory"),
+        _ => {}
+    }
+}
+
+/// The array of a list of what the child took, a null and an empty list.
+fn given_three(rt: &impl Abort, mut builder: MutableArray) -> Array {
+    push_list(rt, &mut builder);
+    builder.push_null().expect(rt, "memory");
+    push_list(rt, &mut builder);
+    given(rt, builder)
+}
+
+/// Whether an array has three slots, of which the second alone is null.
+fn has_null_between(array: &Array) -> bool {
+    array.len() == 3 && array.is_valid(0) && !array.is_valid(1) && array.is_valid(2)
 }
 
 fn given_lists(rt: &impl Abort, mut builder: DynMutableListArray) -> Array {
-    push_lists(rt, &mut builder);
-    given(rt, MutableArray::List(builder))
+    push_integer(rt, builder.mut_values(), 5);
+    given_three(rt, MutableArray::List(builder))
 }
 
-/// Whether an array is that of these two.
+/// Whether an array is that of the list of 5, a null and an empty list.
 fn are_lists(array: Array) -> bool {
     match &array {
         Array::List(lists) => {
-            lists.offsets() == [0, 1, 1].as_slice() && ends_with(lists.values(), 5)
+            has_null_between(&array)
+                && lists.offsets() == [0, 1, 1, 1].as_slice()
+                && is_five(lists.values())
         }
         _ => false,
     }
 }
 
 #[test]
-fn lists_end_where_their_child_does(rt: HostRuntime) {
+fn lists_end_where_their_child_does_and_a_null_has_no_items(rt: HostRuntime) {
     assert!(rt; are_lists(given_lists(&rt, new_list(&rt, rt.alloc()))));
 }
 
-fn given_large_list(rt: &impl Abort, mut builder: DynMutableLargeListArray) -> Array {
+fn given_large_lists(rt: &impl Abort, mut builder: DynMutableLargeListArray) -> Array {
     push_integer(rt, builder.mut_values(), 5);
-    builder.try_push_valid().expect(rt, "memory");
-    given(rt, MutableArray::LargeList(builder))
+    given_three(rt, MutableArray::LargeList(builder))
 }
 
-fn is_large_list(array: Array) -> bool {
+/// Whether an array is that of these three, with offsets of 64 bits.
+fn are_large_lists(array: Array) -> bool {
     match &array {
         Array::LargeList(lists) => {
-            lists.offsets() == [0, 1].as_slice() && ends_with(lists.values(), 5)
+            has_null_between(&array)
+                && lists.offsets() == [0, 1, 1, 1].as_slice()
+                && is_five(lists.values())
         }
         _ => false,
     }
 }
 
 #[test]
-fn a_large_list_ends_where_its_child_does(rt: HostRuntime) {
-    assert!(rt; is_large_list(given_large_list(&rt, new_large_list(&rt, rt.alloc()))));
+fn large_lists_end_where_their_child_does_and_a_null_has_no_items(rt: HostRuntime) {
+    assert!(rt; are_large_lists(given_large_lists(&rt, new_large_list(&rt, rt.alloc()))));
 }
 
 fn gives_no_array(builder: &mut MutableArray) -> bool {
@@ -90,7 +109,8 @@ fn gives_no_array(builder: &mut MutableArray) -> bool {
 
 /// Whether a builder of lists whose child was emptied takes no list, and gives no array.
 fn is_refused(rt: &impl Abort, mut builder: DynMutableListArray) -> bool {
-    push_lists(rt, &mut builder);
+    push_integer(rt, builder.mut_values(), 5);
+    builder.try_push_valid().expect(rt, "memory");
     builder.mut_values().clear();
     assert!(rt; builder.try_push_valid() == Err(Error::Overflow));
     gives_no_array(&mut MutableArray::List(builder))
@@ -144,6 +164,24 @@ fn is_one_struct(array: Array) -> bool {
 #[test]
 fn a_struct_has_the_slots_of_its_children(rt: HostRuntime) {
     assert!(rt; is_one_struct(given_struct(&rt, new_struct(&rt, rt.alloc()))));
+}
+
+/// Whether a null takes one slot of a builder, and so many of its child.
+fn null_takes(rt: &impl Abort, mut builder: MutableArray, slots: usize) -> bool {
+    builder.push_null().expect(rt, "memory");
+    builder.node_lengths(0) == Some(NodeLengths { slots: 1, bytes: 0 })
+        && builder.node_lengths(1) == Some(NodeLengths { slots, bytes: 0 })
+}
+
+#[test]
+fn a_null_struct_takes_a_slot_of_its_child(rt: HostRuntime) {
+    assert!(rt; null_takes(&rt, MutableArray::Struct(new_struct(&rt, rt.alloc())), 1));
+}
+
+#[test]
+fn a_null_pair_takes_two_slots_of_its_child(rt: HostRuntime) {
+    let pairs = MutableArray::FixedSizeList(new_pair(&rt, rt.alloc()));
+    assert!(rt; null_takes(&rt, pairs, 2));
 }
 
 fn push_eight(rt: &impl Abort, builder: &mut MutableArray) {

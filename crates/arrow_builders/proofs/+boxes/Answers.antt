@@ -120,6 +120,9 @@ list::DynMutableListArray::as_box-returns-in_err-data_type t c =
     let r = c.from_residual-in_err-data_type in
     unboxed (λ (a : ListColumn). a.data_type) (λ (a : ListColumn). a.slots) (ListOf b) _ c.in_err-data_type.field-0.0 r.result r.ensures.1 (lists_same physical.List b.lists.data_type c.take.new.self.data_type (shape b.values.value) (shape c.box_nodes.new.self) c.take.ensures.data_type (c.box_nodes.ensures.same_shape ∙ ap shape c.deref_mut.ensures.value)) (inl c.in_err-data_type.ensures.memory)
 
+pub list::DynMutableListArray::as_box-try_from_rising-requires : goal.list::DynMutableListArray::as_box-try_from_rising-requires
+list::DynMutableListArray::as_box-try_from_rising-requires t c = rw (map-id c.in_ok-data_type.offsets.items) at c.in_ok-data_type.ensures.rising
+
 pub list::DynMutableListArray::as_box-returns : goal.list::DynMutableListArray::as_box-returns
 list::DynMutableListArray::as_box-returns t c =
     let b = c.args.self.now in
@@ -139,11 +142,11 @@ list::DynMutableListArray::as_box-returns t c =
     let first : IsEmpty (lists_node m) = record { slots = ap length c.in_ok-data_type.ensures.lens; bytes = refl } in
     record {
       same_shape = lists_same physical.List b.lists.data_type m.data_type (shape child) (shape new) c.take.ensures.data_type (c.box_nodes.ensures.same_shape ∙ ap shape same);
-      same_type = typed (λ (a : ListColumn). a.data_type) c.try_new.result _ _ c.try_new.ensures.data_type te;
-      same_slots = shown_slots (λ (a : ListColumn). a.slots) parts c.try_new.result _ _ c.try_new.ensures.slots c.try_new.ensures.fits (λ p. same_lists false b.lists.data_type c.in_ok-data_type.data_type (builder_type child) (array_type c.in_ok-values.values) ls c.in_ok-data_type.offsets.items (builder_slots child) (array_slots c.in_ok-values.values) c.in_ok-data_type.validity c.in_ok-data_type.offsets.len te ie oe ye ve ne p);
-      emptied = always _ c.try_new.result (All-cons IsEmpty (lists_node m) (nodes new) first c.in_ok-values.ensures.emptied);
-      fits = accepted parts (ChildrenFit (ListOf b)) c.try_new.result (λ p. from_parts false b.lists.data_type c.in_ok-data_type.data_type (builder_type child) (array_type c.in_ok-values.values) ls c.in_ok-data_type.offsets.items (builder_slots child) (array_slots c.in_ok-values.values) c.in_ok-data_type.validity c.in_ok-data_type.offsets.len te ie oe ye ve ne (ChildrenFit child) below p) c.try_new.ensures.fits;
-      err = refusal parts (ChildrenFit (ListOf b)) c.try_new.result (λ q. to_parts false b.lists.data_type c.in_ok-data_type.data_type (builder_type child) (array_type c.in_ok-values.values) ls c.in_ok-data_type.offsets.items (builder_slots child) (array_slots c.in_ok-values.values) c.in_ok-data_type.validity c.in_ok-data_type.offsets.len te ie oe ye ve ne (ChildrenFit child) q) c.try_new.ensures.err;
+      same_type = typed (λ (a : ListColumn). a.data_type) c.try_from_rising.result _ _ c.try_from_rising.ensures.data_type te;
+      same_slots = shown_slots (λ (a : ListColumn). a.slots) parts c.try_from_rising.result _ _ c.try_from_rising.ensures.slots c.try_from_rising.ensures.fits (λ p. same_lists false b.lists.data_type c.in_ok-data_type.data_type (builder_type child) (array_type c.in_ok-values.values) ls c.in_ok-data_type.offsets.items (builder_slots child) (array_slots c.in_ok-values.values) c.in_ok-data_type.validity c.in_ok-data_type.offsets.len te ie oe ye ve ne p);
+      emptied = always _ c.try_from_rising.result (All-cons IsEmpty (lists_node m) (nodes new) first c.in_ok-values.ensures.emptied);
+      fits = accepted parts (ChildrenFit (ListOf b)) c.try_from_rising.result (λ p. from_parts false b.lists.data_type c.in_ok-data_type.data_type (builder_type child) (array_type c.in_ok-values.values) ls c.in_ok-data_type.offsets.items (builder_slots child) (array_slots c.in_ok-values.values) c.in_ok-data_type.validity c.in_ok-data_type.offsets.len te ie oe ye ve ne (ChildrenFit child) below p) c.try_from_rising.ensures.fits;
+      err = refusal parts (ChildrenFit (ListOf b)) c.try_from_rising.result (λ q. to_parts false b.lists.data_type c.in_ok-data_type.data_type (builder_type child) (array_type c.in_ok-values.values) ls c.in_ok-data_type.offsets.items (builder_slots child) (array_slots c.in_ok-values.values) c.in_ok-data_type.validity c.in_ok-data_type.offsets.len te ie oe ye ve ne (ChildrenFit child) q) c.try_from_rising.ensures.err;
     }
 
 pub large_list::DynMutableLargeListArray::as_box-returns-in_err-values : goal.large_list::DynMutableLargeListArray::as_box-returns-in_err-values
@@ -162,6 +165,9 @@ large_list::DynMutableLargeListArray::as_box-returns-in_err-data_type t c =
     let b = c.args.self.now in
     let r = c.from_residual-in_err-data_type in
     unboxed (λ (a : ListColumn). a.data_type) (λ (a : ListColumn). a.slots) (LargeList b) _ c.in_err-data_type.field-0.0 r.result r.ensures.1 (lists_same physical.LargeList b.lists.data_type c.take.new.self.data_type (shape b.values.value) (shape c.box_nodes.new.self) c.take.ensures.data_type (c.box_nodes.ensures.same_shape ∙ ap shape c.deref_mut.ensures.value)) (inl c.in_err-data_type.ensures.memory)
+
+pub large_list::DynMutableLargeListArray::as_box-try_from_rising-requires : goal.large_list::DynMutableLargeListArray::as_box-try_from_rising-requires
+large_list::DynMutableLargeListArray::as_box-try_from_rising-requires t c = rw (map-id c.in_ok-data_type.offsets.items) at c.in_ok-data_type.ensures.rising
 
 pub large_list::DynMutableLargeListArray::as_box-returns : goal.large_list::DynMutableLargeListArray::as_box-returns
 large_list::DynMutableLargeListArray::as_box-returns t c =
@@ -182,11 +188,11 @@ large_list::DynMutableLargeListArray::as_box-returns t c =
     let first : IsEmpty (lists_node m) = record { slots = ap length c.in_ok-data_type.ensures.lens; bytes = refl } in
     record {
       same_shape = lists_same physical.LargeList b.lists.data_type m.data_type (shape child) (shape new) c.take.ensures.data_type (c.box_nodes.ensures.same_shape ∙ ap shape same);
-      same_type = typed (λ (a : ListColumn). a.data_type) c.try_new.result _ _ c.try_new.ensures.data_type te;
-      same_slots = shown_slots (λ (a : ListColumn). a.slots) parts c.try_new.result _ _ c.try_new.ensures.slots c.try_new.ensures.fits (λ p. same_lists true b.lists.data_type c.in_ok-data_type.data_type (builder_type child) (array_type c.in_ok-values.values) ls c.in_ok-data_type.offsets.items (builder_slots child) (array_slots c.in_ok-values.values) c.in_ok-data_type.validity c.in_ok-data_type.offsets.len te ie oe ye ve ne p);
-      emptied = always _ c.try_new.result (All-cons IsEmpty (lists_node m) (nodes new) first c.in_ok-values.ensures.emptied);
-      fits = accepted parts (ChildrenFit (LargeList b)) c.try_new.result (λ p. from_parts true b.lists.data_type c.in_ok-data_type.data_type (builder_type child) (array_type c.in_ok-values.values) ls c.in_ok-data_type.offsets.items (builder_slots child) (array_slots c.in_ok-values.values) c.in_ok-data_type.validity c.in_ok-data_type.offsets.len te ie oe ye ve ne (ChildrenFit child) below p) c.try_new.ensures.fits;
-      err = refusal parts (ChildrenFit (LargeList b)) c.try_new.result (λ q. to_parts true b.lists.data_type c.in_ok-data_type.data_type (builder_type child) (array_type c.in_ok-values.values) ls c.in_ok-data_type.offsets.items (builder_slots child) (array_slots c.in_ok-values.values) c.in_ok-data_type.validity c.in_ok-data_type.offsets.len te ie oe ye ve ne (ChildrenFit child) q) c.try_new.ensures.err;
+      same_type = typed (λ (a : ListColumn). a.data_type) c.try_from_rising.result _ _ c.try_from_rising.ensures.data_type te;
+      same_slots = shown_slots (λ (a : ListColumn). a.slots) parts c.try_from_rising.result _ _ c.try_from_rising.ensures.slots c.try_from_rising.ensures.fits (λ p. same_lists true b.lists.data_type c.in_ok-data_type.data_type (builder_type child) (array_type c.in_ok-values.values) ls c.in_ok-data_type.offsets.items (builder_slots child) (array_slots c.in_ok-values.values) c.in_ok-data_type.validity c.in_ok-data_type.offsets.len te ie oe ye ve ne p);
+      emptied = always _ c.try_from_rising.result (All-cons IsEmpty (lists_node m) (nodes new) first c.in_ok-values.ensures.emptied);
+      fits = accepted parts (ChildrenFit (LargeList b)) c.try_from_rising.result (λ p. from_parts true b.lists.data_type c.in_ok-data_type.data_type (builder_type child) (array_type c.in_ok-values.values) ls c.in_ok-data_type.offsets.items (builder_slots child) (array_slots c.in_ok-values.values) c.in_ok-data_type.validity c.in_ok-data_type.offsets.len te ie oe ye ve ne (ChildrenFit child) below p) c.try_from_rising.ensures.fits;
+      err = refusal parts (ChildrenFit (LargeList b)) c.try_from_rising.result (λ q. to_parts true b.lists.data_type c.in_ok-data_type.data_type (builder_type child) (array_type c.in_ok-values.values) ls c.in_ok-data_type.offsets.items (builder_slots child) (array_slots c.in_ok-values.values) c.in_ok-data_type.validity c.in_ok-data_type.offsets.len te ie oe ye ve ne (ChildrenFit child) q) c.try_from_rising.ensures.err;
     }
 
 pub fixed_size_list::MutableFixedSizeListArray::as_box-returns-in_err-values : goal.fixed_size_list::MutableFixedSizeListArray::as_box-returns-in_err-values

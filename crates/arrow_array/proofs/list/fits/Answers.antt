@@ -17,6 +17,6 @@ returns g c =
     let e : length (map g.O.Offset.number c.args.offsets.now) ≡ length c.args.offsets.now = length-map c.args.offsets.now g.O.Offset.number in (
       λ t.
           let kind = rw c.data_type.ensures.data_type at (c.is_list_of.ensures.0 c.if-not-is_list_of.false) in
-          lists_fit _ kind c.len.ensures (c.are_offsets.ensures.0 c.if-not-are_offsets.false) (rw e (c.fits.ensures.0 t)),
+          lists_fit _ kind c.len.ensures (c.end_within.ensures.0 c.if-not-end_within.false) (rw e (c.fits.ensures.0 t)),
       λ h. c.fits.ensures.1 (rw e at h.validity_fits),
     )

@@ -8,4 +8,4 @@ pub returns-clause-array_slots : goal.returns-clause-array_slots
 returns-clause-array_slots c =
     let b = c.self.inside in
     let v : c.in_ok-values.values.slots ≡ b.values.slots = c.in_ok-values.ensures.slots ∙ take_all _ _ (omega (arith, c.len.ensures)) in
-    rw (← c.self.view_is) (IfOk-same (λ (a : DictionaryColumn). a.slots) c.try_new.result _ _ c.try_new.ensures.slots (rw (v, c.in_ok-keys.ensures.array_slots) refl))
+    rw (← c.self.view_is) (IfOk-same (λ (a : DictionaryColumn). a.slots) c.from_parts.result _ _ c.from_parts.ensures.slots (rw (v, c.in_ok-keys.ensures.array_slots) refl))

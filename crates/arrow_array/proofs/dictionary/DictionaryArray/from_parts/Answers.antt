@@ -1,10 +1,10 @@
 use Rattle.std.proofs.Common.{refl}
-use Rattle.arrow_array.proofs.dictionary.DictionaryArray.try_new.Goals as goal
+use Rattle.arrow_array.proofs.dictionary.DictionaryArray.from_parts.Goals as goal
 
 pub invariant_of-result : goal.invariant_of-result
 invariant_of-result c =
     let values = rw c.in_ok-values.ensures.first at c.new-values.ensures.holds in
-    rw (c.in_ok-values.ensures.second, c.in_ok-values.ensures.third, values) (c.fits.ensures.0 c.if-not-fits.false)
+    rw (c.in_ok-values.ensures.second, c.in_ok-values.ensures.third, values) c.requires
 
 pub returns-clause-slots : goal.returns-clause-slots
 returns-clause-slots c =
@@ -18,6 +18,3 @@ pub returns-clause-items : goal.returns-clause-items
 returns-clause-items c =
     let values = rw c.in_ok-values.ensures.first at c.new-values.ensures.holds in
     rw values refl
-
-pub returns-clause-fits : goal.returns-clause-fits
-returns-clause-fits c = c.fits.ensures.0 c.if-not-fits.false
