@@ -6,6 +6,8 @@ mod coerced;
 #[cfg(test)]
 mod inferred;
 #[cfg(test)]
+mod keys;
+#[cfg(test)]
 mod many;
 #[cfg(test)]
 mod records;

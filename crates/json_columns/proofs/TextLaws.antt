@@ -12,7 +12,7 @@ use Rattle.json_tree.specs.declared.value.Value.TheOpen as layer
 use Rattle.json_tree.specs.declared.value.Value.TheVariants as variant
 use Rattle.json_tree.specs.declared.value.Object.{Object}
 use Rattle.json_flat.specs.Whole.{number_value, within}
-use Rattle.json_flat.specs.Meaning.{Layer, Meaning, slot_of, text_timestamp, unfit, fitted, whole_in, moment_in, text_in, bytes_in, truth_in}
+use Rattle.json_flat.specs.Meaning.{Layer, Meaning, slot_of, text_timestamp, unfit, fitted, whole_in, moment_in, text_in, bytes_in, boolean_in}
 use Rattle.json_flat.specs.Columns.{means}
 use Rattle.json_columns.specs.Gathered.{HasNoFields, field_meanings}
 use Rattle.json_flat.specs.Reading.{Together, all_slots, some_text, some_unfit, beside, together, made_of, list_in, sized_list_in, struct_in, reading, or_null}
@@ -50,17 +50,17 @@ bytes_text (layer.String text) = refl
 bytes_text (layer.Array items) = refl
 bytes_text (layer.Object o) = refl
 
-truth_text : (l : Layer) → is_text (truth_in l) ≡ false
-truth_text layer.Null = refl
-truth_text (layer.Bool b) = refl
-truth_text (layer.Number n) = refl
-truth_text (layer.String text) = refl
-truth_text (layer.Array items) = refl
-truth_text (layer.Object o) = refl
+boolean_text : (l : Layer) → is_text (boolean_in l) ≡ false
+boolean_text layer.Null = refl
+boolean_text (layer.Bool b) = refl
+boolean_text (layer.Number n) = refl
+boolean_text (layer.String text) = refl
+boolean_text (layer.Array items) = refl
+boolean_text (layer.Object o) = refl
 
 flat_text : (t : DataType) → HasNoFields t → IsNoTimestamp t → (l : Layer) → is_text (reading t l) ≡ false
 flat_text Null h k l = refl
-flat_text Boolean h k l = truth_text l
+flat_text Boolean h k l = boolean_text l
 flat_text Int8 h k l = whole_text (negsuc 127) (pos 127) l
 flat_text Int16 h k l = whole_text (negsuc 32767) (pos 32767) l
 flat_text Int32 h k l = whole_text (negsuc 2147483647) (pos 2147483647) l

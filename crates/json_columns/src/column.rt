@@ -175,17 +175,18 @@ pub(crate) fn read_fields<'a>(
     ensures err { IfErr result (IsFieldsFault fields.now (lent values.now)) }
 {
     let mut columns = Vec::new(alloc);
-    for field in fields {
-        let column = read_members(alloc, field, values, null)?;
+    for (near, field) in fields.iter().enumerate() {
+        let column = read_members(alloc, near, field, values, null)?;
         columns.push(column)?;
     }
     Ok(columns)
 }
 
-/// The column of the members of a field's name.
+/// The column of the members of a field's name, which mostly stand at the index `near`.
 #[cycle(columns)]
 fn read_members<'a>(
     alloc: Global,
+    near: usize,
     field: &Field,
     values: &[&'a Value],
     null: &'a Value,
@@ -197,6 +198,6 @@ fn read_members<'a>(
     ensures dictionaries { IfOk result HasFirstValues }
     ensures err { IfErr result (IsMemberFault field.now (lent values.now)) }
 {
-    let members = members_named(alloc, field.name.as_str(), values, null)?;
+    let members = members_named(alloc, near, field.name.as_str(), values, null)?;
     read_column(alloc, &field.data_type, members.as_slice(), null)
 }

@@ -16,7 +16,7 @@ use arrow_array::{Array, Keys, PrimitiveArray, Utf8Array};
 use arrow_core::Result;
 use arrow_dictionaries::{encode_primitives, encode_strings};
 use arrow_types::{DataType, IntegerType, Offset};
-use json_flat::{WholeNumber, read_integers, read_texts};
+use json_flat::{WholeNumber, read_integers, read_strings};
 use json_tree::Value;
 use std::alloc::Global;
 
@@ -55,7 +55,7 @@ fn encode_texts<O: Offset>(
         (IsTooLong (greatest_offset true) text_in (lent values.now)) (lent values.now))
         (lent values.now)) }
 {
-    let array = read_texts::<i64>(alloc, values)?;
+    let array = read_strings::<i64>(alloc, values)?;
     encode_strings::<i64, O>(alloc, &array, key)
 }
 

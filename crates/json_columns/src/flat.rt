@@ -13,7 +13,7 @@ use arrow_array::Array;
 use arrow_core::Result;
 use arrow_types::{DataType, IntervalUnit};
 use json_flat::{
-    read_binaries, read_booleans, read_integers, read_moments, read_nulls, read_texts,
+    read_binaries, read_booleans, read_integers, read_moments, read_nulls, read_strings,
 };
 use json_tree::Value;
 use std::alloc::Global;
@@ -70,8 +70,8 @@ pub(crate) fn read_flat(alloc: Global, data_type: &DataType, values: &[&Value]) 
         DataType::UInt32 => Ok(Array::UInt32(read_integers(alloc, values, data_type)?)),
         DataType::UInt64 => Ok(Array::UInt64(read_integers(alloc, values, data_type)?)),
         DataType::Timestamp(_, _) => Ok(Array::Int64(read_moments(alloc, values, data_type)?)),
-        DataType::Utf8 => Ok(Array::Utf8(read_texts(alloc, values)?)),
-        DataType::LargeUtf8 => Ok(Array::LargeUtf8(read_texts(alloc, values)?)),
+        DataType::Utf8 => Ok(Array::Utf8(read_strings(alloc, values)?)),
+        DataType::LargeUtf8 => Ok(Array::LargeUtf8(read_strings(alloc, values)?)),
         DataType::Binary => Ok(Array::Binary(read_binaries(alloc, values)?)),
         DataType::LargeBinary => Ok(Array::LargeBinary(read_binaries(alloc, values)?)),
         _ => unreachable!(),

@@ -159,13 +159,14 @@ pub(crate) fn fill_sized<'a>(
     Ok(())
 }
 
-/// The member of this name, or `null` where there is none.
-fn member_of<'a>(value: &'a Value, name: &str, null: &'a Value) -> &'a Value
+/// The member of this name, or `null` where there is none. It is looked for first at the index
+/// `near`.
+fn member_of<'a>(value: &'a Value, near: usize, name: &str, null: &'a Value) -> &'a Value
     requires { null.now ≡ null_value }
     ensures { result.now ≡ member_in name.now (out-Value value.now) }
 {
     match value {
-        Value::Object(object) => match object.get(name) {
+        Value::Object(object) => match object.get_near(near, name) {
             Some(member) => member,
             None => null,
         },
@@ -173,9 +174,11 @@ fn member_of<'a>(value: &'a Value, name: &str, null: &'a Value) -> &'a Value
     }
 }
 
-/// The member of this name of each value, or `null` where there is none.
+/// The member of this name of each value, or `null` where there is none. It mostly stands at the
+/// index `near`.
 pub(crate) fn members_named<'a>(
     alloc: Global,
+    near: usize,
     name: &str,
     values: &[&'a Value],
     null: &'a Value,
@@ -187,7 +190,7 @@ pub(crate) fn members_named<'a>(
 {
     let mut members = Vec::new(alloc);
     for value in values {
-        members.push(member_of(value, name, null))?;
+        members.push(member_of(value, near, name, null))?;
     }
     Ok(members)
 }

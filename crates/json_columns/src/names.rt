@@ -6,7 +6,7 @@ use arrow_core::Text;
 use arrow_types::{DataType, Field};
 
 /// Whether one of the fields has this name.
-pub(crate) fn is_named(fields: &[Field], name: &Text) -> bool
+fn is_named(fields: &[Field], name: &Text) -> bool
     ensures { result ≡ is_named_of name.now fields.now }
 {
     for field in fields {
@@ -15,6 +15,17 @@ pub(crate) fn is_named(fields: &[Field], name: &Text) -> bool
         }
     }
     false
+}
+
+/// The same of a name that is mostly that of the field at the index `near`, which is looked at
+/// first.
+pub(crate) fn is_named_near(fields: &[Field], near: usize, name: &Text) -> bool
+    ensures { result ≡ is_named_of name.now fields.now }
+{
+    match fields.get(near) {
+        Some(field) if field.name == *name => true,
+        _ => is_named(fields, name),
+    }
 }
 
 /// Whether two of the fields have the same name.

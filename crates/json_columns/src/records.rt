@@ -9,7 +9,7 @@ ghost use Rattle.json_columns.specs.Records.{are_known, are_of_record as are_of_
 
 use crate::column::read_fields;
 use crate::gather::lend_all;
-use crate::names::{is_named, struct_names_twice};
+use crate::names::{is_named_near, struct_names_twice};
 use crate::texts::any_row_has_text;
 use crate::types::has_json_reading;
 use arrow_array::Chunk;
@@ -71,8 +71,8 @@ fn check_fields(fields: &[Field]) -> Result<()>
 fn has_known_keys(fields: &[Field], object: &Object) -> bool
     ensures { result ≡ are_known fields.now object.now.members }
 {
-    for member in object.members() {
-        if !is_named(fields, &member.0) {
+    for (near, member) in object.members().iter().enumerate() {
+        if !is_named_near(fields, near, &member.0) {
             return false;
         }
     }
@@ -83,8 +83,8 @@ fn has_known_keys(fields: &[Field], object: &Object) -> bool
 fn has_all_keys(fields: &[Field], object: &Object) -> bool
     ensures { result ≡ are_there fields.now object.now.members }
 {
-    for field in fields {
-        if object.get(field.name.as_str()).is_none() {
+    for (near, field) in fields.iter().enumerate() {
+        if object.get_near(near, field.name.as_str()).is_none() {
             return false;
         }
     }

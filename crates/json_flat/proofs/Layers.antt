@@ -6,7 +6,7 @@ use Rattle.json_tree.specs.declared.value.Value.{out-Value, roll-Value, roll-out
 use Rattle.json_tree.specs.declared.value.Value.TheOpen as layer
 use Rattle.json_tree.specs.declared.value.Value.TheVariants as variant
 use Rattle.json_tree.specs.declared.value.Number.{Number}
-use Rattle.json_flat.specs.Meaning.{Meaning, Layer, slot_of, truth_in, whole_in}
+use Rattle.json_flat.specs.Meaning.{Meaning, Layer, slot_of, boolean_in, whole_in}
 use Rattle.json_flat.specs.Columns.{means}
 
 made : (value : Json) (l : Layer) → out-Value value ≡ l → value ≡ roll-Value l
@@ -32,10 +32,10 @@ no-integer low high value no_number no_bool = go (out-Value value) refl
     go (layer.Array items) e = refl
     go (layer.Object o) e = refl
 
-pub no-boolean : (value : Json) → ((b : Bool) → value ≡ variant.Bool b → ⊥) → means truth_in value ≡ slot_of slot.Null
+pub no-boolean : (value : Json) → ((b : Bool) → value ≡ variant.Bool b → ⊥) → means boolean_in value ≡ slot_of slot.Null
 no-boolean value no_bool = go (out-Value value) refl
   where
-    go : (l : Layer) → out-Value value ≡ l → truth_in l ≡ slot_of slot.Null
+    go : (l : Layer) → out-Value value ≡ l → boolean_in l ≡ slot_of slot.Null
     go layer.Null e = refl
     go (layer.Bool b) e = absurd (no_bool b (made value (layer.Bool b) e ∙ variant.rolls-Bool b))
     go (layer.Number n) e = refl

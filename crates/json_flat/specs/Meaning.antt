@@ -29,9 +29,9 @@ abbrev pub boolean_meaning : Option Bool → Meaning
 boolean_meaning boolean = slot_of (optional_slot slot.Boolean boolean)
 
 -- a boolean; else null
-abbrev pub truth_in : Layer → Meaning
-truth_in (layer.Bool boolean) = boolean_meaning (Some boolean)
-truth_in _ = slot_of slot.Null
+abbrev pub boolean_in : Layer → Meaning
+boolean_in (layer.Bool boolean) = boolean_meaning (Some boolean)
+boolean_in _ = slot_of slot.Null
 
 -- an integer, where there is one
 abbrev pub fitted : Option ℤ → Meaning

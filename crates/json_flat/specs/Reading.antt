@@ -9,7 +9,7 @@ use Rattle.json_tree.specs.Keys.{value_of}
 use Rattle.json_tree.specs.Tree.{Json, null}
 use Rattle.json_tree.specs.declared.value.Value.{out-Value}
 use Rattle.json_tree.specs.declared.value.Value.TheOpen as layer
-use Rattle.json_flat.specs.Meaning.{Meaning, Layer, slot_of, text_timestamp, unfit, null_in, truth_in, whole_in, int64_in, moment_in, text_in, bytes_in}
+use Rattle.json_flat.specs.Meaning.{Meaning, Layer, slot_of, text_timestamp, unfit, null_in, boolean_in, whole_in, int64_in, moment_in, text_in, bytes_in}
 
 -- ---- several values
 
@@ -71,7 +71,7 @@ abbrev mutual
   -- what a value means under a type that has a reading (`has_reading`); no answer is Ok for another type
   pub reading : DataType → Layer → Meaning
   reading types.Null = null_in
-  reading types.Boolean = truth_in
+  reading types.Boolean = boolean_in
   reading types.Int8 = whole_in (negsuc 127) (pos 127)
   reading types.Int16 = whole_in (negsuc 32767) (pos 32767)
   reading types.Int32 = int32_in

@@ -91,7 +91,7 @@ fn push_text<O: Offset>(
 ///
 /// `Overflow` only where they have more bytes together than the greatest offset, 2^31 - 1 or
 /// 2^63 - 1. `OutOfMemory` may come in place of any answer.
-pub fn read_texts<O: Offset>(alloc: Global, values: &[&Value]) -> Result<Utf8Array<O>>
+pub fn read_strings<O: Offset>(alloc: Global, values: &[&Value]) -> Result<Utf8Array<O>>
     ensures data_type { IfOk result (λ a. a.data_type ≡ utf8_type O.IS_LARGE) }
     ensures slots { IfOk result (λ a. AreSlotsOf text_in (lent values.now) a.slots) }
     ensures err { IfErr result (IsColumnFault text_in

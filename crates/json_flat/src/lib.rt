@@ -12,7 +12,7 @@ mod native;
 mod plain;
 mod whole;
 
-pub use content::{read_binaries, read_texts};
+pub use content::{read_binaries, read_strings};
 pub use integer::IntegerText;
 pub use moment::read_moments;
 pub use native::WholeNumber;

@@ -3,7 +3,7 @@ ghost use Rattle.std.specs.Prelude.{◌≡◌, OnOk, IfOk, IfErr};
 ghost use Rattle.arrow_array.specs.Parts.{IsPlain};
 ghost use Rattle.arrow_core.specs.Errors.{OnlyOutOfMemory};
 ghost use Rattle.arrow_types.specs.declared.types.DataType.TheVariants.{Boolean, Null};
-ghost use Rattle.json_flat.specs.Meaning.{boolean_meaning, null_in, truth_in, whole_in};
+ghost use Rattle.json_flat.specs.Meaning.{boolean_meaning, null_in, boolean_in, whole_in};
 ghost use Rattle.json_flat.specs.Columns.{AreSlotsOf, IsColumnFault, IsPushFault, Pushes, lent, means};
 
 use crate::native::WholeNumber;
@@ -45,7 +45,8 @@ pub fn read_integers<T: WholeNumber>(
 ) -> Result<PrimitiveArray<T>>
     requires plain { IsPlain T.PRIMITIVE data_type.now }
     ensures data_type { IfOk result (λ a. a.data_type ≡ data_type.now) }
-    ensures slots { IfOk result (λ a. AreSlotsOf (whole_in T.low T.high) (lent values.now) a.slots) }
+    ensures slots { IfOk result (λ a. AreSlotsOf (whole_in T.low T.high) (lent values.now)
+        a.slots) }
     ensures err { IfErr result (IsColumnFault (whole_in T.low T.high) ⊥ (lent values.now)) }
 {
     let builder = MutablePrimitiveArray::<T>::with_capacity(alloc, values.len())?;
@@ -58,7 +59,7 @@ pub fn read_integers<T: WholeNumber>(
 
 // The boolean; `None` for any other value.
 fn boolean_of(value: &Value) -> Option<bool>
-    ensures { means truth_in value.now ≡ boolean_meaning result }
+    ensures { means boolean_in value.now ≡ boolean_meaning result }
 {
     match value {
         Value::Bool(boolean) => Some(*boolean),
@@ -69,7 +70,7 @@ fn boolean_of(value: &Value) -> Option<bool>
 /// The column of booleans, one slot a value, null where the value is no boolean. `OutOfMemory` alone.
 pub fn read_booleans(alloc: Global, values: &[&Value]) -> Result<BooleanArray>
     ensures data_type { IfOk result (λ a. a.data_type ≡ Boolean) }
-    ensures slots { IfOk result (λ a. AreSlotsOf truth_in (lent values.now) a.slots) }
+    ensures slots { IfOk result (λ a. AreSlotsOf boolean_in (lent values.now) a.slots) }
     ensures memory { OnlyOutOfMemory result }
 {
     let mut builder = MutableBooleanArray::with_capacity(alloc, values.len())?;

@@ -81,7 +81,7 @@ impl Columns {
         Ok(())
     }
 
-    // Adds a type of a name that mostly stands at `near`, and tells the place behind the name.
+    // Adds a type of a name that mostly stands at `near`, and tells the index behind the name.
     fn add(
         &mut self,
         alloc: Global,
@@ -145,13 +145,13 @@ impl Columns {
         Some(self.types[index].as_slice())
     }
 
-    /// The types of a name. Up to 64 names are compared, from `place` on and from the first again
-    /// after the last; `None` where none of them is the name. Where one is, `place` is set behind
+    /// The types of a name. Up to 64 names are compared, from `near` on and from the first again
+    /// after the last; `None` where none of them is the name. Where one is, `near` is set behind
     /// it, where the name of an object's next member mostly stands.
-    pub fn types_near(&self, place: &mut usize, name: &str) -> Option<&[DataType]>
+    pub fn types_near(&self, near: &mut usize, name: &str) -> Option<&[DataType]>
         ensures { IfSome result (λ types. types.now ≡ types_named name.now self.now) }
     {
-        let mut index = *place;
+        let mut index = *near;
         for _ in 0..self.len().min(COMPARED_NAMES) {
             if index >= self.len() {
                 index = 0;
@@ -159,7 +159,7 @@ impl Columns {
             let types = self.types_at(index, name);
             index = index.wrapping_add(1);
             if types.is_some() {
-                *place = index;
+                *near = index;
                 return types;
             }
         }

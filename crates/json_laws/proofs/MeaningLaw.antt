@@ -24,7 +24,7 @@ use Rattle.json_tree.specs.declared.value.Value.{out-Value}
 use Rattle.json_tree.specs.declared.value.Value.TheOpen as layer
 use Rattle.json_tree.specs.declared.value.Value.TheVariants as variant
 use Rattle.json_tree.proofs.TextLaws.{one_value}
-use Rattle.json_flat.specs.Meaning.{Layer, Meaning, fitted, slot_of, text_in, truth_in, whole_in}
+use Rattle.json_flat.specs.Meaning.{Layer, Meaning, fitted, slot_of, text_in, boolean_in, whole_in}
 use Rattle.json_flat.specs.Columns.{means}
 use Rattle.json_flat.specs.Whole.{within}
 use Rattle.json_flat.proofs.Layers.{at-bool, at-number, at-string}
@@ -54,8 +54,8 @@ module _ (f : Layer → Meaning) (v : Values) where
   held P (List' m row) n h k = k (h refl)
   held P (Struct' m row) n h k = k (h refl)
 
-boolean-means : (v : Values) (x : Slot) → IsBoolean x → Means truth_in v x
-boolean-means v x h = subst (Means truth_in v) (sym h.1) (at-bool truth_in (boolean h.0) h.0 refl)
+boolean-means : (v : Values) (x : Slot) → IsBoolean x → Means boolean_in v x
+boolean-means v x h = subst (Means boolean_in v) (sym h.1) (at-bool boolean_in (boolean h.0) h.0 refl)
 
 string-means : (v : Values) (is_large : Bool) (x : Slot) → IsString is_large x → Means text_in v x
 string-means v is_large x h = subst (Means text_in v) (sym h.1) (at-string text_in (string h.0) h.0 refl)

@@ -25,7 +25,8 @@ fn lend_item<'a>(reader: &mut Reader<'a>, depth: usize) -> Option<Lent<'a>>
     requires { IsFound (items_at depth reader.old) }
     ensures found { IsFound (items_at depth reader.new) }
     ensures item { MatchOption result
-        ((found_or [] (items_at depth reader.old) ≡ []) × (found_or [] (items_at depth reader.new) ≡ []))
+        ((found_or [] (items_at depth reader.old) ≡ [])
+        × (found_or [] (items_at depth reader.new) ≡ []))
         (λ item. found_or [] (items_at depth reader.old)
         ≡ lent_value item ∷ found_or [] (items_at depth reader.new)) }
 {

@@ -86,7 +86,7 @@ pub fn lend_members<'a>(
     found: &mut [Lent<'a>],
 ) -> Result<(), JsonFault>
     requires distinct { distinct names.now ≡ true }
-    requires room { length found.old ≡ length names.now }
+    requires lengths { length found.old ≡ length names.now }
     ensures reads { ReadsMembers names.now (map lent_value found.new) result reader.new
         (object_at (value_at depth) reader.old) }
     ensures forward { length reader.new ≤ length reader.old }
@@ -117,7 +117,7 @@ impl<'a> LentObject<'a> {
     /// name. The object was checked when it was lent, so no member is at fault.
     pub fn lend_members(&self, names: &[Name], found: &mut [Lent<'a>])
         requires distinct { distinct names.now ≡ true }
-        requires room { length found.old ≡ length names.now }
+        requires lengths { length found.old ≡ length names.now }
         ensures { map lent_value found.new ≡ values_of self.now names.now }
     {
         let mut reader = self.reader.again();

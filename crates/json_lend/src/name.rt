@@ -63,7 +63,7 @@ impl Name {
         Ok(Name { text, key })
     }
 
-    /// The name.
+    /// The name, without quotation marks or escapes.
     pub fn as_str(&self) -> &str
         ensures { result.now ≡ self.now }
     {

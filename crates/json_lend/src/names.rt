@@ -89,7 +89,8 @@ fn escaped_index<'a>(reader: &mut Reader<'a>, names: &[Name]) -> Result<Option<u
 #[inline(always)]
 fn passes_at<'a>(reader: &mut Reader<'a>, names: &[Name], i: usize) -> bool
     requires { distinct names.now ≡ true }
-    ensures reads { result ≡ true → ReadsIndex names.now (Ok (Some i)) reader.new (string_at reader.old) }
+    ensures reads { result ≡ true → ReadsIndex names.now (Ok (Some i)) reader.new
+        (string_at reader.old) }
     ensures stays { result ≡ false → reader.new ≡ reader.old }
     ensures forward { length reader.new ≤ length reader.old }
 {

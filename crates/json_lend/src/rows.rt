@@ -19,7 +19,7 @@ use json_tree::reader::Reader;
 #[tactic(auto, unfolding(json_tree::specs::Reading::text_at))]
 fn read_row<'a>(line: &'a str, names: &[Name], found: &mut [Lent<'a>]) -> Result<bool, JsonFault>
     requires distinct { distinct names.now ≡ true }
-    requires room { length found.old ≡ length names.now }
+    requires lengths { length found.old ≡ length names.now }
     ensures reads { ReadsRow names.now (map lent_value found.new) result (text_at 128 line.now) }
     ensures no_memory { IfErr result (λ e. e ≢ JsonFault.Memory) }
 {
@@ -51,10 +51,12 @@ pub fn lend_row<'a>(
     found: &mut [Lent<'a>],
 ) -> Result<bool, JsonFault>
     requires distinct { distinct names.now ≡ true }
-    requires room { length found.old ≡ length names.now }
-    ensures row { result ≡ Ok true → (members : List (List ℕ × Json)) × IsJson (object members) line.now
+    requires lengths { length found.old ≡ length names.now }
+    ensures row { result ≡ Ok true → (members : List (List ℕ × Json))
+        × IsJson (object members) line.now
         × (map lent_value found.new ≡ values_of members names.now) }
-    ensures other { result ≡ Ok false → (value : Json) × IsJson value line.now × (IsObject value → ⊥) }
+    ensures other { result ≡ Ok false → (value : Json) × IsJson value line.now
+        × (IsObject value → ⊥) }
     ensures shallow { IfOk result (λ _. HoldsTooMany line.now → ⊥) }
     ensures depth { result ≡ Err JsonFault.Depth → HoldsTooMany line.now }
     ensures not_deep { result ≡ Err JsonFault.Text → HoldsTooMany line.now → ⊥ }

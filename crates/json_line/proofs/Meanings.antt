@@ -20,7 +20,7 @@ use Rattle.json_tree.specs.Grammar.{text_true, text_false}
 use Rattle.json_tree.specs.declared.value.Value.{Number as TheNumber, out-Value}
 use Rattle.json_tree.specs.declared.value.Number.TheVariants.{Integer, Float}
 use Rattle.json_flat.specs.Whole.{whole_value, within}
-use Rattle.json_flat.specs.Meaning.{Meaning, Layer, slot_of, boolean_meaning, int64_in, truth_in, whole_in, moment_in, text_in, bytes_in}
+use Rattle.json_flat.specs.Meaning.{Meaning, Layer, slot_of, boolean_meaning, int64_in, boolean_in, whole_in, moment_in, text_in, bytes_in}
 use Rattle.json_flat.specs.Columns.{means, Pushes}
 use Rattle.json_lend.specs.declared.lent.Lent.{Lent}
 use Rattle.json_lend.specs.declared.lent.Lent.TheVariants as lent
@@ -40,11 +40,11 @@ is-empty (x ∷ xs) t p q = absurd (true≢false (sym p ∙ (q ∙ ne-eqb (lengt
 
 -- ---- booleans
 
-pub bool-boolean : (b : Bool) → means truth_in (boolean b) ≡ boolean_meaning (Some b)
+pub bool-boolean : (b : Bool) → means boolean_in (boolean b) ≡ boolean_meaning (Some b)
 unfolding out-Value denote.Hole.Carrier.out
 bool-boolean b = refl
 
-pub no-boolean : (l : Lent) → ((b : Bool) → l ≡ lent.Bool b → ⊥) → means truth_in (lent_value l) ≡ boolean_meaning None
+pub no-boolean : (l : Lent) → ((b : Bool) → l ≡ lent.Bool b → ⊥) → means boolean_in (lent_value l) ≡ boolean_meaning None
 unfolding out-Value denote.Hole.Carrier.out
 no-boolean lent.Null h = refl
 no-boolean (lent.Bool b) h = absurd (h b refl)

@@ -18,7 +18,7 @@ use Rattle.json_tree.specs.Reading.{Outcome, found, array_at, object_at, value_a
 use Rattle.json_tree.specs.Tree.{Json, null, array, object}
 use Rattle.json_tree.specs.declared.value.Value.{out-Value}
 use Rattle.json_flat.specs.Columns.{AreSlotsOf, Pushes}
-use Rattle.json_flat.specs.Meaning.{Layer, Meaning, null_in, truth_in, whole_in, int64_in, moment_in, text_in, bytes_in}
+use Rattle.json_flat.specs.Meaning.{Layer, Meaning, null_in, boolean_in, whole_in, int64_in, moment_in, text_in, bytes_in}
 use Rattle.json_flat.specs.Reading.{list_in, sized_list_in, struct_in}
 use Rattle.json_lend.specs.Fields.{value_named, values_of}
 use Rattle.json_line.specs.declared.field_names.FieldNames.{FieldNames, Flat, Items', Sized', Fields', Row_of-FieldNames, end_of-FieldNames, more_of-FieldNames}
@@ -34,7 +34,7 @@ is_timestamp _ = false
 
 -- what a value means in a column whose slots lie in memory so, of timestamps or of another type
 abbrev pub kind_reading : Bool → PhysicalType → Layer → Meaning
-kind_reading of_timestamps physical.Boolean = truth_in
+kind_reading of_timestamps physical.Boolean = boolean_in
 kind_reading of_timestamps (physical.Primitive primitive.Int8) = whole_in (negsuc 127) (pos 127)
 kind_reading of_timestamps (physical.Primitive primitive.Int16) = whole_in (negsuc 32767) (pos 32767)
 kind_reading of_timestamps (physical.Primitive primitive.Int32) = whole_in (negsuc 2147483647) (pos 2147483647)

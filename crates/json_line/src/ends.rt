@@ -20,7 +20,8 @@ pub(crate) fn push_null(builder: &mut MutableArray) -> Result<(), GivenUp>
     requires { IsTight builder.old }
     ensures same_shape { shape builder.new ≡ shape builder.old }
     ensures tight { OnOk result (IsTight builder.new) }
-    ensures ok { OnOk result (builder_slots builder.new ≡ builder_slots builder.old ++ NullSlot ∷ []) }
+    ensures ok { OnOk result (builder_slots builder.new ≡ builder_slots builder.old
+        ++ NullSlot ∷ []) }
 {
     builder.push_null()?;
     Ok(())

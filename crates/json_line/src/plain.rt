@@ -2,7 +2,7 @@
 ghost use Rattle.std.specs.Prelude.{◌≡◌, ◌++◌, ◌∷◌, [], cond, true, IfOk, OnOk};
 ghost use Rattle.arrow_flat.specs.Builders.{optional_slot};
 ghost use Rattle.arrow_types.specs.declared.slot.Slot.TheVariants.{Null as NullSlot};
-ghost use Rattle.json_flat.specs.Meaning.{boolean_meaning, int64_in, moment_in, slot_of, truth_in, whole_in};
+ghost use Rattle.json_flat.specs.Meaning.{boolean_meaning, int64_in, moment_in, slot_of, boolean_in, whole_in};
 ghost use Rattle.json_flat.specs.Columns.{Pushes, means};
 ghost use Rattle.json_lend.specs.Standing.{lent_value};
 ghost use Rattle.json_line.specs.Builders.{is_timestamp as is_timestamp_of};
@@ -26,7 +26,7 @@ pub(crate) fn push_as_null(builder: &mut MutableNullArray) -> Result<(), GivenUp
 
 // The boolean; `None` for any other value.
 fn boolean_of<'a>(lent: &Lent<'a>) -> Option<bool>
-    ensures { means truth_in (lent_value lent.now) ≡ boolean_meaning result }
+    ensures { means boolean_in (lent_value lent.now) ≡ boolean_meaning result }
 {
     match lent {
         Lent::Bool(boolean) => Some(*boolean),
@@ -42,7 +42,7 @@ pub(crate) fn push_boolean<'a>(
 ) -> Result<(), GivenUp>
     ensures data_type { builder.new.data_type ≡ builder.old.data_type }
     ensures ok { OnOk result
-        (Pushes truth_in (lent_value lent.now) builder.old.slots builder.new.slots) }
+        (Pushes boolean_in (lent_value lent.now) builder.old.slots builder.new.slots) }
 {
     builder.push(boolean_of(lent))?;
     Ok(())
@@ -107,7 +107,8 @@ pub(crate) fn push_int64<'a>(
     lent: &Lent<'a>,
 ) -> Result<(), GivenUp>
     ensures data_type { builder.new.data_type ≡ builder.old.data_type }
-    ensures ok { OnOk result (Pushes (cond (is_timestamp_of builder.old.data_type) moment_in int64_in)
+    ensures ok { OnOk result (Pushes (cond (is_timestamp_of builder.old.data_type) moment_in
+        int64_in)
         (lent_value lent.now) builder.old.slots builder.new.slots) }
 {
     if !is_integer_under(builder.data_type(), lent) {

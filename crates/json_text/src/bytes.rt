@@ -181,8 +181,9 @@ fn count_digits(integer: u64) -> usize
     }
 }
 
-/// Appends an unsigned integer in decimal. The room of the longest is added, in one step of constant
-/// length, and what is too much taken away again: the digits are written where they stay.
+/// Appends an unsigned integer in decimal. As many bytes as the longest has are added, in one step
+/// of constant length, and what is too much taken away again: the digits are written where they
+/// stay.
 #[inline]
 fn push_digits(out: &mut Vec<u8>, integer: u64) -> Appended
     ensures ok { OnOk result (out.new.items ≡ out.old.items ++ decimal integer) }
@@ -241,7 +242,8 @@ pub(crate) fn push_signed_if(out: &mut Vec<u8>, is_valid: bool, integer: i64) ->
 #[inline(never)]
 pub(crate) fn push_unsigned_if(out: &mut Vec<u8>, is_valid: bool, integer: u64) -> Appended
     ensures ok { OnOk result
-        (out.new.items ≡ out.old.items ++ (if is_valid then signed_decimal (pos integer) else null)) }
+        (out.new.items ≡ out.old.items ++
+        (if is_valid then signed_decimal (pos integer) else null)) }
 {
     if is_valid {
         push_digits(out, integer)

@@ -26,7 +26,8 @@ pub(crate) fn push_numbers<T: Printed>(
     ensures ok { OnOk result
         (out.new.items
         ≡ out.old.items
-        ++ joined (map (text array.now.data_type) (take (end - start) (drop start array.now.slots)))) }
+        ++ joined (map (text array.now.data_type)
+        (take (end - start) (drop start array.now.slots)))) }
 {
     let _ = array.data_type();
     for k in 0..end - start {
@@ -49,7 +50,8 @@ pub(crate) fn push_strings<O: Offset>(
     ensures ok { OnOk result
         (out.new.items
         ≡ out.old.items
-        ++ joined (map (text array.now.data_type) (take (end - start) (drop start array.now.slots)))) }
+        ++ joined (map (text array.now.data_type)
+        (take (end - start) (drop start array.now.slots)))) }
 {
     for k in 0..end - start {
         push_comma(out, k)?;
@@ -71,7 +73,8 @@ pub(crate) fn push_booleans(
     ensures ok { OnOk result
         (out.new.items
         ≡ out.old.items
-        ++ joined (map (text array.now.data_type) (take (end - start) (drop start array.now.slots)))) }
+        ++ joined (map (text array.now.data_type)
+        (take (end - start) (drop start array.now.slots)))) }
 {
     for k in 0..end - start {
         push_comma(out, k)?;
@@ -88,7 +91,8 @@ pub(crate) fn push_nulls(out: &mut Vec<u8>, array: &NullArray, start: usize, end
     ensures ok { OnOk result
         (out.new.items
         ≡ out.old.items
-        ++ joined (map (text array.now.data_type) (take (end - start) (drop start array.now.slots)))) }
+        ++ joined (map (text array.now.data_type)
+        (take (end - start) (drop start array.now.slots)))) }
 {
     for k in 0..end - start {
         push_comma(out, k)?;
@@ -112,7 +116,8 @@ pub(crate) fn push_binaries<O: Offset>(
     ensures ok { OnOk result
         (out.new.items
         ≡ out.old.items
-        ++ joined (map (text array.now.data_type) (take (end - start) (drop start array.now.slots)))) }
+        ++ joined (map (text array.now.data_type)
+        (take (end - start) (drop start array.now.slots)))) }
 {
     for k in 0..end - start {
         push_comma(out, k)?;
@@ -136,7 +141,8 @@ pub(crate) fn push_fixed_size_binaries(
     ensures ok { OnOk result
         (out.new.items
         ≡ out.old.items
-        ++ joined (map (text array.now.data_type) (take (end - start) (drop start array.now.slots)))) }
+        ++ joined (map (text array.now.data_type)
+        (take (end - start) (drop start array.now.slots)))) }
 {
     for k in 0..end - start {
         push_comma(out, k)?;

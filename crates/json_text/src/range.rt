@@ -29,7 +29,8 @@ pub(crate) fn dates_in_range(array: &Array, start: usize, end: usize) -> bool
     requires order { start ≤ end }
     requires within { end ≤ length (array_slots array.now) }
     ensures { result
-        ≡ list_all (in_range (array_type array.now)) (take (end - start) (drop start (array_slots array.now))) }
+        ≡ list_all (in_range (array_type array.now))
+        (take (end - start) (drop start (array_slots array.now))) }
 {
     if !holds_dates(array.data_type()) {
         return true;
@@ -46,7 +47,8 @@ fn run_in_range(array: &Array, start: usize, end: usize, form: &IntegerForm) -> 
     requires within { end ≤ length (array_slots array.now) }
     requires form { IsForm form.now (array_type array.now) }
     ensures { result
-        ≡ list_all (in_range (array_type array.now)) (take (end - start) (drop start (array_slots array.now))) }
+        ≡ list_all (in_range (array_type array.now))
+        (take (end - start) (drop start (array_slots array.now))) }
 {
     if let Array::Struct(array) = array {
         if has_no_null(array) {
@@ -64,7 +66,8 @@ fn slots_in_range(array: &Array, start: usize, end: usize, form: &IntegerForm) -
     requires within { end ≤ length (array_slots array.now) }
     requires form { IsForm form.now (array_type array.now) }
     ensures { result
-        ≡ list_all (in_range (array_type array.now)) (take (end - start) (drop start (array_slots array.now))) }
+        ≡ list_all (in_range (array_type array.now))
+        (take (end - start) (drop start (array_slots array.now))) }
 {
     for k in 0..end - start {
         if !in_range(array, start + k, form) {
@@ -126,7 +129,8 @@ fn children_in_range(fields: &[Field], children: &[Array], start: usize, end: us
     requires order { start ≤ end }
     requires slots { HaveSlots end children.now }
     ensures { result
-        ≡ list_all (λ i. all_in_range fields.now (map (λ slots. slot_at slots i) (map array_slots children.now)))
+        ≡ list_all (λ i. all_in_range fields.now
+        (map (λ slots. slot_at slots i) (map array_slots children.now)))
         (range_with_len start (end - start)) }
 {
     let _fields = fields;

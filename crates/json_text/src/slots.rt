@@ -266,7 +266,8 @@ fn push_part(
     ensures ok { OnOk result
         (out.new.items
         ≡ out.old.items
-        ++ (if is_valid then array (map (text (array_type part.now.array.now)) (part_slots part.now)) else null)) }
+        ++ (if is_valid then array (map (text (array_type part.now.array.now))
+        (part_slots part.now)) else null)) }
 {
     if !is_valid {
         return push_null(out);
@@ -298,7 +299,8 @@ fn push_items(
     ensures ok { OnOk result
         (out.new.items
         ≡ out.old.items
-        ++ joined (map (text (array_type array.now)) (take (end - start) (drop start (array_slots array.now))))) }
+        ++ joined (map (text (array_type array.now))
+        (take (end - start) (drop start (array_slots array.now))))) }
 {
     match array {
         Array::Null(array) => push_nulls(out, array, start, end),
@@ -343,7 +345,8 @@ fn push_lists(
     ensures ok { OnOk result
         (out.new.items
         ≡ out.old.items
-        ++ joined (map (text array.now.data_type) (take (end - start) (drop start array.now.slots)))) }
+        ++ joined (map (text array.now.data_type)
+        (take (end - start) (drop start array.now.slots)))) }
 {
     for k in 0..end - start {
         push_comma(out, k)?;
@@ -369,7 +372,8 @@ fn push_large_lists(
     ensures ok { OnOk result
         (out.new.items
         ≡ out.old.items
-        ++ joined (map (text array.now.data_type) (take (end - start) (drop start array.now.slots)))) }
+        ++ joined (map (text array.now.data_type)
+        (take (end - start) (drop start array.now.slots)))) }
 {
     for k in 0..end - start {
         push_comma(out, k)?;
@@ -395,7 +399,8 @@ fn push_fixed_size_lists(
     ensures ok { OnOk result
         (out.new.items
         ≡ out.old.items
-        ++ joined (map (text array.now.data_type) (take (end - start) (drop start array.now.slots)))) }
+        ++ joined (map (text array.now.data_type)
+        (take (end - start) (drop start array.now.slots)))) }
 {
     for k in 0..end - start {
         push_comma(out, k)?;
@@ -421,7 +426,8 @@ fn push_dictionaries(
     ensures ok { OnOk result
         (out.new.items
         ≡ out.old.items
-        ++ joined (map (text array.now.data_type) (take (end - start) (drop start array.now.slots)))) }
+        ++ joined (map (text array.now.data_type)
+        (take (end - start) (drop start array.now.slots)))) }
 {
     for k in 0..end - start {
         push_comma(out, k)?;
@@ -445,7 +451,8 @@ fn push_structs(
     ensures ok { OnOk result
         (out.new.items
         ≡ out.old.items
-        ++ joined (map (text array.now.data_type) (take (end - start) (drop start array.now.slots)))) }
+        ++ joined (map (text array.now.data_type)
+        (take (end - start) (drop start array.now.slots)))) }
 {
     for k in 0..end - start {
         push_comma(out, k)?;

@@ -240,3 +240,19 @@ distinct-push (x ∷ ks) k h l = at (bytes_eq x k) refl l (λ m. distinct-push k
     at : (b : Bool) → bytes_eq x k ≡ b → suc (length ks) ≤ cond b 0 (suc (key_index k ks)) → (length ks ≤ key_index k ks → distinct (ks ++ k ∷ []) ≡ true) → distinct (x ∷ (ks ++ k ∷ [])) ≡ true
     at true e l f = absurd (omega (arith, l))
     at false e l f = rw (meets-push x k ks (and_parts _ _ h).0 e, f (omega (arith, l))) refl
+
+module _ {V : Type 0} where
+  key-at : (ms : List (List ℕ × V)) (i : ℕ) (d : List ℕ × V) → get_or (keys_of ms) i d.0 ≡ (get_or ms i d).0
+  key-at [] i d = refl
+  key-at (m ∷ ms) zero d = refl
+  key-at (m ∷ ms) (suc i) d = key-at ms i d
+
+  -- a key that stands at an index is found there, since each key stands once
+  pub value-near : (ms : List (List ℕ × V)) (k : List ℕ) (i : ℕ) (d : List ℕ × V) → distinct (keys_of ms) ≡ true → i < length ms → d ≡ get_or ms i d → bytes_eq d.0 k ≡ true → value_of k ms ≡ Some d.1
+  value-near [] k i d h l g e = absurd (omega (arith, l))
+  value-near (m ∷ ms) k zero d h l g e = ap (λ o. cond (bytes_eq o.0 k) (Some o.1) (value_of k ms)) (sym g) ∙ ap (λ b. cond b (Some d.1) (value_of k ms)) e
+  value-near (m ∷ ms) k (suc i) d h l g e = at (bytes_eq m.0 k) refl (value-near ms k i d (and_parts _ _ h).1 (omega (arith, l)) g e)
+    where
+      at : (b : Bool) → bytes_eq m.0 k ≡ b → value_of k ms ≡ Some d.1 → cond b (Some m.1) (value_of k ms) ≡ Some d.1
+      at true f v = absurd (miss-at m.0 (keys_of ms) i d.0 (and_parts _ _ h).0 (omega (arith, l, length-keys ms)) ((bytes_eq-Decides m.0 k).0 f ∙ sym ((bytes_eq-Decides d.0 k).0 e) ∙ ap (λ o. o.0) g ∙ sym (key-at ms i d)))
+      at false f v = v

@@ -178,6 +178,17 @@ impl<V: Drop> Members<V> {
             None => None,
         }
     }
+
+    /// The same of a key that mostly stands at the index `near`, where it is looked for first.
+    pub(crate) fn get_near(&self, near: usize, key: &str) -> Option<&V>
+        ensures { MatchOption result (value_of key.now self.now ≡ None)
+            (λ v. value_of key.now self.now ≡ Some v.now) }
+    {
+        match self.pairs.get(near) {
+            Some(pair) if are_same(pair.0.as_str(), key) => Some(&pair.1),
+            _ => self.get(key),
+        }
+    }
 }
 
 impl<V: Blank> Members<V> {

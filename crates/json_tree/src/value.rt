@@ -105,6 +105,14 @@ impl Object {
     {
         self.members.get(key)
     }
+
+    /// The same of a key that mostly stands at the index `near`, where it is looked for first.
+    pub fn get_near(&self, near: usize, key: &str) -> Option<&Value>
+        ensures { MatchOption result (value_of key.now self.now.members ≡ None)
+            (λ v. value_of key.now self.now.members ≡ Some v.now) }
+    {
+        self.members.get_near(near, key)
+    }
 }
 
 impl From<JsonFault> for Error {

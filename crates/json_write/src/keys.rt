@@ -1,5 +1,6 @@
 //! The columns of rows, prepared once for all rows.
 ghost use Rattle.std.specs.Prelude.{◌≡◌, ◌⊎◌, Some, None, length, map, IfOk, OnOk, IfErr, MatchResult};
+ghost use Rattle.arrow_core.specs.Errors.{OnlyOutOfMemory};
 ghost use Rattle.arrow_core.specs.declared.error.Error.TheVariants.{OutOfMemory};
 ghost use Rattle.arrow_array.specs.Arrays.{array_type};
 ghost use Rattle.json_text.specs.Columns.{AreNamed};
@@ -30,7 +31,7 @@ pub(crate) fn make_columns(alloc: Global, fields: &[Field], arrays: &[Array]) ->
     requires { length fields.now ≡ length arrays.now }
     ensures ok { IfOk result
         (λ columns. AreNamed (names_of fields.now) (map array_type arrays.now) columns.items) }
-    ensures memory { IfErr result (λ e. e ≡ OutOfMemory) }
+    ensures memory { OnlyOutOfMemory result }
 {
     let mut columns = Vec::new(alloc);
     for k in 0..fields.len() {

@@ -10,7 +10,7 @@ use Rattle.avro_container.specs.Shortest.{shortest}
 use Rattle.avro_grammar.specs.Carried.{IsNoUnion}
 use Rattle.avro_schema.specs.declared.schema.Schema.{Schema, Boolean, Int, Long, String, Bytes}
 use Rattle.json_flat.specs.Columns.{means}
-use Rattle.json_flat.specs.Meaning.{Layer, Meaning, bytes_in, int64_in, moment_in, slot_of, text_in, truth_in, whole_in}
+use Rattle.json_flat.specs.Meaning.{Layer, Meaning, bytes_in, int64_in, moment_in, slot_of, text_in, boolean_in, whole_in}
 use Rattle.json_flat.specs.Reading.{int32_in, reading}
 use Rattle.json_flat.specs.Whole.{whole_value, within}
 use Rattle.json_tree.specs.Tree.{Json, boolean, has_point, null, number, string}
@@ -24,7 +24,7 @@ use Rattle.line_encode.specs.Plans.{WritesBoolean, WritesBytes, WritesInteger, W
 
 -- ---- what values mean
 
-boolean_means : (b : Bool) → means truth_in (boolean b) ≡ slot_of (slot.Boolean b)
+boolean_means : (b : Bool) → means boolean_in (boolean b) ≡ slot_of (slot.Boolean b)
 unfolding out-Value denote.Hole.Carrier.out
 boolean_means b = refl
 
@@ -49,9 +49,9 @@ bytes_mean : (s : List ℕ) → means bytes_in (string s) ≡ slot_of (slot.Bina
 unfolding out-Value denote.Hole.Carrier.out
 bytes_mean s = refl
 
-null_truth : means truth_in null ≡ slot_of slot.Null
+null_boolean : means boolean_in null ≡ slot_of slot.Null
 unfolding out-Value denote.Hole.Carrier.out
-null_truth = refl
+null_boolean = refl
 
 null_whole : (low high : ℤ) → means (whole_in low high) null ≡ slot_of slot.Null
 unfolding out-Value denote.Hole.Carrier.out
@@ -93,8 +93,8 @@ as_read f g v w x e d h = (λ i. means (e i) (d i)) ∙ h
 encodes_under : (t : DataType) (s u : Schema) (v : Json) (bytes : List ℕ) → s ≡ u → EncodesHeld t u v bytes → EncodesHeld t s v bytes
 encodes_under t s u v bytes e h = subst (λ z. EncodesHeld t z v bytes) (sym e) h
 
-boolean_encoded : (t : DataType) (v : Json) (bytes : List ℕ) → reading t ≡ truth_in → WritesBoolean v bytes → EncodesHeld t Boolean v bytes
-boolean_encoded t v bytes r (b, e, f) = (slot.Boolean b, refl, as_read (reading t) truth_in v (boolean b) (slot.Boolean b) r e (boolean_means b), (b, refl), f)
+boolean_encoded : (t : DataType) (v : Json) (bytes : List ℕ) → reading t ≡ boolean_in → WritesBoolean v bytes → EncodesHeld t Boolean v bytes
+boolean_encoded t v bytes r (b, e, f) = (slot.Boolean b, refl, as_read (reading t) boolean_in v (boolean b) (slot.Boolean b) r e (boolean_means b), (b, refl), f)
 
 int_encoded : (t : DataType) (logical : _) (v : Json) (bytes : List ℕ) → reading t ≡ int32_in → WritesInteger (negsuc 2147483647) (pos 2147483647) v bytes → EncodesHeld t (Int logical) v bytes
 int_encoded t logical v bytes r (m, e, n, is, w, f) =
@@ -122,7 +122,7 @@ encoded primitive.Bytes t s (inl (r, (logical, e))) v bytes h = encodes_under t 
 encoded primitive.Bytes t s (inr (r, e)) v bytes h = encodes_under t s (Bytes None) v bytes e (binary_encoded t v bytes r h)
 
 null_means : (p : Primitive) (t : DataType) (s : Schema) → IsPrimitiveOf t s p → means (reading t) null ≡ slot_of slot.Null
-null_means primitive.Boolean t s (r, e) = ap (λ (f : Layer → Meaning). means f null) r ∙ null_truth
+null_means primitive.Boolean t s (r, e) = ap (λ (f : Layer → Meaning). means f null) r ∙ null_boolean
 null_means primitive.Int t s (r, e) = ap (λ (f : Layer → Meaning). means f null) r ∙ null_whole (negsuc 2147483647) (pos 2147483647)
 null_means primitive.Long t s (inl r, e) = ap (λ (f : Layer → Meaning). means f null) r ∙ null_whole (negsuc 9223372036854775807) (pos 9223372036854775807)
 null_means primitive.Long t s (inr r, e) = ap (λ (f : Layer → Meaning). means f null) r ∙ null_moment

@@ -16,7 +16,7 @@ use Rattle.avro_schema.specs.declared.schema.Record.{Record as TheRecord, out-Re
 use Rattle.avro_schema.specs.declared.schema.Schema.{Schema, Boolean, Int, Long, String, Bytes}
 use Rattle.avro_schema.specs.declared.schema.StringLogical.{StringLogical}
 use Rattle.json_flat.specs.Columns.{means}
-use Rattle.json_flat.specs.Meaning.{bytes_in, int64_in, moment_in, slot_of, text_in, truth_in}
+use Rattle.json_flat.specs.Meaning.{bytes_in, int64_in, moment_in, slot_of, text_in, boolean_in}
 use Rattle.json_flat.specs.Reading.{has_reading, int32_in, reading}
 use Rattle.json_tree.specs.Layout.{distinct}
 use Rattle.json_tree.specs.Tree.{Json, null, object}
@@ -53,7 +53,7 @@ pub record IsHeldPlanOf (nullable : Bool) (t : DataType) (s : Schema) (plan : Pl
 
 -- values without others in them
 abbrev pub IsPrimitiveOf : DataType → Schema → Primitive → Type 0
-IsPrimitiveOf t s primitive.Boolean = (reading t ≡ truth_in) × (s ≡ Boolean)
+IsPrimitiveOf t s primitive.Boolean = (reading t ≡ boolean_in) × (s ≡ Boolean)
 IsPrimitiveOf t s primitive.Int = (reading t ≡ int32_in) × ((logical : Option IntLogical) × (s ≡ Int logical))
 IsPrimitiveOf t s primitive.Long = ((reading t ≡ int64_in) ⊎ (reading t ≡ moment_in)) × ((logical : Option LongLogical) × (s ≡ Long logical))
 IsPrimitiveOf t s primitive.Bytes = ((reading t ≡ text_in) × ((logical : Option StringLogical) × (s ≡ String logical))) ⊎ ((reading t ≡ bytes_in) × (s ≡ Bytes None))

@@ -77,7 +77,8 @@ fn push_int(
     out: &mut Vec<u8>,
 ) -> Result<(), GivenUp>
     ensures { OnOk result (Adds
-        (OrNull nullable (WritesInteger (negsuc 2147483647) (pos 2147483647)) (number mantissa.now exponent.now))
+        (OrNull nullable (WritesInteger (negsuc 2147483647) (pos 2147483647))
+        (number mantissa.now exponent.now))
         out.old.items out.new.items) }
 {
     let Some(value) = i32::from_parts(mantissa, exponent) else {

@@ -80,7 +80,8 @@ fn push_array<'a>(
     out: &mut Vec<u8>,
 ) -> Result<(), GivenUp>
     ensures forward { length reader.new ≤ length reader.old }
-    ensures ok { OnOk result (Reads (OrNull nullable (WritesList (Writes item.now))) (value_at depth)
+    ensures ok { OnOk result (Reads (OrNull nullable (WritesList (Writes item.now)))
+        (value_at depth)
         reader.old reader.new out.old.items out.new.items) }
 {
     if !opens(reader, b'[', depth) {

@@ -48,7 +48,7 @@ impl Batch {
         }
     }
 
-    /// Drops the rows.
+    /// Drops the rows, and keeps their memory for those that come next.
     fn clear(&mut self)
         ensures { self.new.rows.items ≡ [] }
     {
@@ -56,7 +56,7 @@ impl Batch {
         self.rows.clear();
     }
 
-    /// Adds a row.
+    /// Adds a copy of a row, in the memory of an earlier one where there is any.
     fn push(&mut self, alloc: Global, row: &str) -> Result<()>
         ensures pushed { OnOk result (self.new.rows.items ≡ self.old.rows.items ++ row.now ∷ []) }
         ensures memory { OnlyOutOfMemory result }

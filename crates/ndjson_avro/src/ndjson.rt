@@ -49,10 +49,13 @@ pub fn ndjson_to_avro<S: Source, K: Sink>(
 ) -> Result<u64>
     requires { 0 < rows_per_block }
     ensures ok { IfOk result (Converts schema.now.fields name.now marker rows_per_block byte_limit
-        (change_of (S.left source.old) (S.faults source.old) (S.left source.new) (S.faults source.new))
+        (change_of (S.left source.old) (S.faults source.old) (S.left source.new)
+        (S.faults source.new))
         (change_of (K.held sink.old) (K.faults sink.old) (K.held sink.new) (K.faults sink.new))) }
-    ensures err { IfErr result (ConversionFails schema.now.fields name.now marker rows_per_block byte_limit
-        (change_of (S.left source.old) (S.faults source.old) (S.left source.new) (S.faults source.new))
+    ensures err { IfErr result (ConversionFails schema.now.fields name.now marker rows_per_block
+        byte_limit
+        (change_of (S.left source.old) (S.faults source.old) (S.left source.new)
+        (S.faults source.new))
         (change_of (K.held sink.old) (K.faults sink.old) (K.held sink.new) (K.faults sink.new))) }
     ensures never_falls_sink { K.faults sink.old ≤ K.faults sink.new }
     ensures same_sink { K.whose sink.new ≡ K.whose sink.old }
@@ -85,13 +88,17 @@ fn write_file<S: Source, K: Sink>(
     requires root { IsRootOf encoder.old.root encoder.old.row_type }
     requires lines { AreBuildersOf encoder.old.row_type encoder.old.lines }
     requires plan { IsPlanFor encoder.old.row_type encoder.old.root encoder.old.plan }
-    ensures ok { (fields : List Field) (name : List ℕ) → IsEncoderOf fields name encoder.old target.now
+    ensures ok { (fields : List Field) (name : List ℕ)
+        → IsEncoderOf fields name encoder.old target.now
         → IfOk result (Converts fields name marker rows_per_block byte_limit
-        (change_of (S.left source.old) (S.faults source.old) (S.left source.new) (S.faults source.new))
+        (change_of (S.left source.old) (S.faults source.old) (S.left source.new)
+        (S.faults source.new))
         (change_of (K.held sink.old) (K.faults sink.old) (K.held sink.new) (K.faults sink.new))) }
-    ensures err { (fields : List Field) (name : List ℕ) → IsEncoderOf fields name encoder.old target.now
+    ensures err { (fields : List Field) (name : List ℕ)
+        → IsEncoderOf fields name encoder.old target.now
         → IfErr result (ConversionFails fields name marker rows_per_block byte_limit
-        (change_of (S.left source.old) (S.faults source.old) (S.left source.new) (S.faults source.new))
+        (change_of (S.left source.old) (S.faults source.old) (S.left source.new)
+        (S.faults source.new))
         (change_of (K.held sink.old) (K.faults sink.old) (K.held sink.new) (K.faults sink.new))) }
     ensures never_falls_sink { K.faults sink.old ≤ K.faults sink.new }
     ensures same_sink { K.whose sink.new ≡ K.whose sink.old }

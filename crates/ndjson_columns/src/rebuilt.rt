@@ -14,7 +14,8 @@ use std::alloc::Global;
 
 // The same validity, which shares its words.
 fn same_validity(validity: Option<&Bitmap>) -> Result<Option<Bitmap>, GivenUp>
-    ensures { IfOk result (λ same. (slots : List Slot) → TellsHeld (option_copied validity.entry) slots
+    ensures { IfOk result (λ same. (slots : List Slot)
+        → TellsHeld (option_copied validity.entry) slots
         → TellsHeld same slots) }
 {
     match validity {

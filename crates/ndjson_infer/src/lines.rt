@@ -30,9 +30,12 @@ fn add_row<S: Source>(
     requires open { failure_of reader.old ≡ None }
     requires batch { batch_of reader.old ≡ 1 }
     ensures ok { IfOk result (λ more. (values : List value.Value)
-        × AddsRow (wanted_of reader.old) (state_of S.left S.faults reader.old) (state_of S.left S.faults reader.new) values more
-        × ((rows : List value.Value) → StandsFor types.old rows → StandsFor types.new (rows ++ values))
-        × (limit_of reader.new ≡ option_map (λ limit. limit - length values) (limit_of reader.old))) }
+        × AddsRow (wanted_of reader.old) (state_of S.left S.faults reader.old)
+        (state_of S.left S.faults reader.new) values more
+        × ((rows : List value.Value) → StandsFor types.old rows
+        → StandsFor types.new (rows ++ values))
+        × (limit_of reader.new ≡ option_map (λ limit. limit - length values)
+        (limit_of reader.old))) }
     ensures err { IfErr result (NoRow (wanted_of reader.old)
         (state_of S.left S.faults reader.old) (state_of S.left S.faults reader.new)) }
     ensures open { OnOk result (failure_of reader.new ≡ None) }
@@ -63,9 +66,11 @@ fn infer_into<S: Source>(
     requires some { limit_of reader.old ≢ Some 0 }
     requires none { StandsFor types.old [] }
     ensures ok { IfOk result (InfersType (limit_of reader.old) (byte_limit_of reader.old)
-        (told_of S.left S.faults (source_of reader.old)) (told_of S.left S.faults (source_of reader.new))) }
+        (told_of S.left S.faults (source_of reader.old))
+        (told_of S.left S.faults (source_of reader.new))) }
     ensures err { IfErr result (NoType (limit_of reader.old) (byte_limit_of reader.old)
-        (told_of S.left S.faults (source_of reader.old)) (told_of S.left S.faults (source_of reader.new))) }
+        (told_of S.left S.faults (source_of reader.old))
+        (told_of S.left S.faults (source_of reader.new))) }
     ensures same { S.whose (source_of reader.new) ≡ S.whose (source_of reader.old) }
 {
     let mut more = true;
@@ -85,9 +90,11 @@ fn infer_rows<S: Source>(alloc: Global, reader: &mut FileReader<S>) -> Result<Da
     requires fresh { lines_of reader.old ≡ 0 }
     requires some { limit_of reader.old ≢ Some 0 }
     ensures ok { IfOk result (InfersType (limit_of reader.old) (byte_limit_of reader.old)
-        (told_of S.left S.faults (source_of reader.old)) (told_of S.left S.faults (source_of reader.new))) }
+        (told_of S.left S.faults (source_of reader.old))
+        (told_of S.left S.faults (source_of reader.new))) }
     ensures err { IfErr result (NoType (limit_of reader.old) (byte_limit_of reader.old)
-        (told_of S.left S.faults (source_of reader.old)) (told_of S.left S.faults (source_of reader.new))) }
+        (told_of S.left S.faults (source_of reader.old))
+        (told_of S.left S.faults (source_of reader.new))) }
     ensures same { S.whose (source_of reader.new) ≡ S.whose (source_of reader.old) }
 {
     let mut types = RowTypes::new(alloc);

@@ -75,7 +75,7 @@ fn is_among<'a>(reader: &mut Reader<'a>, data_types: &[DataType], no_metadata: &
 fn is_known<'a>(
     reader: &mut Reader<'a>,
     columns: &Columns,
-    place: &mut usize,
+    near: &mut usize,
     no_metadata: &Metadata,
 ) -> bool
     requires { no_metadata.now ≡ [] }
@@ -92,7 +92,7 @@ fn is_known<'a>(
         return false;
     };
     reader.skip_spaces();
-    match columns.types_near(place, name) {
+    match columns.types_near(near, name) {
         Some(data_types) => is_among(reader, data_types, no_metadata),
         None => is_expected(reader, None, no_metadata),
     }
@@ -109,9 +109,9 @@ fn are_known<'a>(reader: &mut Reader<'a>, columns: &Columns, no_metadata: &Metad
     if closes(reader, b'}') {
         return true;
     }
-    let mut place = 0;
+    let mut near = 0;
     loop {
-        if !is_known(reader, columns, &mut place, no_metadata) {
+        if !is_known(reader, columns, &mut near, no_metadata) {
             return false;
         }
         let Ok(more) = goes_on(reader, b'}') else {

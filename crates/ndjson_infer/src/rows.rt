@@ -26,7 +26,8 @@ fn value_of(alloc: Global, row: &[u8]) -> Result<Value>
 
 // Adds the type of a row, of which nothing else is kept. Most rows add nothing.
 pub(crate) fn add_text(alloc: Global, types: &mut RowTypes, row: &str) -> Result<()>
-    ensures added { IfOk result (λ _. (v : value.Value) × IsJson v row.now × ((rows : List value.Value)
+    ensures added { IfOk result (λ _. (v : value.Value) × IsJson v row.now
+        × ((rows : List value.Value)
         → StandsFor types.old rows → StandsFor types.new (rows ++ v ∷ []))) }
     ensures err { IfErr result (NoValue row.now) }
 {

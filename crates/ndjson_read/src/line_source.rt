@@ -41,12 +41,14 @@ impl<S: Source> LineSource<S> {
     // byte past the limit. Answers the last of them; none at the end of the source.
     fn push_bytes(&mut self, line: &mut Vec<u8>) -> Result<Option<u8>>
         ensures bytes { IfOk result (λ next. IfSome next
-            (λ byte. PushesBytes (state_of S.left S.faults self.old) (state_of S.left S.faults self.new)
+            (λ byte. PushesBytes (state_of S.left S.faults self.old)
+            (state_of S.left S.faults self.new)
             line.old.items line.new.items byte)) }
         ensures end { IfOk result (λ next. IfNone next
             (Takes (state_of S.left S.faults self.old) (state_of S.left S.faults self.new) []
             × IsAtEnd (S.left self.new.source) × (line.new.items ≡ line.old.items))) }
-        ensures err { IfErr result (NoBytes (state_of S.left S.faults self.old) (state_of S.left S.faults self.new)) }
+        ensures err { IfErr result (NoBytes (state_of S.left S.faults self.old)
+            (state_of S.left S.faults self.new)) }
         ensures lines { self.new.lines ≡ self.old.lines }
         ensures same { S.whose self.new.source ≡ S.whose self.old.source }
     {
@@ -66,7 +68,8 @@ impl<S: Source> LineSource<S> {
 
     // Counts a line, where it is one: it isn't empty.
     fn count_line(&mut self, line: &[u8])
-        ensures { self.new ≡ record self.old { lines = n_more self.old.lines (length (one_or_none line.now)) } }
+        ensures { self.new ≡ record self.old
+            { lines = n_more self.old.lines (length (one_or_none line.now)) } }
     {
         self.lines = self.lines.saturating_add(count_of(line));
     }
@@ -75,8 +78,10 @@ impl<S: Source> LineSource<S> {
     // line may lack its line feed, and be empty.
     fn read_line(&mut self, line: &mut Vec<u8>) -> Result<bool>
         ensures ok { IfOk result
-            (TakesLine (state_of S.left S.faults self.old) (state_of S.left S.faults self.new) line.new.items) }
-        ensures err { IfErr result (NoLine (state_of S.left S.faults self.old) (state_of S.left S.faults self.new)) }
+            (TakesLine (state_of S.left S.faults self.old) (state_of S.left S.faults self.new)
+            line.new.items) }
+        ensures err { IfErr result (NoLine (state_of S.left S.faults self.old)
+            (state_of S.left S.faults self.new)) }
         ensures same { S.whose self.new.source ≡ S.whose self.old.source }
     {
         line.clear();
@@ -94,7 +99,8 @@ impl<S: Source> LineSource<S> {
 // A line as a text, in the memory that it is in.
 fn text_of(line: Vec<u8>) -> Result<Text>
     ensures ok { IfOk result (λ text. (text ≡ line.items) × IsUtf8 line.items) }
-    ensures err { IfErr result (λ e. (e ≡ Error.ExternalFormat Reason.Utf8Line) × (IsUtf8 line.items → ⊥)) }
+    ensures err { IfErr result (λ e. (e ≡ Error.ExternalFormat Reason.Utf8Line)
+        × (IsUtf8 line.items → ⊥)) }
 {
     if from_utf8(&line).is_err() {
         return Err(Error::ExternalFormat(Reason::Utf8Line));
@@ -112,10 +118,12 @@ struct Line {
 // Takes a line into a text, whose memory is used again.
 fn read_text<S: Source>(alloc: Global, source: &mut LineSource<S>, text: &mut Text) -> Result<Line>
     ensures ok { IfOk result (λ line. TakesLine
-        (state_of S.left S.faults source.old) (state_of S.left S.faults source.new) text.new line.more) }
+        (state_of S.left S.faults source.old) (state_of S.left S.faults source.new) text.new
+        line.more) }
     ensures utf8 { IfOk result (λ line. IsUtf8 text.new) }
     ensures is_row { IfOk result (λ line. line.is_row ≡ is_row text.new) }
-    ensures err { IfErr result (NoLine (state_of S.left S.faults source.old) (state_of S.left S.faults source.new)) }
+    ensures err { IfErr result (NoLine (state_of S.left S.faults source.old)
+        (state_of S.left S.faults source.new)) }
     ensures same { S.whose source.new.source ≡ S.whose source.old.source }
 {
     let empty = Text::from_string(String::new(alloc));
@@ -138,7 +146,8 @@ pub(crate) fn read_rows<S: Source>(
     requires { wanted ≤ length rows.old }
     ensures count { IfOk result (λ n. n ≤ wanted) }
     ensures ok { IfOk result (λ n. ShowsRows wanted
-        (state_of S.left S.faults source.old) (state_of S.left S.faults source.new) (take n rows.new)) }
+        (state_of S.left S.faults source.old) (state_of S.left S.faults source.new)
+        (take n rows.new)) }
     ensures err { IfErr result (NoRows wanted
         (state_of S.left S.faults source.old) (state_of S.left S.faults source.new)) }
     ensures same { S.whose source.new.source ≡ S.whose source.old.source }

@@ -2,9 +2,9 @@
 use crate::columns::{column, has_text};
 use crate::refusals::is_refused;
 use crate::types::dictionary;
-use arrow_array::{Array, Keys};
+use arrow_array::{Array, Keys, PrimitiveArray};
 use arrow_core::{Error, Result};
-use arrow_types::{DataType, IntegerType};
+use arrow_types::{DataType, IntegerType, NativeType};
 use std::alloc::Global;
 use std::test::Fail;
 
@@ -50,14 +50,41 @@ fn a_string_stands_once(rt: HostRuntime) -> std::result::Result<(), Fail> {
     Ok(())
 }
 
-#[test]
-fn an_integer_is_cut_before_it_is_looked_for(rt: HostRuntime) -> std::result::Result<(), Fail> {
-    let alloc = rt.alloc();
-    let data_type = dictionary(alloc, IntegerType::UInt8, DataType::Int16)?;
+/// Whether these are three integers.
+fn are_three<T: NativeType>(array: &PrimitiveArray<T>, one: T, two: T, three: T) -> bool {
+    array.len() == 3 && array.value(0) == one && array.value(1) == two && array.value(2) == three
+}
+
+/// Whether the values of a column of a dictionary are 7, 1 and 0.
+fn has_three_values(column: &Array) -> bool {
+    match column {
+        Array::Dictionary(array) => match array.values() {
+            Array::Int8(values) => are_three(values, 7, 1, 0),
+            Array::Int16(values) => are_three(values, 7, 1, 0),
+            Array::Int32(values) => are_three(values, 7, 1, 0),
+            Array::Int64(values) => are_three(values, 7, 1, 0),
+            _ => false,
+        },
+        _ => false,
+    }
+}
+
+/// Whether numbers under a dictionary over a type of integers have such keys and these values.
+fn is_cut(alloc: Global, integers: DataType) -> Result<bool> {
+    let data_type = dictionary(alloc, IntegerType::UInt8, integers)?;
     let column = column(alloc, b"[7.9,\"x\",7,true,1e0,-0.5]", data_type)?;
     let keys = column_indices(alloc, &column)?;
     let wanted = [Some(0), None, Some(0), Some(1), Some(1), Some(2)];
-    assert!(rt; keys.as_slice() == wanted.as_slice());
+    Ok(keys.as_slice() == wanted.as_slice() && has_three_values(&column))
+}
+
+#[test]
+fn an_integer_is_cut_before_it_is_looked_for(rt: HostRuntime) -> std::result::Result<(), Fail> {
+    let alloc = rt.alloc();
+    assert!(rt; is_cut(alloc, DataType::Int8)?);
+    assert!(rt; is_cut(alloc, DataType::Int16)?);
+    assert!(rt; is_cut(alloc, DataType::Int32)?);
+    assert!(rt; is_cut(alloc, DataType::Int64)?);
     Ok(())
 }
 

@@ -58,6 +58,13 @@ fn a_number_has_to_fit(rt: HostRuntime) -> std::result::Result<(), Fail> {
 }
 
 #[test]
+fn a_text_is_no_timestamp(rt: HostRuntime) {
+    let moment = DataType::Timestamp(TimeUnit::Second, None);
+    let wanted = Error::NotYetImplemented(Reason::TextTimestamp);
+    assert!(rt; is_refused(column(rt.alloc(), b"[\"2020\"]", moment), wanted));
+}
+
+#[test]
 fn a_text_under_a_timestamp_comes_before_a_number_that_does_not_fit(
     rt: HostRuntime,
 ) -> std::result::Result<(), Fail> {

@@ -120,14 +120,14 @@ read_large_lists-returns-clause-err t c =
 pub read_fields-returns-in_err-column-clause-err : goal.read_fields-returns-in_err-column-clause-err
 read_fields-returns-in_err-column-clause-err t c =
     let p = err_from_is_err_and c.from_residual.result c.from_residual.ensures.1 in
-    rw (p.1, p.2) (field_fault c.args.fields.now (lent c.args.values.now) c.loop-field.field-index c.field-item.result _ c.loop-field-test.true c.field-item.is c.in_err-column.ensures.err)
+    rw (p.1, p.2) (field_fault c.args.fields.now (lent c.args.values.now) c.loop-near.near c.index-fields-near.result _ c.loop-near-test.true c.index-fields-near.is c.in_err-column.ensures.err)
 
-pub read_fields-loop-field-preserved : goal.read_fields-loop-field-preserved
-read_fields-loop-field-preserved t c =
-    let inv = c.loop-field.invariant in
+pub read_fields-loop-near-preserved : goal.read_fields-loop-near-preserved
+read_fields-loop-near-preserved t c =
+    let inv = c.loop-near.invariant in
     let column = c.in_ok-column.column in
     record {
-      columns = one_column c.args.fields.now (lent c.args.values.now) c.loop-field.field-index c.field-item.result _ _ column c.loop-field-test.true c.field-item.is inv.columns c.in_ok-column.ensures.column c.in_ok-push.ensures.items;
+      columns = one_column c.args.fields.now (lent c.args.values.now) c.loop-near.near c.index-fields-near.result _ _ column c.loop-near-test.true c.index-fields-near.is inv.columns c.in_ok-column.ensures.column c.in_ok-push.ensures.items;
       dictionaries = one_array_more _ _ column inv.dictionaries c.in_ok-column.ensures.dictionaries c.in_ok-push.ensures.items;
     }
 

@@ -5,8 +5,8 @@ use Rattle.json_flat.specs.Columns.{lent}
 use Rattle.json_columns.specs.Faults.{AreMemberColumns}
 use Rattle.json_columns.proofs.column.+columns.Given as goal
 
-abbrev pub invariant-read_fields-loop-field : goal.invariant-read_fields-loop-field
-invariant-read_fields-loop-field l = record {
-  columns : AreMemberColumns (take l.field-index l.fields) (lent l.values) l.columns.items;
+abbrev pub invariant-read_fields-loop-near : goal.invariant-read_fields-loop-near
+invariant-read_fields-loop-near l = record {
+  columns : AreMemberColumns (take l.near l.fields) (lent l.values) l.columns.items;
   dictionaries : HaveFirstValues l.columns.items;
 }

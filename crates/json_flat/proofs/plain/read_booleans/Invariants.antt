@@ -1,11 +1,11 @@
 use Rattle.std.proofs.Common.{◌≡◌, take}
 use Rattle.arrow_types.specs.declared.types.DataType.TheVariants.{Boolean}
 use Rattle.json_flat.specs.Columns.{AreSlotsOf, lent}
-use Rattle.json_flat.specs.Meaning.{truth_in}
+use Rattle.json_flat.specs.Meaning.{boolean_in}
 use Rattle.json_flat.proofs.plain.read_booleans.Given as goal
 
 abbrev pub invariant-loop-value : goal.invariant-loop-value
 invariant-loop-value l = record {
   data_type : l.builder.data_type ≡ Boolean;
-  slots : AreSlotsOf truth_in (lent (take l.value-index l.values)) l.builder.slots;
+  slots : AreSlotsOf boolean_in (lent (take l.value-index l.values)) l.builder.slots;
 }

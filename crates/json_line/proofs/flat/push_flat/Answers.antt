@@ -3,7 +3,7 @@ use Rattle.arrow_builders.specs.declared.array.MutableArray as builder
 use Rattle.arrow_builders.proofs.NestedCalls.{told}
 use Rattle.arrow_flat.specs.Builders.{PlainBuilder}
 use Rattle.arrow_types.specs.declared.slot.Slot.TheVariants as slot
-use Rattle.json_flat.specs.Meaning.{int64_in, moment_in, null_in, truth_in, whole_in, text_in, bytes_in}
+use Rattle.json_flat.specs.Meaning.{int64_in, moment_in, null_in, boolean_in, whole_in, text_in, bytes_in}
 use Rattle.json_lend.specs.Standing.{lent_value}
 use Rattle.json_line.specs.Builders.{IsGiven}
 use Rattle.json_line.specs.Builders.{is_timestamp}
@@ -27,7 +27,7 @@ returns-in-Boolean c =
     let old = c.args.builder.now in
     let new = builder.Boolean p.new.builder in
     told (λ x y. IsGiven v x y p.result) old _ old new refl (search rules)
-    (given builder.Boolean _ _ _ kind.booleans truth_in p.result v _ c.in-Boolean.booleans p.new.builder old refl c.in-Boolean.booleans-is c.in-Boolean.is p.ensures.data_type p.ensures.ok)
+    (given builder.Boolean _ _ _ kind.booleans boolean_in p.result v _ c.in-Boolean.booleans p.new.builder old refl c.in-Boolean.booleans-is c.in-Boolean.is p.ensures.data_type p.ensures.ok)
 
 pub returns-in-Int8 : goal.returns-in-Int8
 returns-in-Int8 c =

@@ -6,8 +6,8 @@ use Rattle.json_tree.proofs.Turns.{ObjectTurn}
 use Rattle.ndjson_infer.specs.Compared.{AreKnown}
 use Rattle.ndjson_infer.proofs.repeated.are_known.Given as goal
 
-abbrev pub invariant-loop-place : goal.invariant-loop-place
-invariant-loop-place l = (n : ℕ) × (raw : List (List ℕ × Json)) × (length l.reader ≤ n) × ObjectTurn 127 n raw l.reader l.fn.reader × AreKnown l.columns (put_together raw)
+abbrev pub invariant-loop-near : goal.invariant-loop-near
+invariant-loop-near l = (n : ℕ) × (raw : List (List ℕ × Json)) × (length l.reader ≤ n) × ObjectTurn 127 n raw l.reader l.fn.reader × AreKnown l.columns (put_together raw)
 
-abbrev pub decreases-loop-place : goal.decreases-loop-place
-decreases-loop-place l = length l.reader
+abbrev pub decreases-loop-near : goal.decreases-loop-near
+decreases-loop-near l = length l.reader

@@ -4,7 +4,7 @@ use Rattle.arrow_types.specs.Numbers.{greatest_offset}
 use Rattle.json_flat.specs.Columns.{IsTooLong, lent}
 use Rattle.json_flat.specs.Meaning.{text_in}
 use Rattle.json_flat.proofs.Growing.{boxed, no-memory, too-long, typed}
-use Rattle.json_flat.proofs.content.read_texts.Goals as goal
+use Rattle.json_flat.proofs.content.read_strings.Goals as goal
 
 pub returns-in_err-push_text-clause-err : goal.returns-in_err-push_text-clause-err
 returns-in_err-push_text-clause-err g c =

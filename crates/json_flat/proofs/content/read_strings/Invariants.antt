@@ -2,7 +2,7 @@ use Rattle.std.proofs.Common.{◌≡◌, take}
 use Rattle.arrow_array.specs.Parts.{utf8_type}
 use Rattle.json_flat.specs.Columns.{AreSlotsOf, lent, total_size}
 use Rattle.json_flat.specs.Meaning.{text_in}
-use Rattle.json_flat.proofs.content.read_texts.Given as goal
+use Rattle.json_flat.proofs.content.read_strings.Given as goal
 
 abbrev pub invariant-loop-value : goal.invariant-loop-value
 invariant-loop-value g l = record {
