@@ -57,7 +57,8 @@ fn write_next<S: Source, E: EncodesBlocks, K: Sink>(
     ensures ok { IfOk result (NextWritten (E.shows encoder.old) (marker_of reader.old)
         (state_of S.left S.faults reader.old) (state_of S.left S.faults reader.new)
         (K.held sink.old) (K.held sink.new)) }
-    ensures err { IfErr result (BlockFails (E.shows encoder.old) (E.wrong encoder.old) (marker_of reader.old)
+    ensures err { IfErr result (BlockFails (E.shows encoder.old) (E.wrong encoder.old)
+        (marker_of reader.old)
         (state_of S.left S.faults reader.old) (state_of S.left S.faults reader.new)
         (change_of (K.held sink.old) (K.faults sink.old) (K.held sink.new) (K.faults sink.new))) }
     ensures open { IfOk result (λ next. IfSome next (λ _. IsOpen reader.new)) }
@@ -100,7 +101,8 @@ pub fn write_blocks<S: Source, E: EncodesBlocks, K: Sink>(
     ensures ok { IfOk result (AllWritten (E.shows encoder.old) (marker_of reader.old)
         (state_of S.left S.faults reader.old) (state_of S.left S.faults reader.new)
         (K.held sink.old) (K.held sink.new)) }
-    ensures err { IfErr result (StopsAtBlock (E.shows encoder.old) (E.wrong encoder.old) (marker_of reader.old)
+    ensures err { IfErr result (StopsAtBlock (E.shows encoder.old) (E.wrong encoder.old)
+        (marker_of reader.old)
         (state_of S.left S.faults reader.old) (state_of S.left S.faults reader.new)
         (change_of (K.held sink.old) (K.faults sink.old) (K.held sink.new) (K.faults sink.new))) }
     ensures never_falls { S.faults (source_of reader.old) ≤ S.faults (source_of reader.new) }

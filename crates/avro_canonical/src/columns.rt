@@ -19,7 +19,8 @@ fn make_serializers<'a>(
 ) -> Result<Vec<BoxSerializer<'a>>>
     requires { AreAccepted fields.now columns.now }
     ensures items { IfOk result
-        (λ serializers. map (λ s. s.left) serializers.items ≡ encodings fields.now (map array_slots columns.now)) }
+        (λ serializers. map (λ s. s.left) serializers.items
+        ≡ encodings fields.now (map array_slots columns.now)) }
     ensures encoded { OnOk result (HaveEncodings fields.now columns.now) }
     ensures memory { OnlyOutOfMemory result }
 {

@@ -50,10 +50,12 @@ pub fn avro_rewrite<S: Source, K: Sink>(
     byte_limit: u64,
 ) -> Result<u64>
     ensures ok { IfOk result (Rewrites name.now marker byte_limit
-        (change_of (S.left source.old) (S.faults source.old) (S.left source.new) (S.faults source.new))
+        (change_of (S.left source.old) (S.faults source.old) (S.left source.new)
+        (S.faults source.new))
         (change_of (K.held sink.old) (K.faults sink.old) (K.held sink.new) (K.faults sink.new))) }
     ensures err { IfErr result (RewritingFails name.now marker byte_limit
-        (change_of (S.left source.old) (S.faults source.old) (S.left source.new) (S.faults source.new))
+        (change_of (S.left source.old) (S.faults source.old) (S.left source.new)
+        (S.faults source.new))
         (change_of (K.held sink.old) (K.faults sink.old) (K.held sink.new) (K.faults sink.new))) }
     ensures never_falls { S.faults source.old ≤ S.faults source.new }
     ensures never_falls_sink { K.faults sink.old ≤ K.faults sink.new }

@@ -21,12 +21,16 @@ fn take_block<S: Source>(
 ) -> std::result::Result<usize, Stop>
     requires { allowed.old.size_left ≡ None }
     ensures ok { IfOk result (λ rows. Passed marked_block
-        (state_of S.left S.faults source.old allowed.old) (state_of S.left S.faults source.new allowed.new)
-        (the_block rows (take (length bytes.new.items - 16) bytes.new.items), drop (length bytes.new.items - 16) bytes.new.items)) }
+        (state_of S.left S.faults source.old allowed.old)
+        (state_of S.left S.faults source.new allowed.new) (
+          the_block rows (take (length bytes.new.items - 16) bytes.new.items),
+          drop (length bytes.new.items - 16) bytes.new.items,
+        )) }
     ensures long { OnOk result (16 ≤ length bytes.new.items) }
     ensures fewer { OnOk result (allowed.new.limit < allowed.old.limit) }
     ensures stops { IfErr result (Stopped marked_block
-        (state_of S.left S.faults source.old allowed.old) (state_of S.left S.faults source.new allowed.new)) }
+        (state_of S.left S.faults source.old allowed.old)
+        (state_of S.left S.faults source.new allowed.new)) }
     ensures grown { vec_len bytes.new
         ≤ max (vec_len bytes.old) (allowed.old.limit - allowed.new.limit + 65536) }
     ensures same { S.whose source.new ≡ S.whose source.old }

@@ -23,8 +23,10 @@ pub(crate) struct Found {
 impl Found {
     // Keeps the value of an entry, where its key is one of the two.
     fn put(&mut self, key: &[u8], value: Bytes)
-        ensures schema { self.new.schema ≡ later (codes "avro.schema") self.old.schema (the_entry key.now value) }
-        ensures codec { self.new.codec ≡ later (codes "avro.codec") self.old.codec (the_entry key.now value) }
+        ensures schema { self.new.schema ≡ later (codes "avro.schema") self.old.schema
+            (the_entry key.now value) }
+        ensures codec { self.new.codec ≡ later (codes "avro.codec") self.old.codec
+            (the_entry key.now value) }
     {
         if key == b"avro.schema".as_slice() {
             self.schema = Some(value);
@@ -49,10 +51,12 @@ fn take_key<S: Source>(
     allowed: &mut Allowance,
 ) -> Result<Vec<u8>, Stop>
     ensures ok { IfOk result (λ key. Passed key_form
-        (state_of S.left S.faults source.old allowed.old) (state_of S.left S.faults source.new allowed.new)
+        (state_of S.left S.faults source.old allowed.old)
+        (state_of S.left S.faults source.new allowed.new)
         key.items) }
     ensures stops { IfErr result (Stopped key_form
-        (state_of S.left S.faults source.old allowed.old) (state_of S.left S.faults source.new allowed.new)) }
+        (state_of S.left S.faults source.old allowed.old)
+        (state_of S.left S.faults source.new allowed.new)) }
     ensures same { S.whose source.new ≡ S.whose source.old }
 {
     let mut key = Vec::new(alloc);
@@ -71,10 +75,12 @@ fn take_entry<S: Source>(
     found: &mut Found,
 ) -> Result<(), Stop>
     ensures ok { OnOk result (TakesEntry
-        (state_of S.left S.faults source.old allowed.old) (state_of S.left S.faults source.new allowed.new)
+        (state_of S.left S.faults source.old allowed.old)
+        (state_of S.left S.faults source.new allowed.new)
         found.old.schema found.new.schema found.old.codec found.new.codec) }
     ensures stops { IfErr result (Stopped entry
-        (state_of S.left S.faults source.old allowed.old) (state_of S.left S.faults source.new allowed.new)) }
+        (state_of S.left S.faults source.old allowed.old)
+        (state_of S.left S.faults source.new allowed.new)) }
     ensures same { S.whose source.new ≡ S.whose source.old }
 {
     let key = take_key(alloc, source, allowed)?;
@@ -93,10 +99,12 @@ fn take_entries<S: Source>(
     found: &mut Found,
 ) -> Result<(), Stop>
     ensures ok { OnOk result (TakesEntries (many entry n)
-        (state_of S.left S.faults source.old allowed.old) (state_of S.left S.faults source.new allowed.new)
+        (state_of S.left S.faults source.old allowed.old)
+        (state_of S.left S.faults source.new allowed.new)
         found.old.schema found.new.schema found.old.codec found.new.codec) }
     ensures stops { IfErr result (Stopped (many entry n)
-        (state_of S.left S.faults source.old allowed.old) (state_of S.left S.faults source.new allowed.new)) }
+        (state_of S.left S.faults source.old allowed.old)
+        (state_of S.left S.faults source.new allowed.new)) }
     ensures same { S.whose source.new ≡ S.whose source.old }
 {
     for index in 0..n {
@@ -116,10 +124,12 @@ struct BlockCount {
 // Takes the count of a block.
 fn block_count<S: Source>(source: &mut S, allowed: &mut Allowance) -> Result<BlockCount, Stop>
     ensures ok { IfOk result (λ c. Passed a_number
-        (state_of S.left S.faults source.old allowed.old) (state_of S.left S.faults source.new allowed.new)
+        (state_of S.left S.faults source.old allowed.old)
+        (state_of S.left S.faults source.new allowed.new)
         (signed_of c.is_sized c.entries)) }
     ensures stops { IfErr result (Stopped a_number
-        (state_of S.left S.faults source.old allowed.old) (state_of S.left S.faults source.new allowed.new)) }
+        (state_of S.left S.faults source.old allowed.old)
+        (state_of S.left S.faults source.new allowed.new)) }
     ensures same { S.whose source.new ≡ S.whose source.old }
 {
     let n = number(source, allowed)?;
@@ -140,10 +150,12 @@ fn take_within<S: Source>(
 ) -> Result<(), Stop>
     requires { allowed.old.size_left ≡ None }
     ensures ok { OnOk result (TakesEntries (under (pos size) (many entry n))
-        (state_of S.left S.faults source.old allowed.old) (state_of S.left S.faults source.new allowed.new)
+        (state_of S.left S.faults source.old allowed.old)
+        (state_of S.left S.faults source.new allowed.new)
         found.old.schema found.new.schema found.old.codec found.new.codec) }
     ensures stops { IfErr result (Stopped (under (pos size) (many entry n))
-        (state_of S.left S.faults source.old allowed.old) (state_of S.left S.faults source.new allowed.new)) }
+        (state_of S.left S.faults source.old allowed.old)
+        (state_of S.left S.faults source.new allowed.new)) }
     ensures size_left { allowed.new.size_left ≡ None }
     ensures same { S.whose source.new ≡ S.whose source.old }
 {
@@ -180,10 +192,12 @@ fn take_sized_entries<S: Source>(
 ) -> Result<(), Stop>
     requires { allowed.old.size_left ≡ None }
     ensures ok { OnOk result (TakesEntries (sized_many n)
-        (state_of S.left S.faults source.old allowed.old) (state_of S.left S.faults source.new allowed.new)
+        (state_of S.left S.faults source.old allowed.old)
+        (state_of S.left S.faults source.new allowed.new)
         found.old.schema found.new.schema found.old.codec found.new.codec) }
     ensures stops { IfErr result (Stopped (sized_many n)
-        (state_of S.left S.faults source.old allowed.old) (state_of S.left S.faults source.new allowed.new)) }
+        (state_of S.left S.faults source.old allowed.old)
+        (state_of S.left S.faults source.new allowed.new)) }
     ensures size_left { OnOk result (allowed.new.size_left ≡ None) }
     ensures same { S.whose source.new ≡ S.whose source.old }
 {
@@ -204,10 +218,12 @@ fn take_block_of<S: Source>(
     requires some { 0 < count.entries }
     requires no_size { allowed.old.size_left ≡ None }
     ensures ok { OnOk result (TakesEntries (block_of entry (signed_of count.is_sized count.entries))
-        (state_of S.left S.faults source.old allowed.old) (state_of S.left S.faults source.new allowed.new)
+        (state_of S.left S.faults source.old allowed.old)
+        (state_of S.left S.faults source.new allowed.new)
         found.old.schema found.new.schema found.old.codec found.new.codec) }
     ensures stops { IfErr result (Stopped (block_of entry (signed_of count.is_sized count.entries))
-        (state_of S.left S.faults source.old allowed.old) (state_of S.left S.faults source.new allowed.new)) }
+        (state_of S.left S.faults source.old allowed.old)
+        (state_of S.left S.faults source.new allowed.new)) }
     ensures size_left { OnOk result (allowed.new.size_left ≡ None) }
     ensures same { S.whose source.new ≡ S.whose source.old }
 {
@@ -231,10 +247,12 @@ pub(crate) fn take_map<S: Source>(
 ) -> Result<(), Stop>
     requires { allowed.old.size_left ≡ None }
     ensures ok { OnOk result (TakesEntries (blocks entry)
-        (state_of S.left S.faults source.old allowed.old) (state_of S.left S.faults source.new allowed.new)
+        (state_of S.left S.faults source.old allowed.old)
+        (state_of S.left S.faults source.new allowed.new)
         found.old.schema found.new.schema found.old.codec found.new.codec) }
     ensures stops { IfErr result (Stopped (blocks entry)
-        (state_of S.left S.faults source.old allowed.old) (state_of S.left S.faults source.new allowed.new)) }
+        (state_of S.left S.faults source.old allowed.old)
+        (state_of S.left S.faults source.new allowed.new)) }
     ensures size_left { OnOk result (allowed.new.size_left ≡ None) }
     ensures same { S.whose source.new ≡ S.whose source.old }
 {

@@ -27,10 +27,12 @@ fn take_magic<S: Source>(
     allowed: &mut Allowance,
 ) -> std::result::Result<(), Stop>
     ensures ok { OnOk result (Passed magic_form
-        (state_of S.left S.faults source.old allowed.old) (state_of S.left S.faults source.new allowed.new)
+        (state_of S.left S.faults source.old allowed.old)
+        (state_of S.left S.faults source.new allowed.new)
         magic) }
     ensures stops { IfErr result (Stopped magic_form
-        (state_of S.left S.faults source.old allowed.old) (state_of S.left S.faults source.new allowed.new)) }
+        (state_of S.left S.faults source.old allowed.old)
+        (state_of S.left S.faults source.new allowed.new)) }
     ensures same { S.whose source.new ≡ S.whose source.old }
 {
     let mut bytes = Vec::new(alloc);
@@ -66,10 +68,12 @@ fn take_after_magic<S: Source>(
 ) -> std::result::Result<AfterMagic, Stop>
     requires { allowed.old.size_left ≡ None }
     ensures ok { IfOk result (λ r. TakesHeader after_magic
-        (state_of S.left S.faults source.old allowed.old) (state_of S.left S.faults source.new allowed.new)
+        (state_of S.left S.faults source.old allowed.old)
+        (state_of S.left S.faults source.new allowed.new)
         r.entries.schema r.entries.codec r.marker) }
     ensures stops { IfErr result (Stopped after_magic
-        (state_of S.left S.faults source.old allowed.old) (state_of S.left S.faults source.new allowed.new)) }
+        (state_of S.left S.faults source.old allowed.old)
+        (state_of S.left S.faults source.new allowed.new)) }
     ensures same { S.whose source.new ≡ S.whose source.old }
 {
     let mut entries = Found {
@@ -132,9 +136,11 @@ pub fn read_header<S: Source>(
     source: &mut S,
     byte_limit: u64,
 ) -> Result<(Header, u64)>
-    ensures ok { IfOk result (λ r. ReadsHeader (change S.left S.faults source.old source.new byte_limit)
+    ensures ok { IfOk result (λ r. ReadsHeader
+        (change S.left S.faults source.old source.new byte_limit)
         r.0.schema r.0.marker r.1) }
-    ensures err { IfErr result (HeaderFails (change S.left S.faults source.old source.new byte_limit)) }
+    ensures err { IfErr result (HeaderFails
+        (change S.left S.faults source.old source.new byte_limit)) }
     ensures never_falls { S.faults source.old ≤ S.faults source.new }
     ensures same { S.whose source.new ≡ S.whose source.old }
 {

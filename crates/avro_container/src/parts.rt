@@ -47,10 +47,12 @@ pub(crate) fn take_some<S: Source>(
     requires { 0 < length buffer.old }
     ensures count { IfOk result (IsInRange 1 (length buffer.old)) }
     ensures taken { IfOk result (λ n. Takes
-        (state_of S.left S.faults source.old allowed.old) (state_of S.left S.faults source.new allowed.new)
+        (state_of S.left S.faults source.old allowed.old)
+        (state_of S.left S.faults source.new allowed.new)
         (take n buffer.new)) }
     ensures stops { IfErr result (Stops
-        (state_of S.left S.faults source.old allowed.old) (state_of S.left S.faults source.new allowed.new)) }
+        (state_of S.left S.faults source.old allowed.old)
+        (state_of S.left S.faults source.new allowed.new)) }
     ensures never_rises { allowed.new.limit ≤ allowed.old.limit }
     ensures same { S.whose source.new ≡ S.whose source.old }
 {
@@ -68,7 +70,8 @@ impl Allowance {
     // tells whether the source has more.
     fn most(&self, wanted: usize) -> Result<usize, Stop>
         requires { 0 < wanted }
-        ensures ok { IfOk result (λ n. IsInRange 1 wanted n × Allows self.now.limit self.now.size_left n × NotUsedUp self.now.size_left 0) }
+        ensures ok { IfOk result (λ n. IsInRange 1 wanted n
+            × Allows self.now.limit self.now.size_left n × NotUsedUp self.now.size_left 0) }
         ensures err { IfErr result (λ e. (e ≡ TheStop.UsedUp) × (self.now.size_left ≡ Some 0)) }
     {
         let mut most = wanted as u64;
@@ -99,7 +102,8 @@ impl Allowance {
     fn pass(&mut self, n: usize) -> Result<usize, Stop>
         requires some { 0 < n }
         requires allowed { Allows self.old.limit self.old.size_left n }
-        ensures ok { IfOk result (λ k. (k ≡ n) × (self.old.limit ≡ n + self.new.limit) × SizeFalls self.old.size_left self.new.size_left n) }
+        ensures ok { IfOk result (λ k. (k ≡ n) × (self.old.limit ≡ n + self.new.limit)
+            × SizeFalls self.old.size_left self.new.size_left n) }
         ensures err { IfErr result (λ e. (e ≡ TheStop.Limit) × (self.old.limit ≡ 0) × (n ≡ 1)) }
         ensures never_rises { self.new.limit ≤ self.old.limit }
     {
@@ -117,10 +121,12 @@ impl Allowance {
 // Takes a byte.
 pub(crate) fn byte<S: Source>(source: &mut S, allowed: &mut Allowance) -> Result<u8, Stop>
     ensures taken { IfOk result (λ b. Takes
-        (state_of S.left S.faults source.old allowed.old) (state_of S.left S.faults source.new allowed.new)
+        (state_of S.left S.faults source.old allowed.old)
+        (state_of S.left S.faults source.new allowed.new)
         (b ∷ [])) }
     ensures stops { IfErr result (Stops
-        (state_of S.left S.faults source.old allowed.old) (state_of S.left S.faults source.new allowed.new)) }
+        (state_of S.left S.faults source.old allowed.old)
+        (state_of S.left S.faults source.new allowed.new)) }
     ensures same { S.whose source.new ≡ S.whose source.old }
 {
     let mut buffer = [0u8; 1];
@@ -139,9 +145,11 @@ fn signed(unsigned: u64) -> i64
 // Takes a number.
 pub(crate) fn number<S: Source>(source: &mut S, allowed: &mut Allowance) -> Result<i64, Stop>
     ensures ok { IfOk result (Passed a_number
-        (state_of S.left S.faults source.old allowed.old) (state_of S.left S.faults source.new allowed.new)) }
+        (state_of S.left S.faults source.old allowed.old)
+        (state_of S.left S.faults source.new allowed.new)) }
     ensures stops { IfErr result (Stopped a_number
-        (state_of S.left S.faults source.old allowed.old) (state_of S.left S.faults source.new allowed.new)) }
+        (state_of S.left S.faults source.old allowed.old)
+        (state_of S.left S.faults source.new allowed.new)) }
     ensures same { S.whose source.new ≡ S.whose source.old }
 {
     let mut unsigned: u64 = 0;
@@ -171,10 +179,12 @@ fn fill_some<S: Source>(
     ensures count { IfOk result (λ n. IsInRange 1 (vec_len bytes.old) (at + n)) }
     ensures some { IfOk result (λ n. 0 < n) }
     ensures taken { IfOk result (λ n. TakesMore
-        (state_of S.left S.faults source.old allowed.old) (state_of S.left S.faults source.new allowed.new)
+        (state_of S.left S.faults source.old allowed.old)
+        (state_of S.left S.faults source.new allowed.new)
         (take at bytes.old.items) (take (at + n) bytes.new.items)) }
     ensures stops { IfErr result (Stops
-        (state_of S.left S.faults source.old allowed.old) (state_of S.left S.faults source.new allowed.new)) }
+        (state_of S.left S.faults source.old allowed.old)
+        (state_of S.left S.faults source.new allowed.new)) }
     ensures len { vec_len bytes.new ≡ vec_len bytes.old }
     ensures never_rises { allowed.new.limit ≤ allowed.old.limit }
     ensures same { S.whose source.new ≡ S.whose source.old }
@@ -216,10 +226,12 @@ pub fn fill_buffer<S: Source>(
     n: usize,
 ) -> Result<(), Stop>
     ensures ok { OnOk result (Passed (raw n)
-        (state_of S.left S.faults source.old allowed.old) (state_of S.left S.faults source.new allowed.new)
+        (state_of S.left S.faults source.old allowed.old)
+        (state_of S.left S.faults source.new allowed.new)
         bytes.new.items) }
     ensures stops { IfErr result (Stopped (raw n)
-        (state_of S.left S.faults source.old allowed.old) (state_of S.left S.faults source.new allowed.new)) }
+        (state_of S.left S.faults source.old allowed.old)
+        (state_of S.left S.faults source.new allowed.new)) }
     // The limit falls by the bytes that were taken, the one past it aside.
     ensures grown { vec_len bytes.new
         ≤ max (vec_len bytes.old) (allowed.old.limit - allowed.new.limit + 65536) }
@@ -238,9 +250,11 @@ pub fn fill_buffer<S: Source>(
 // Takes a number of 0 or more.
 pub(crate) fn count<S: Source>(source: &mut S, allowed: &mut Allowance) -> Result<usize, Stop>
     ensures ok { IfOk result (Passed a_count
-        (state_of S.left S.faults source.old allowed.old) (state_of S.left S.faults source.new allowed.new)) }
+        (state_of S.left S.faults source.old allowed.old)
+        (state_of S.left S.faults source.new allowed.new)) }
     ensures stops { IfErr result (Stopped a_count
-        (state_of S.left S.faults source.old allowed.old) (state_of S.left S.faults source.new allowed.new)) }
+        (state_of S.left S.faults source.old allowed.old)
+        (state_of S.left S.faults source.new allowed.new)) }
     ensures same { S.whose source.new ≡ S.whose source.old }
 {
     let n = number(source, allowed)?;
@@ -257,10 +271,12 @@ pub(crate) fn sized<S: Source>(
     bytes: &mut Vec<u8>,
 ) -> Result<(), Stop>
     ensures ok { OnOk result (Passed a_sized
-        (state_of S.left S.faults source.old allowed.old) (state_of S.left S.faults source.new allowed.new)
+        (state_of S.left S.faults source.old allowed.old)
+        (state_of S.left S.faults source.new allowed.new)
         bytes.new.items) }
     ensures stops { IfErr result (Stopped a_sized
-        (state_of S.left S.faults source.old allowed.old) (state_of S.left S.faults source.new allowed.new)) }
+        (state_of S.left S.faults source.old allowed.old)
+        (state_of S.left S.faults source.new allowed.new)) }
     ensures same { S.whose source.new ≡ S.whose source.old }
 {
     let n = count(source, allowed)?;

@@ -15,9 +15,11 @@ use avro_schema::Block;
 pub fn write_block<K: Sink>(sink: &mut K, block: &Block, marker: [u8; 16]) -> Result<()>
     requires count { block.now.number_of_rows < 2 ^ 63 }
     requires size { length block.now.bytes < 2 ^ 63 }
-    ensures ok { OnOk result (Appends (K.held sink.old) (K.held sink.new) (canonical_block marker (the_block block.now.number_of_rows block.now.bytes))) }
+    ensures ok { OnOk result (Appends (K.held sink.old) (K.held sink.new)
+        (canonical_block marker (the_block block.now.number_of_rows block.now.bytes))) }
     ensures only { IfErr result (λ e. e ≡ Error.WriteFault) }
-    ensures prefix { OnErr result (AppendsPrefix (K.held sink.old) (K.held sink.new) (canonical_block marker (the_block block.now.number_of_rows block.now.bytes))) }
+    ensures prefix { OnErr result (AppendsPrefix (K.held sink.old) (K.held sink.new)
+        (canonical_block marker (the_block block.now.number_of_rows block.now.bytes))) }
     ensures never_falls { K.faults sink.old ≤ K.faults sink.new }
     ensures cause { OnErr result (RoseOrFull (K.faults sink.old) (K.faults sink.new)) }
     ensures same { K.whose sink.new ≡ K.whose sink.old }
@@ -37,9 +39,11 @@ pub fn write_block<K: Sink>(sink: &mut K, block: &Block, marker: [u8; 16]) -> Re
 /// a prefix. It takes no memory.
 pub fn write_header<K: Sink>(sink: &mut K, text: &[u8], marker: [u8; 16]) -> Result<()>
     requires { length text.now < 2 ^ 63 }
-    ensures ok { OnOk result (Appends (K.held sink.old) (K.held sink.new) (canonical_header text.now marker)) }
+    ensures ok { OnOk result (Appends (K.held sink.old) (K.held sink.new)
+        (canonical_header text.now marker)) }
     ensures only { IfErr result (λ e. e ≡ Error.WriteFault) }
-    ensures prefix { OnErr result (AppendsPrefix (K.held sink.old) (K.held sink.new) (canonical_header text.now marker)) }
+    ensures prefix { OnErr result (AppendsPrefix (K.held sink.old) (K.held sink.new)
+        (canonical_header text.now marker)) }
     ensures never_falls { K.faults sink.old ≤ K.faults sink.new }
     ensures cause { OnErr result (RoseOrFull (K.faults sink.old) (K.faults sink.new)) }
     ensures same { K.whose sink.new ≡ K.whose sink.old }

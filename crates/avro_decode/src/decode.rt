@@ -166,14 +166,17 @@ fn decode_pair<C: Ahead>(
         builder.old }
     ensures shape { shape builder.new ≡ shape builder.old }
     ensures tight { OnOk result (IsTight builder.new) }
-    ensures grows { Grows (mask true schema.now) (passed (C.rest cursor.old) (C.rest cursor.new) + 1) (nodes builder.old) (nodes builder.new) }
+    ensures grows { Grows (mask true schema.now)
+        (passed (C.rest cursor.old) (C.rest cursor.new) + 1) (nodes builder.old)
+        (nodes builder.new) }
     ensures has_capacity { HaveSpare (mask true schema.now) (length (C.rest cursor.old) + 1)
         (nodes builder.old) → HasMemory result }
     ensures same { C.whose cursor.new ≡ C.whose cursor.old }
     ensures moves { Moves C.rest C.calls cursor.old cursor.new }
     ensures costs { OnOk result (CostsKept C.rest C.shown C.calls cursor.old cursor.new) }
     ensures reads { Gives (λ _. (builder_slots builder.new, C.rest cursor.new)) result
-        (push_one (builder_slots builder.old) (pair_at index null_first schema.now (C.rest cursor.old))) }
+        (push_one (builder_slots builder.old)
+        (pair_at index null_first schema.now (C.rest cursor.old))) }
 {
     match is_null_at(index, null_first) {
         Some(null) => decode_member(cursor, null, schema, builder),
@@ -213,7 +216,9 @@ fn decode_member<C: Ahead>(
         builder.old }
     ensures shape { shape builder.new ≡ shape builder.old }
     ensures tight { OnOk result (IsTight builder.new) }
-    ensures grows { Grows (mask true schema.now) (passed (C.rest cursor.old) (C.rest cursor.new) + 1) (nodes builder.old) (nodes builder.new) }
+    ensures grows { Grows (mask true schema.now)
+        (passed (C.rest cursor.old) (C.rest cursor.new) + 1) (nodes builder.old)
+        (nodes builder.new) }
     ensures has_capacity { HaveSpare (mask true schema.now) (length (C.rest cursor.old) + 1)
         (nodes builder.old) → HasMemory result }
     ensures same { C.whose cursor.new ≡ C.whose cursor.old }
@@ -244,7 +249,9 @@ fn decode_array<C: Ahead>(
         (List lists.old) }
     ensures shape { shape (List lists.new) ≡ shape (List lists.old) }
     ensures tight { OnOk result (IsTight (List lists.new)) }
-    ensures grows { Grows (mask false (Array item.now)) (passed (C.rest cursor.old) (C.rest cursor.new)) (nodes (List lists.old)) (nodes (List lists.new)) }
+    ensures grows { Grows (mask false (Array item.now))
+        (passed (C.rest cursor.old) (C.rest cursor.new)) (nodes (List lists.old))
+        (nodes (List lists.new)) }
     ensures has_capacity { HaveSpare (mask false (Array item.now)) (length (C.rest cursor.old))
         (nodes (List lists.old)) → HasMemory result }
     ensures same { C.whose cursor.new ≡ C.whose cursor.old }
@@ -273,7 +280,9 @@ fn decode_large_array<C: Ahead>(
         (LargeList lists.old) }
     ensures shape { shape (LargeList lists.new) ≡ shape (LargeList lists.old) }
     ensures tight { OnOk result (IsTight (LargeList lists.new)) }
-    ensures grows { Grows (mask false (Array item.now)) (passed (C.rest cursor.old) (C.rest cursor.new)) (nodes (LargeList lists.old)) (nodes (LargeList lists.new)) }
+    ensures grows { Grows (mask false (Array item.now))
+        (passed (C.rest cursor.old) (C.rest cursor.new)) (nodes (LargeList lists.old))
+        (nodes (LargeList lists.new)) }
     ensures has_capacity { HaveSpare (mask false (Array item.now)) (length (C.rest cursor.old))
         (nodes (LargeList lists.old)) → HasMemory result }
     ensures same { C.whose cursor.new ≡ C.whose cursor.old }
@@ -281,7 +290,8 @@ fn decode_large_array<C: Ahead>(
     ensures shorter { OnOk result (length (C.rest cursor.new) < length (C.rest cursor.old)) }
     ensures costs { OnOk result (CostsKept C.rest C.shown C.calls cursor.old cursor.new) }
     ensures reads { Gives (λ _. (builder_slots (LargeList lists.new), C.rest cursor.new)) result
-        (push_one (builder_slots (LargeList lists.old)) (read (Array item.now) (C.rest cursor.old))) }
+        (push_one (builder_slots (LargeList lists.old))
+        (read (Array item.now) (C.rest cursor.old))) }
 {
     decode_blocks(cursor, item, lists.mut_values())?;
     pushed_large_list(lists)
@@ -474,7 +484,9 @@ fn decode_record<C: Ahead>(
         (Struct records.old) }
     ensures shape { shape (Struct records.new) ≡ shape (Struct records.old) }
     ensures tight { OnOk result (IsTight (Struct records.new)) }
-    ensures grows { Grows (true ∷ masks false fields.now) (passed (C.rest cursor.old) (C.rest cursor.new)) (nodes (Struct records.old)) (nodes (Struct records.new)) }
+    ensures grows { Grows (true ∷ masks false fields.now)
+        (passed (C.rest cursor.old) (C.rest cursor.new)) (nodes (Struct records.old))
+        (nodes (Struct records.new)) }
     ensures has_capacity { HaveSpare (true ∷ masks false fields.now) (length (C.rest cursor.old))
         (nodes (Struct records.old)) → HasMemory result }
     ensures same { C.whose cursor.new ≡ C.whose cursor.old }
@@ -530,8 +542,10 @@ fn pushed_list(lists: &mut DynMutableListArray) -> Result<(), DecodeFault>
     ensures data_type { lists.new.lists.data_type ≡ lists.old.lists.data_type }
     ensures values { lists.new.values ≡ lists.old.values }
     ensures ok { OnOk result (builder_slots (List lists.new) ≡ builder_slots (List lists.old)
-        ++ ListSlot (drop (items_of lists.old.lists.lens) (builder_slots lists.old.values.value)) ∷ []) }
-    ensures end { OnOk result (items_of lists.new.lists.lens ≡ length (builder_slots lists.old.values.value)) }
+        ++ ListSlot (drop (items_of lists.old.lists.lens) (builder_slots lists.old.values.value))
+        ∷ []) }
+    ensures end { OnOk result (items_of lists.new.lists.lens
+        ≡ length (builder_slots lists.old.values.value)) }
     ensures err { IfErr result (λ e. e ≡ DecodeFault.Memory) }
     ensures takes { Takes 1 0 (lists_node lists.old.lists) (lists_node lists.new.lists) }
     ensures has_capacity { 1 ≤ lists.old.lists.spare → HasMemory result }
@@ -545,9 +559,12 @@ fn pushed_large_list(lists: &mut DynMutableLargeListArray) -> Result<(), DecodeF
     requires reach { length (builder_slots lists.old.values.value) ≤ greatest_offset true }
     ensures data_type { lists.new.lists.data_type ≡ lists.old.lists.data_type }
     ensures values { lists.new.values ≡ lists.old.values }
-    ensures ok { OnOk result (builder_slots (LargeList lists.new) ≡ builder_slots (LargeList lists.old)
-        ++ ListSlot (drop (items_of lists.old.lists.lens) (builder_slots lists.old.values.value)) ∷ []) }
-    ensures end { OnOk result (items_of lists.new.lists.lens ≡ length (builder_slots lists.old.values.value)) }
+    ensures ok { OnOk result (builder_slots (LargeList lists.new)
+        ≡ builder_slots (LargeList lists.old)
+        ++ ListSlot (drop (items_of lists.old.lists.lens) (builder_slots lists.old.values.value))
+        ∷ []) }
+    ensures end { OnOk result (items_of lists.new.lists.lens
+        ≡ length (builder_slots lists.old.values.value)) }
     ensures err { IfErr result (λ e. e ≡ DecodeFault.Memory) }
     ensures takes { Takes 1 0 (lists_node lists.old.lists) (lists_node lists.new.lists) }
     ensures has_capacity { 1 ≤ lists.old.lists.spare → HasMemory result }

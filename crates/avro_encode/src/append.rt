@@ -179,7 +179,8 @@ fn append_list(
     requires kind { IsListKind (array_kind array.now) }
     requires pairs { PairsList item.now array.now (slot_at (array_slots array.now) i) }
     ensures ok { OnOk result (out.new.items
-        ≡ out.old.items ++ one_block (plain item.now) (parts_of (slot_at (array_slots array.now) i))) }
+        ≡ out.old.items ++ one_block (plain item.now)
+        (parts_of (slot_at (array_slots array.now) i))) }
 {
     match array {
         Array::List(array) => append_items(&array.value(i), item, out),
@@ -223,7 +224,8 @@ fn append_struct(
     requires kind { IsStructKind (array_kind array.now) }
     requires pairs { PairsStruct fields.now array.now (slot_at (array_slots array.now) i) }
     ensures ok { OnOk result (out.new.items
-        ≡ out.old.items ++ plain_fields_of fields.now (parts_of (slot_at (array_slots array.now) i))) }
+        ≡ out.old.items ++ plain_fields_of fields.now
+        (parts_of (slot_at (array_slots array.now) i))) }
 {
     match array {
         Array::Struct(array) => append_fields(array.values(), i, fields, out),

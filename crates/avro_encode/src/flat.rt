@@ -274,7 +274,8 @@ pub(crate) fn append_flat_after(
     requires kind { IsFlatKind (array_kind array.now) }
     requires fits { FitsFlat (array_kind array.now) (slot_at (array_slots array.now) i) }
     ensures ok { OnOk result (out.new.items
-        ≡ out.old.items ++ byte ∷ flat_plain (array_kind array.now) (slot_at (array_slots array.now) i)) }
+        ≡ out.old.items ++ byte ∷ flat_plain (array_kind array.now)
+        (slot_at (array_slots array.now) i)) }
 {
     match array {
         Array::Utf8(array) => array.append_value_after(byte, i, out),

@@ -1,4 +1,5 @@
--- What stands among the members of a union or the fields of a record, as code looks for it.
+-- What stands among the members of a union or the fields of a record, as code looks for it. Cited by private contracts alone; nothing here has to
+-- be read to believe a public contract.
 use Rattle.std.specs.Prelude.{List, [], ◌∷◌, ◌⊎◌}
 
 -- P holds of an element

@@ -37,10 +37,12 @@ pub fn avro_to_ndjson<S: Source, K: Sink>(
     byte_limit: u64,
 ) -> Result<u64>
     ensures ok { IfOk result (Converts (option_copied keep.entry) byte_limit
-        (change_of (S.left source.old) (S.faults source.old) (S.left source.new) (S.faults source.new))
+        (change_of (S.left source.old) (S.faults source.old) (S.left source.new)
+        (S.faults source.new))
         (change_of (K.held sink.old) (K.faults sink.old) (K.held sink.new) (K.faults sink.new))) }
     ensures err { IfErr result (ConversionFails (option_copied keep.entry) byte_limit
-        (change_of (S.left source.old) (S.faults source.old) (S.left source.new) (S.faults source.new))
+        (change_of (S.left source.old) (S.faults source.old) (S.left source.new)
+        (S.faults source.new))
         (change_of (K.held sink.old) (K.faults sink.old) (K.held sink.new) (K.faults sink.new))) }
     ensures never_falls { S.faults source.old ≤ S.faults source.new }
     ensures never_falls_sink { K.faults sink.old ≤ K.faults sink.new }

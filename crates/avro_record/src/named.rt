@@ -41,7 +41,8 @@ fn fixed_name(alloc: Global, name: &Text, fixed_types: &mut u64) -> Result<Text>
 fn named_fixed(alloc: Global, fixed: &Fixed, fixed_types: &mut u64) -> Result<Fixed>
     ensures named { IfOk result
         (λ f. f ≡ record fixed.now { name = name_or fixed_types.old fixed.now.name }) }
-    ensures count { OnOk result (fixed_types.new ≡ fixed_types.old + count_nameless fixed.now.name) }
+    ensures count { OnOk result (fixed_types.new ≡ fixed_types.old
+        + count_nameless fixed.now.name) }
     ensures memory { OnlyOutOfMemory result }
 {
     let name = fixed_name(alloc, &fixed.name, fixed_types)?;

@@ -14,7 +14,8 @@ const GREATEST: usize = 2_147_483_647;
 
 /// The text of a value that is a string.
 pub(crate) fn string_of<'a>(value: &'a Value) -> Option<&'a str>
-    ensures { MatchOption result (spec.string_of value.now ≡ None) (λ text. spec.string_of value.now ≡ Some text.now) }
+    ensures { MatchOption result (spec.string_of value.now ≡ None)
+        (λ text. spec.string_of value.now ≡ Some text.now) }
 {
     match value {
         Value::String(text) => Some(text.as_str()),
@@ -57,7 +58,8 @@ pub(crate) fn copy_of(alloc: Global, text: &str) -> Result<Text, Fault>
 
 /// The items of a value that is an array.
 fn items_of<'a>(value: &'a Value) -> Option<&'a [Value]>
-    ensures { MatchOption result (spec.items_of value.now ≡ None) (λ items. spec.items_of value.now ≡ Some items.now) }
+    ensures { MatchOption result (spec.items_of value.now ≡ None)
+        (λ items. spec.items_of value.now ≡ Some items.now) }
 {
     match value {
         Value::Array(items) => Some(items.as_slice()),
@@ -116,8 +118,10 @@ fn digits_count(mantissa: &str, exponent: &str) -> Option<usize>
 }
 
 fn read_digits(digits: &str) -> Option<usize>
-    ensures count { IfSome result (λ count. IsNumeral 10 digits.now × (count ≡ digits_value 10 digits.now) × (count ≤ 2147483647)) }
-    ensures none { result ≡ None → IsNumeral 10 digits.now → digits_value 10 digits.now ≤ 2147483647 → ⊥ }
+    ensures count { IfSome result (λ count. IsNumeral 10 digits.now
+        × (count ≡ digits_value 10 digits.now) × (count ≤ 2147483647)) }
+    ensures none { result ≡ None → IsNumeral 10 digits.now → digits_value 10 digits.now ≤ 2147483647
+        → ⊥ }
 {
     // `parse` takes a plus sign before the digits.
     if digits.starts_with('+') {

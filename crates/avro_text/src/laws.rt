@@ -11,7 +11,8 @@ ghost use Rattle.avro_text.specs.Writing.{schema_text_of};
 
 /// A text stands for one schema at most.
 pub fn one_text_one_schema()
-    ensures { (bytes : List ℕ) (one other : Schema) → IsSchemaText bytes one → IsSchemaText bytes other → one ≡ other }
+    ensures { (bytes : List ℕ) (one other : Schema) → IsSchemaText bytes one
+        → IsSchemaText bytes other → one ≡ other }
 {}
 
 /// Schemas in a JSON text nest at most as deep as `schema_of` follows them: followed deeper, the value

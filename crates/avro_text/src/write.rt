@@ -36,7 +36,8 @@ pub(crate) fn push_schema(text: &mut Vec<u8>, schema: &AvroSchema) -> Result<()>
 /// The last attribute of an object, which is a schema, after what stands before it.
 #[cycle(write)]
 fn push_inner(text: &mut Vec<u8>, before: &[u8], schema: &AvroSchema) -> Result<()>
-    ensures appended { OnOk result (text.new.items ≡ text.old.items ++ (before.now ++ schema_text_of schema.now ++ codes "}")) }
+    ensures appended { OnOk result (text.new.items ≡ text.old.items
+        ++ (before.now ++ schema_text_of schema.now ++ codes "}")) }
     ensures memory { OnlyOutOfMemory result }
 {
     push(text, before)?;
@@ -46,7 +47,8 @@ fn push_inner(text: &mut Vec<u8>, before: &[u8], schema: &AvroSchema) -> Result<
 
 #[cycle(write)]
 fn push_union(text: &mut Vec<u8>, members: &[AvroSchema]) -> Result<()>
-    ensures appended { OnOk result (text.new.items ≡ text.old.items ++ (codes "[" ++ joined (map schema_text_of members.now) ++ codes "]")) }
+    ensures appended { OnOk result (text.new.items ≡ text.old.items
+        ++ (codes "[" ++ joined (map schema_text_of members.now) ++ codes "]")) }
     ensures memory { OnlyOutOfMemory result }
 {
     push(text, b"[")?;
@@ -57,7 +59,8 @@ fn push_union(text: &mut Vec<u8>, members: &[AvroSchema]) -> Result<()>
 #[cycle(write)]
 #[tactic(auto, using(crate::proofs::Joins::led_joined))]
 fn push_members(text: &mut Vec<u8>, members: &[AvroSchema]) -> Result<()>
-    ensures appended { OnOk result (text.new.items ≡ text.old.items ++ joined (map schema_text_of members.now)) }
+    ensures appended { OnOk result (text.new.items ≡ text.old.items
+        ++ joined (map schema_text_of members.now)) }
     ensures memory { OnlyOutOfMemory result }
 {
     let mut before: &[u8] = b"";
@@ -71,7 +74,8 @@ fn push_members(text: &mut Vec<u8>, members: &[AvroSchema]) -> Result<()>
 
 #[cycle(write)]
 pub(crate) fn push_record(text: &mut Vec<u8>, record: &Record) -> Result<()>
-    ensures appended { OnOk result (text.new.items ≡ text.old.items ++ record_text_of «record».now) }
+    ensures appended { OnOk result (text.new.items ≡ text.old.items
+        ++ record_text_of «record».now) }
     ensures memory { OnlyOutOfMemory result }
 {
     push(text, b"{\"type\":\"record\",\"name\":")?;
@@ -86,7 +90,8 @@ pub(crate) fn push_record(text: &mut Vec<u8>, record: &Record) -> Result<()>
 #[cycle(write)]
 #[tactic(auto, using(crate::proofs::Joins::led_joined))]
 fn push_fields(text: &mut Vec<u8>, fields: &[AvroField]) -> Result<()>
-    ensures appended { OnOk result (text.new.items ≡ text.old.items ++ joined (map field_text_of fields.now)) }
+    ensures appended { OnOk result (text.new.items ≡ text.old.items
+        ++ joined (map field_text_of fields.now)) }
     ensures memory { OnlyOutOfMemory result }
 {
     let mut before: &[u8] = b"";

@@ -41,7 +41,8 @@ fn push_number(text: &mut Vec<u8>, number: usize) -> Result<()>
 
 /// An attribute that is a JSON string, where it is given, after what stands before it.
 pub(crate) fn push_given(text: &mut Vec<u8>, before: &[u8], value: &Option<Text>) -> Result<()>
-    ensures appended { OnOk result (text.new.items ≡ text.old.items ++ spec.given before.now value.now) }
+    ensures appended { OnOk result (text.new.items ≡ text.old.items
+        ++ spec.given before.now value.now) }
     ensures memory { OnlyOutOfMemory result }
 {
     match value {
@@ -55,7 +56,8 @@ pub(crate) fn push_given(text: &mut Vec<u8>, before: &[u8], value: &Option<Text>
 
 /// A primitive type with a logical type.
 fn push_logical(text: &mut Vec<u8>, type_name: &str, logical: &str) -> Result<()>
-    ensures appended { OnOk result (text.new.items ≡ text.old.items ++ spec.logical_text type_name.now logical.now) }
+    ensures appended { OnOk result (text.new.items ≡ text.old.items
+        ++ spec.logical_text type_name.now logical.now) }
     ensures memory { OnlyOutOfMemory result }
 {
     push(text, b"{\"type\":\"")?;
@@ -112,7 +114,8 @@ pub(crate) fn push_string_type(text: &mut Vec<u8>, logical: Option<StringLogical
 
 /// The attributes of a decimal.
 fn push_decimal(text: &mut Vec<u8>, precision: usize, scale: usize) -> Result<()>
-    ensures appended { OnOk result (text.new.items ≡ text.old.items ++ spec.decimal_text precision scale) }
+    ensures appended { OnOk result (text.new.items ≡ text.old.items
+        ++ spec.decimal_text precision scale) }
     ensures memory { OnlyOutOfMemory result }
 {
     push(text, b",\"logicalType\":\"decimal\",\"precision\":")?;
@@ -144,7 +147,8 @@ fn push_bytes_decimal(text: &mut Vec<u8>, precision: usize, scale: usize) -> Res
 
 /// The attributes of a fixed type's logical type.
 fn push_fixed_logical(text: &mut Vec<u8>, logical: Option<FixedLogical>) -> Result<()>
-    ensures appended { OnOk result (text.new.items ≡ text.old.items ++ spec.fixed_logical_text logical) }
+    ensures appended { OnOk result (text.new.items ≡ text.old.items
+        ++ spec.fixed_logical_text logical) }
     ensures memory { OnlyOutOfMemory result }
 {
     match logical {
@@ -184,7 +188,8 @@ pub(crate) fn push_enum(text: &mut Vec<u8>, symbols: &Enum) -> Result<()>
 /// JSON strings, with a comma between each two.
 #[tactic(auto, using(crate::proofs::Joins::led_joined))]
 fn push_strings(text: &mut Vec<u8>, values: &[Text]) -> Result<()>
-    ensures appended { OnOk result (text.new.items ≡ text.old.items ++ spec.joined (map json_string values.now)) }
+    ensures appended { OnOk result (text.new.items ≡ text.old.items
+        ++ spec.joined (map json_string values.now)) }
     ensures memory { OnlyOutOfMemory result }
 {
     let mut before: &[u8] = b"";

@@ -57,7 +57,8 @@ pub(crate) fn is_clean(array: &Array, schema: &AvroSchema, flaw: Flaw) -> bool
 #[cycle(clean)]
 fn has_clean_members(array: &Array, members: &[AvroSchema], flaw: Flaw) -> bool
     requires types { PairsMemberTypeOf members.now (array_type array.now) }
-    ensures { OnTrue result (NoValueShows (member_shows_of flaw members.now) (array_slots array.now)) }
+    ensures { OnTrue result (NoValueShows (member_shows_of flaw members.now)
+        (array_slots array.now)) }
 {
     let [first, second] = members else {
         unreachable!()
@@ -118,7 +119,8 @@ fn has_clean_lists(array: &Array, item: &AvroSchema, flaw: Flaw) -> bool
     requires kind { IsListKind (array_kind array.now) }
     requires types { PairsListOf item.now (array_type array.now) }
     ensures { OnTrue result
-        (NoValueShows (λ x. list_any (shows_of flaw item.now) (parts_of x)) (array_slots array.now)) }
+        (NoValueShows (λ x. list_any (shows_of flaw item.now) (parts_of x))
+        (array_slots array.now)) }
 {
     match array {
         Array::List(array) => {

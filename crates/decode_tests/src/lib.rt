@@ -4,6 +4,8 @@
 #[cfg(test)]
 mod blocks;
 #[cfg(test)]
+mod builders;
+#[cfg(test)]
 mod large;
 #[cfg(test)]
 mod nested;
