@@ -24,10 +24,12 @@ pub fn run_avro<S: Source, K: Sink>(
 ) -> Result<()>
     requires { 0 < words.rows_per_block }
     ensures done { OnOk result (AvroDone words
-        (change_of (S.left source.old) (S.faults source.old) (S.left source.new) (S.faults source.new))
+        (change_of (S.left source.old) (S.faults source.old) (S.left source.new)
+        (S.faults source.new))
         (change_of (K.held sink.old) (K.faults sink.old) (K.held sink.new) (K.faults sink.new))) }
     ensures fails { IfErr result (AvroFails words
-        (change_of (S.left source.old) (S.faults source.old) (S.left source.new) (S.faults source.new))
+        (change_of (S.left source.old) (S.faults source.old) (S.left source.new)
+        (S.faults source.new))
         (change_of (K.held sink.old) (K.faults sink.old) (K.held sink.new) (K.faults sink.new))) }
 {
     let AvroWords {

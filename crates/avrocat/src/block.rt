@@ -36,10 +36,12 @@ pub fn run_block<S: Source, K: Sink>(
 ) -> Result<()>
     requires { length words.avro_fields ≡ length words.projection }
     ensures done { OnOk result (BlockDone words
-        (change_of (S.left source.old) (S.faults source.old) (S.left source.new) (S.faults source.new))
+        (change_of (S.left source.old) (S.faults source.old) (S.left source.new)
+        (S.faults source.new))
         (change_of (K.held sink.old) (K.faults sink.old) (K.held sink.new) (K.faults sink.new))) }
     ensures fails { IfErr result (BlockCommandFails words
-        (change_of (S.left source.old) (S.faults source.old) (S.left source.new) (S.faults source.new))
+        (change_of (S.left source.old) (S.faults source.old) (S.left source.new)
+        (S.faults source.new))
         (change_of (K.held sink.old) (K.faults sink.old) (K.held sink.new) (K.faults sink.new))) }
 {
     let bytes = read_all(alloc, source)?;
@@ -95,10 +97,20 @@ fn chunk_lines(
     requires lengths { length avro_fields.now ≡ length projection.now }
     requires typed { AreColumnsOf avro_fields.now large fields.now }
     ensures ok { IfOk result (λ lines. ShowsColumns
-        (record { rows = block.now.number_of_rows; avro_fields = avro_fields.now; projection = projection.now; large = large })
+        (record {
+          rows = block.now.number_of_rows;
+          avro_fields = avro_fields.now;
+          projection = projection.now;
+          large = large;
+        })
         block.now.bytes lines.text.items) }
     ensures err { IfErr result (λ e. (e ≡ OutOfMemory) ⊎ IsWrong
-        (record { rows = block.now.number_of_rows; avro_fields = avro_fields.now; projection = projection.now; large = large })
+        (record {
+          rows = block.now.number_of_rows;
+          avro_fields = avro_fields.now;
+          projection = projection.now;
+          large = large;
+        })
         block.now.bytes e) }
 {
     let chunk = deserialize(alloc, block, fields, avro_fields, projection)?;
@@ -110,7 +122,8 @@ fn chunk_lines(
 /// The names of the fields that are kept.
 fn kept_names(alloc: Global, avro_fields: &[AvroField], projection: &[bool]) -> Result<Vec<Text>>
     requires { length avro_fields.now ≡ length projection.now }
-    ensures ok { IfOk result (λ names. names.items ≡ map (λ f. f.name) (kept avro_fields.now projection.now)) }
+    ensures ok { IfOk result (λ names. names.items
+        ≡ map (λ f. f.name) (kept avro_fields.now projection.now)) }
     ensures memory { OnlyOutOfMemory result }
 {
     let mut names = Vec::new(alloc);

@@ -26,10 +26,12 @@ fn line_of(alloc: Global, data_type: &DataType) -> Result<Vec<u8>>
 /// The errors are those of `infer`, and `WriteFault`. Nothing is written before the last.
 pub fn run_infer<S: Source, K: Sink>(alloc: Global, source: &mut S, sink: &mut K) -> Result<()>
     ensures done { OnOk result (InferDone
-        (change_of (S.left source.old) (S.faults source.old) (S.left source.new) (S.faults source.new))
+        (change_of (S.left source.old) (S.faults source.old) (S.left source.new)
+        (S.faults source.new))
         (change_of (K.held sink.old) (K.faults sink.old) (K.held sink.new) (K.faults sink.new))) }
     ensures fails { IfErr result (InferFails
-        (change_of (S.left source.old) (S.faults source.old) (S.left source.new) (S.faults source.new))
+        (change_of (S.left source.old) (S.faults source.old) (S.left source.new)
+        (S.faults source.new))
         (change_of (K.held sink.old) (K.faults sink.old) (K.held sink.new) (K.faults sink.new))) }
 {
     let data_type = infer(alloc, source, None, BYTE_LIMIT as u64)?;

@@ -25,8 +25,10 @@ fn new_piece(alloc: Global) -> Result<Vec<u8>>
 /// All bytes of the source. `LimitExceeded` where there are more than the limit, `ReadFault` where
 /// a read failed.
 pub fn read_all<S: Source>(alloc: Global, source: &mut S) -> Result<Vec<u8>>
-    ensures ok { IfOk result (λ bytes. TakesAll (S.left source.old) (S.left source.new) bytes.items) }
-    ensures err { IfErr result (NotRead (change_of (S.left source.old) (S.faults source.old) (S.left source.new) (S.faults source.new))) }
+    ensures ok { IfOk result (λ bytes. TakesAll (S.left source.old) (S.left source.new)
+        bytes.items) }
+    ensures err { IfErr result (NotRead (change_of (S.left source.old) (S.faults source.old)
+        (S.left source.new) (S.faults source.new))) }
     ensures never_falls { S.faults source.old ≤ S.faults source.new }
     ensures same { S.whose source.new ≡ S.whose source.old }
 {

@@ -87,7 +87,8 @@ impl Lines {
 
     /// Adds the line of one column.
     pub fn push_column(&mut self, name: &str, column: &Array) -> Result<()>
-        ensures ok { OnOk result (self.new.text.items ≡ self.old.text.items ++ line_of name.now (array_slots column.now)) }
+        ensures ok { OnOk result (self.new.text.items ≡ self.old.text.items
+            ++ line_of name.now (array_slots column.now)) }
         ensures memory { OnlyOutOfMemory result }
     {
         self.push(name.as_bytes())?;
@@ -99,7 +100,8 @@ impl Lines {
     /// Adds the line of each column, under the names in turn.
     pub fn push_columns(&mut self, names: &[Text], columns: &[Array]) -> Result<()>
         requires { length names.now ≡ length columns.now }
-        ensures ok { OnOk result (self.new.text.items ≡ self.old.text.items ++ shown names.now (map array_slots columns.now)) }
+        ensures ok { OnOk result (self.new.text.items ≡ self.old.text.items
+            ++ shown names.now (map array_slots columns.now)) }
         ensures memory { OnlyOutOfMemory result }
     {
         for i in 0..names.len() {
@@ -110,7 +112,8 @@ impl Lines {
 
     /// Adds the slots of a column, with commas between them.
     fn push_slots(&mut self, column: &Array) -> Result<()>
-        ensures ok { OnOk result (self.new.text.items ≡ self.old.text.items ++ joined (map slot_text (array_slots column.now))) }
+        ensures ok { OnOk result (self.new.text.items ≡ self.old.text.items
+            ++ joined (map slot_text (array_slots column.now))) }
         ensures memory { OnlyOutOfMemory result }
     {
         for i in 0..column.len() {
@@ -124,7 +127,8 @@ impl Lines {
     #[cycle(slots)]
     fn push_slot(&mut self, column: &Array, i: usize) -> Result<()>
         requires { i < length (array_slots column.now) }
-        ensures ok { OnOk result (self.new.text.items ≡ self.old.text.items ++ slot_text (slot_at (array_slots column.now) i)) }
+        ensures ok { OnOk result (self.new.text.items ≡ self.old.text.items
+            ++ slot_text (slot_at (array_slots column.now) i)) }
         ensures memory { OnlyOutOfMemory result }
     {
         let cell = cell_at(column, i);
@@ -135,7 +139,8 @@ impl Lines {
     #[cycle(slots)]
     fn push_cell(&mut self, cell: &Cell<'_>) -> Result<()>
         requires { CellFits cell.now }
-        ensures ok { OnOk result (self.new.text.items ≡ self.old.text.items ++ slot_text (cell_slot cell.now)) }
+        ensures ok { OnOk result (self.new.text.items ≡ self.old.text.items
+            ++ slot_text (cell_slot cell.now)) }
         ensures memory { OnlyOutOfMemory result }
     {
         match cell {
@@ -154,7 +159,8 @@ impl Lines {
     #[cycle(slots)]
     fn push_list(&mut self, part: &Part<'_>) -> Result<()>
         requires { IsPart part.now }
-        ensures ok { OnOk result (self.new.text.items ≡ self.old.text.items ++ slot_text (ListSlot (part_slots part.now))) }
+        ensures ok { OnOk result (self.new.text.items ≡ self.old.text.items
+            ++ slot_text (ListSlot (part_slots part.now))) }
         ensures memory { OnlyOutOfMemory result }
     {
         self.push(b"[")?;
@@ -169,7 +175,8 @@ impl Lines {
     #[cycle(slots)]
     fn push_struct(&mut self, children: &[Array], i: usize) -> Result<()>
         requires { HaveSlots (i + 1) children.now }
-        ensures ok { OnOk result (self.new.text.items ≡ self.old.text.items ++ slot_text (record_at (map array_slots children.now) i)) }
+        ensures ok { OnOk result (self.new.text.items ≡ self.old.text.items
+            ++ slot_text (record_at (map array_slots children.now) i)) }
         ensures memory { OnlyOutOfMemory result }
     {
         self.push(b"{")?;
@@ -190,7 +197,8 @@ impl Lines {
 
     /// Adds an integer in decimal. Most fit 64 bits, which print faster.
     fn push_integer(&mut self, number: i128) -> Result<()>
-        ensures ok { OnOk result (self.new.text.items ≡ self.old.text.items ++ signed_decimal number) }
+        ensures ok { OnOk result (self.new.text.items ≡ self.old.text.items
+            ++ signed_decimal number) }
         ensures memory { OnlyOutOfMemory result }
     {
         match i64::try_from(number) {
@@ -201,7 +209,8 @@ impl Lines {
 
     /// Adds an interval: its months, days and nanoseconds.
     fn push_interval(&mut self, interval: MonthsDaysNs) -> Result<()>
-        ensures ok { OnOk result (self.new.text.items ≡ self.old.text.items ++ slot_text (interval_slot interval)) }
+        ensures ok { OnOk result (self.new.text.items ≡ self.old.text.items
+            ++ slot_text (interval_slot interval)) }
         ensures memory { OnlyOutOfMemory result }
     {
         self.push(b"{")?;
@@ -215,7 +224,8 @@ impl Lines {
 
     /// Adds bytes in hexadecimal.
     fn push_binary(&mut self, bytes: &[u8]) -> Result<()>
-        ensures ok { OnOk result (self.new.text.items ≡ self.old.text.items ++ slot_text (BinarySlot bytes.now)) }
+        ensures ok { OnOk result (self.new.text.items ≡ self.old.text.items
+            ++ slot_text (BinarySlot bytes.now)) }
         ensures memory { OnlyOutOfMemory result }
     {
         self.push(b"0x")?;
@@ -227,7 +237,8 @@ impl Lines {
 
     /// Adds the comma before the slot of this index.
     fn push_comma(&mut self, index: usize) -> Result<()>
-        ensures ok { OnOk result (self.new.text.items ≡ self.old.text.items ++ (if index == 0 then [] else codes ",")) }
+        ensures ok { OnOk result (self.new.text.items ≡ self.old.text.items
+            ++ (if index == 0 then [] else codes ",")) }
         ensures memory { OnlyOutOfMemory result }
     {
         if index == 0 {
@@ -237,7 +248,8 @@ impl Lines {
     }
 
     fn push_boolean(&mut self, boolean: bool) -> Result<()>
-        ensures ok { OnOk result (self.new.text.items ≡ self.old.text.items ++ (if boolean then codes "true" else codes "false")) }
+        ensures ok { OnOk result (self.new.text.items ≡ self.old.text.items
+            ++ (if boolean then codes "true" else codes "false")) }
         ensures memory { OnlyOutOfMemory result }
     {
         if boolean {
@@ -249,7 +261,8 @@ impl Lines {
 
     /// Adds the JSON string of a string.
     fn push_string(&mut self, text: &str) -> Result<()>
-        ensures ok { OnOk result (self.new.text.items ≡ self.old.text.items ++ json_string text.now) }
+        ensures ok { OnOk result (self.new.text.items ≡ self.old.text.items
+            ++ json_string text.now) }
         ensures memory { OnlyOutOfMemory result }
     {
         match write_str(self, text) {

@@ -1,4 +1,4 @@
-//! The lines of columns of kinds that no word of the program names yet.
+//! The lines of arrays of binary values, lists, structs and intervals, made without a block.
 
 use crate::lines::Lines;
 use arrow_columns::{Array, BinaryArray, ListArray, PrimitiveArray, StructArray};

@@ -48,8 +48,10 @@ const READ_AT_ONCE: usize = 65_536;
 /// The words: the arguments after the program's name, or none where one of them is no text.
 fn words_of(alloc: Global, given: io::Result<Args>) -> Result<Vec<Text>, AllocError>
     // std doesn't say of an iterator that its length is that of its items.
-    ensures words { IfOk given (λ arguments. into_iter_len arguments ≡ length (into_iter_items arguments)
-        → IfOk result (λ words. words.items ≡ map string_bytes (drop 1 (into_iter_items arguments)))) }
+    ensures words { IfOk given (λ arguments. into_iter_len arguments
+        ≡ length (into_iter_items arguments)
+        → IfOk result (λ words. words.items
+        ≡ map string_bytes (drop 1 (into_iter_items arguments)))) }
     ensures none { IfErr given (λ _. IfOk result (λ words. words.items ≡ [])) }
     ensures memory { IfErr given (λ error. IsErr result → error_kind error ≡ OutOfMemory) }
 {

@@ -19,10 +19,12 @@ pub fn run_ndjson<S: Source, K: Sink>(
     sink: &mut K,
 ) -> Result<()>
     ensures done { OnOk result (NdjsonDone numbers
-        (change_of (S.left source.old) (S.faults source.old) (S.left source.new) (S.faults source.new))
+        (change_of (S.left source.old) (S.faults source.old) (S.left source.new)
+        (S.faults source.new))
         (change_of (K.held sink.old) (K.faults sink.old) (K.held sink.new) (K.faults sink.new))) }
     ensures fails { IfErr result (NdjsonFails numbers
-        (change_of (S.left source.old) (S.faults source.old) (S.left source.new) (S.faults source.new))
+        (change_of (S.left source.old) (S.faults source.old) (S.left source.new)
+        (S.faults source.new))
         (change_of (K.held sink.old) (K.faults sink.old) (K.held sink.new) (K.faults sink.new))) }
 {
     let numbers = numbers.as_slice();

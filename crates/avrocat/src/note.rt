@@ -24,7 +24,8 @@ pub fn note_usage<N: Sink>(note: &mut N) -> Result<()>
 /// comes where a write failed; the sink then took a prefix of the note.
 pub fn note_error<N: Sink>(note: &mut N, error: Error) -> Result<()>
     ensures ok { OnOk result (Appends (N.held note.old) (N.held note.new) (error_note error)) }
-    ensures prefix { OnErr result (AppendsPrefix (N.held note.old) (N.held note.new) (error_note error)) }
+    ensures prefix { OnErr result (AppendsPrefix (N.held note.old) (N.held note.new)
+        (error_note error)) }
     ensures only { IfErr result (λ e. e ≡ WriteFault) }
     ensures cause { OnErr result (RoseOrFull (N.faults note.old) (N.faults note.new)) }
     ensures never_falls { N.faults note.old ≤ N.faults note.new }
@@ -49,8 +50,10 @@ pub fn note_error<N: Sink>(note: &mut N, error: Error) -> Result<()>
 
 /// Writes the program's name, the error's name, a mark and a detail, and a line feed.
 fn write_line<N: Sink>(note: &mut N, name: &[u8], mark: &[u8], detail: &[u8]) -> Result<()>
-    ensures ok { OnOk result (Appends (N.held note.old) (N.held note.new) (note_line name.now mark.now detail.now)) }
-    ensures prefix { OnErr result (AppendsPrefix (N.held note.old) (N.held note.new) (note_line name.now mark.now detail.now)) }
+    ensures ok { OnOk result (Appends (N.held note.old) (N.held note.new)
+        (note_line name.now mark.now detail.now)) }
+    ensures prefix { OnErr result (AppendsPrefix (N.held note.old) (N.held note.new)
+        (note_line name.now mark.now detail.now)) }
     ensures only { IfErr result (λ e. e ≡ WriteFault) }
     ensures cause { OnErr result (RoseOrFull (N.faults note.old) (N.faults note.new)) }
     ensures never_falls { N.faults note.old ≤ N.faults note.new }
@@ -62,8 +65,10 @@ fn write_line<N: Sink>(note: &mut N, name: &[u8], mark: &[u8], detail: &[u8]) ->
 
 /// Writes two runs of bytes, one after the other.
 fn write_both<N: Sink>(note: &mut N, first: &[u8], second: &[u8]) -> Result<()>
-    ensures ok { OnOk result (Appends (N.held note.old) (N.held note.new) (first.now ++ second.now)) }
-    ensures prefix { OnErr result (AppendsPrefix (N.held note.old) (N.held note.new) (first.now ++ second.now)) }
+    ensures ok { OnOk result (Appends (N.held note.old) (N.held note.new)
+        (first.now ++ second.now)) }
+    ensures prefix { OnErr result (AppendsPrefix (N.held note.old) (N.held note.new)
+        (first.now ++ second.now)) }
     ensures only { IfErr result (λ e. e ≡ WriteFault) }
     ensures cause { OnErr result (RoseOrFull (N.faults note.old) (N.faults note.new)) }
     ensures never_falls { N.faults note.old ≤ N.faults note.new }

@@ -43,7 +43,8 @@ pub fn run<S: Source, K: Sink, N: Sink>(
     note: &mut N,
 ) -> u8
     ensures done { result ≡ 0 → (command : TheCommand) × Stands words.now command × Done command
-        (change_of (S.left source.old) (S.faults source.old) (S.left source.new) (S.faults source.new))
+        (change_of (S.left source.old) (S.faults source.old) (S.left source.new)
+        (S.faults source.new))
         (change_of (K.held sink.old) (K.faults sink.old) (K.held sink.new) (K.faults sink.new)) }
     ensures silent { result ≡ 0 → Keeps (N.held note.old) (N.held note.new) }
     ensures usage { result ≡ 1 → IsUsage words.now }
@@ -53,7 +54,8 @@ pub fn run<S: Source, K: Sink, N: Sink>(
     ensures unread { result ≡ 1 → Keeps (S.left source.old) (S.left source.new) }
     ensures unwritten { result ≡ 1 → Keeps (K.held sink.old) (K.held sink.new) }
     ensures refused { 1 < result → Refused result words.now
-        (change_of (S.left source.old) (S.faults source.old) (S.left source.new) (S.faults source.new))
+        (change_of (S.left source.old) (S.faults source.old) (S.left source.new)
+        (S.faults source.new))
         (change_of (K.held sink.old) (K.faults sink.old) (K.held sink.new) (K.faults sink.new))
         (change_of (N.held note.old) (N.faults note.old) (N.held note.new) (N.faults note.new)) }
 
@@ -61,12 +63,15 @@ pub fn run<S: Source, K: Sink, N: Sink>(
     ensures no_command { IsUsage words.now → (result ≡ 1) ⊎ (result ≡ 10) }
     ensures complete { (command : TheCommand) → Stands words.now command
         → CanBeDone command
-        (change_of (S.left source.old) (S.faults source.old) (S.left source.new) (S.faults source.new))
-        → (Failed (change_of (K.held sink.old) (K.faults sink.old) (K.held sink.new) (K.faults sink.new)) → ⊥)
+        (change_of (S.left source.old) (S.faults source.old) (S.left source.new)
+        (S.faults source.new))
+        → (Failed (change_of (K.held sink.old) (K.faults sink.old) (K.held sink.new)
+        (K.faults sink.new)) → ⊥)
         → (result ≡ 0) ⊎ (result ≡ 10) }
     ensures due { (command : TheCommand) (e : TheError) → Stands words.now command
         → Due command
-        (change_of (S.left source.old) (S.faults source.old) (S.left source.new) (S.faults source.new))
+        (change_of (S.left source.old) (S.faults source.old) (S.left source.new)
+        (S.faults source.new))
         e
         → (result ≡ status_of e) ⊎ (result ≡ 10) }
 {
@@ -89,10 +94,12 @@ fn run_command<S: Source, K: Sink>(
 ) -> Result<()>
     requires { (words : List (List ℕ)) × Stands words command }
     ensures done { OnOk result (Done command
-        (change_of (S.left source.old) (S.faults source.old) (S.left source.new) (S.faults source.new))
+        (change_of (S.left source.old) (S.faults source.old) (S.left source.new)
+        (S.faults source.new))
         (change_of (K.held sink.old) (K.faults sink.old) (K.held sink.new) (K.faults sink.new))) }
     ensures fails { IfErr result (Fails command
-        (change_of (S.left source.old) (S.faults source.old) (S.left source.new) (S.faults source.new))
+        (change_of (S.left source.old) (S.faults source.old) (S.left source.new)
+        (S.faults source.new))
         (change_of (K.held sink.old) (K.faults sink.old) (K.held sink.new) (K.faults sink.new))) }
 {
     match command {

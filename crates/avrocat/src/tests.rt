@@ -170,10 +170,11 @@ fn logical_and_binary_values_are_shown(rt: HostRuntime) {
 
 #[test]
 fn nested_values_and_symbols_are_shown(rt: HostRuntime) {
-    let table: [(&str, &[u8], &str); 7] = [
+    let table: [(&str, &[u8], &str); 8] = [
         ("block 1 e=<A,B>?", b"\x02\x02", "e:[\"B\"]\n"),
         ("block 1 a=[long]", b"\x04\x02\x04\x00", "a:[[1,2]]\n"),
         ("block 1 a=[long]", b"\x03\x04\x02\x04\x00", "a:[[1,2]]\n"),
+        ("block 2 a=[int]", b"\x00\x02\x0a\x00", "a:[[],[5]]\n"),
         (DEEP, b"", "a:[]\n"),
         (
             "block 1 ~a=[long] b=int",

@@ -79,7 +79,8 @@ fn read_block(alloc: Global, words: &[Text], large: bool) -> Result<BlockWords, 
 fn read_fields(alloc: Global, words: &[Text]) -> Result<(Vec<AvroField>, Vec<bool>), WordsFault>
     ensures fields { IfOk result (λ read. AreFields words.now read.1.items read.0.items) }
     ensures usage { result ≡ Err Usage
-        → (projection : List Bool) (fields : List TheField) → AreFields words.now projection fields → ⊥ }
+        → (projection : List Bool) (fields : List TheField) → AreFields words.now projection fields
+        → ⊥ }
 {
     let mut avro_fields = Vec::new(alloc);
     let mut projection = Vec::new(alloc);
@@ -175,7 +176,8 @@ fn read_some_rows(word: &str) -> Option<usize>
 /// The fields that the words name, each of which is kept.
 fn read_kept_fields(alloc: Global, words: &[Text]) -> Result<Vec<AvroField>, WordsFault>
     ensures fields { IfOk result (λ read. AreKeptFields words.now read.items) }
-    ensures usage { result ≡ Err Usage → (fields : List TheField) → AreKeptFields words.now fields → ⊥ }
+    ensures usage { result ≡ Err Usage → (fields : List TheField) → AreKeptFields words.now fields
+        → ⊥ }
 {
     let mut avro_fields = Vec::new(alloc);
     for word in words {

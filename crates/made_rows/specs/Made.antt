@@ -32,8 +32,8 @@ kept_line ids oks = entry (codes "kept id") ids ++ (codes " " ++ line (codes "ok
 abbrev pub lines_of : ℕ → List ℕ → List (List Slot) → List ℕ
 lines_of n bytes table =
     encoding_lines n (length bytes) (sum bytes)
-    ++ (column_lines (total measure.Number (column table 0)) (total measure.Held (column table 1)) (total measure.Items (column table 2)) (total measure.Truth (column table 3))
-    ++ kept_line (total measure.Number (column table 0)) (total measure.Truth (column table 3)))
+    ++ (column_lines (total measure.Number (column table 0)) (total measure.Held (column table 1)) (total measure.Items (column table 2)) (total measure.Trues (column table 3))
+    ++ kept_line (total measure.Number (column table 0)) (total measure.Trues (column table 3)))
 
 -- the lines of n rows that are drawn from this state on, in their canonical encoding
 unfoldable pub made_lines : ℕ → ℕ → List ℕ

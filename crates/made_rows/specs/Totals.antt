@@ -24,15 +24,15 @@ abbrev pub items_in : Slot → ℕ
 items_in x = items_in_open (out-Slot x)
 
 -- one for true
-abbrev pub truth_in : Slot → ℕ
-truth_in (Boolean true) = 1
-truth_in _ = 0
+abbrev pub trues_in : Slot → ℕ
+trues_in (Boolean true) = 1
+trues_in _ = 0
 
 abbrev pub measured : Measure → Slot → ℕ
 measured measure.Number x = number_in x
 measured measure.Held x = held_in x
 measured measure.Items x = items_in x
-measured measure.Truth x = truth_in x
+measured measure.Trues x = trues_in x
 
 -- the sum over the slots of a column
 abbrev pub total : Measure → List Slot → ℕ

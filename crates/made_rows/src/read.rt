@@ -72,7 +72,7 @@ pub(crate) fn read_all(
         → IfOk result (λ t. (t.ids ≡ spec.total measure.Number (column table 0))
         × (t.users ≡ spec.total measure.Held (column table 1))
         × (t.tags ≡ spec.total measure.Items (column table 2))
-        × (t.oks ≡ spec.total measure.Truth (column table 3))) }
+        × (t.oks ≡ spec.total measure.Trues (column table 3))) }
     ensures memory { OnlyOutOfMemory result }
 {
     let chunk = read_columns(alloc, block, types, fields, &[true, true, true, true])?;
@@ -84,7 +84,7 @@ pub(crate) fn read_all(
         ids: total(ids, Measure::Number)?,
         users: total(users, Measure::Held)?,
         tags: total(tags, Measure::Items)?,
-        oks: total(oks, Measure::Truth)?,
+        oks: total(oks, Measure::Trues)?,
     })
 }
 
@@ -100,7 +100,7 @@ pub(crate) fn read_kept(
         → Rows block.now.number_of_rows row_fields (true ∷ false ∷ false ∷ true ∷ [])
         block.now.bytes table
         → IfOk result (λ t. (t.ids ≡ spec.total measure.Number (column table 0))
-        × (t.oks ≡ spec.total measure.Truth (column table 1))) }
+        × (t.oks ≡ spec.total measure.Trues (column table 1))) }
     ensures memory { OnlyOutOfMemory result }
 {
     let chunk = read_columns(alloc, block, types, fields, &[true, false, false, true])?;
@@ -110,6 +110,6 @@ pub(crate) fn read_kept(
     };
     Ok(KeptTotals {
         ids: total(ids, Measure::Number)?,
-        oks: total(oks, Measure::Truth)?,
+        oks: total(oks, Measure::Trues)?,
     })
 }

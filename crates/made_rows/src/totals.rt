@@ -21,7 +21,7 @@ pub enum Measure {
     /// The items, where it holds a list.
     Items,
     /// One where it holds true.
-    Truth,
+    Trues,
 }
 
 fn number_in(cell: &Cell<'_>) -> u128
@@ -43,8 +43,8 @@ fn items_in(cell: &Cell<'_>) -> u128
     }
 }
 
-fn truth_in(cell: &Cell<'_>) -> u128
-    ensures { result ≡ spec.truth_in (cell_slot cell.now) }
+fn trues_in(cell: &Cell<'_>) -> u128
+    ensures { result ≡ spec.trues_in (cell_slot cell.now) }
 {
     match cell {
         Cell::Boolean(true) => 1,
@@ -61,7 +61,7 @@ fn measure_at(array: &Array, i: usize, measure: Measure) -> u128
         Measure::Number => number_in(&cell_at(array, i)),
         Measure::Held => array.is_valid(i) as u128,
         Measure::Items => items_in(&cell_at(array, i)),
-        Measure::Truth => truth_in(&cell_at(array, i)),
+        Measure::Trues => trues_in(&cell_at(array, i)),
     }
 }
 

@@ -67,7 +67,8 @@ fn push_list(out: &mut Vec<u8>, item: &Field) -> Result<()>
 #[cycle(texts)]
 fn push_struct(out: &mut Vec<u8>, fields: &[Field]) -> Result<()>
     ensures appended { OnOk result (out.new.items ≡ out.old.items
-        ++ (codes "Struct{" ++ (joined (map (λ f. member_text f.name (type_text f.data_type)) fields.now) ++ codes "}"))) }
+        ++ (codes "Struct{" ++ (joined (map (λ f. member_text f.name (type_text f.data_type))
+        fields.now) ++ codes "}"))) }
     ensures memory { OnlyOutOfMemory result }
 {
     push(out, b"Struct{")?;

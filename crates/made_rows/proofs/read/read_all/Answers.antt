@@ -19,4 +19,4 @@ returns-clause-totals c = λ table rows.
     let given : Rows n c.args.fields.now keeps bytes table = subst (λ (fs : List AvroField). Rows n fs keeps bytes table) (sym c.requires.fields) (subst (λ ks. Rows n row_fields ks bytes table) all_are_kept rows) in
     let read = c.in_ok-chunk.ensures.columns table given ∙ (λ i. columns (length (kept (c.requires.fields i) keeps)) table) ∙ all_columns table in
     let arrays = ap (map array_slots) c.arrays.ensures.arrays ∙ read in
-    (c.in_ok-total.ensures.sum ∙ ap (total measure.Number) (part c.arrays.result.now _ 0 c.ids-item.result arrays (omega (arith, c.in-len4.len_at_least)) c.ids-item.is), c.in_ok-total-2.ensures.sum ∙ ap (total measure.Held) (part c.arrays.result.now _ 1 c.users-item.result arrays (omega (arith, c.in-len4.len_at_least)) c.users-item.is), c.in_ok-total-3.ensures.sum ∙ ap (total measure.Items) (part c.arrays.result.now _ 2 c.tags-item.result arrays (omega (arith, c.in-len4.len_at_least)) c.tags-item.is), c.in_ok-total-4.ensures.sum ∙ ap (total measure.Truth) (part c.arrays.result.now _ 3 c.oks-item.result arrays (omega (arith, c.in-len4.len_at_least)) c.oks-item.is))
+    (c.in_ok-total.ensures.sum ∙ ap (total measure.Number) (part c.arrays.result.now _ 0 c.ids-item.result arrays (omega (arith, c.in-len4.len_at_least)) c.ids-item.is), c.in_ok-total-2.ensures.sum ∙ ap (total measure.Held) (part c.arrays.result.now _ 1 c.users-item.result arrays (omega (arith, c.in-len4.len_at_least)) c.users-item.is), c.in_ok-total-3.ensures.sum ∙ ap (total measure.Items) (part c.arrays.result.now _ 2 c.tags-item.result arrays (omega (arith, c.in-len4.len_at_least)) c.tags-item.is), c.in_ok-total-4.ensures.sum ∙ ap (total measure.Trues) (part c.arrays.result.now _ 3 c.oks-item.result arrays (omega (arith, c.in-len4.len_at_least)) c.oks-item.is))

@@ -19,4 +19,4 @@ returns-clause-totals c = λ table rows.
     let given : Rows n c.args.fields.now keeps bytes table = subst (λ (fs : List AvroField). Rows n fs keeps bytes table) (sym c.requires.fields) (rows) in
     let read = c.in_ok-chunk.ensures.columns table given ∙ (λ i. columns (length (kept (c.requires.fields i) keeps)) table) ∙ some_columns table in
     let arrays = ap (map array_slots) c.arrays.ensures.arrays ∙ read in
-    (c.in_ok-total.ensures.sum ∙ ap (total measure.Number) (part c.arrays.result.now _ 0 c.ids-item.result arrays (omega (arith, c.in-len2.len_at_least)) c.ids-item.is), c.in_ok-total-2.ensures.sum ∙ ap (total measure.Truth) (part c.arrays.result.now _ 1 c.oks-item.result arrays (omega (arith, c.in-len2.len_at_least)) c.oks-item.is))
+    (c.in_ok-total.ensures.sum ∙ ap (total measure.Number) (part c.arrays.result.now _ 0 c.ids-item.result arrays (omega (arith, c.in-len2.len_at_least)) c.ids-item.is), c.in_ok-total-2.ensures.sum ∙ ap (total measure.Trues) (part c.arrays.result.now _ 1 c.oks-item.result arrays (omega (arith, c.in-len2.len_at_least)) c.oks-item.is))
