@@ -3,25 +3,34 @@
 
 Use: tools/build.py NAME, from anywhere. It prints a line as each crate begins and ends, and what
 failed. Its status is 0 where the crate was built.
+
+While rt works on a crate it keeps other runs out of the folders of all crates beneath, so that two
+crates over one library would wait for each other. Each crate is built in a repository of its own,
+in .built/, over links to what was built beneath it, and what was made is then moved back.
 """
+import fcntl
 import os
+import shutil
 import subprocess
 import sys
 import tempfile
 import time
 
 TOP = os.path.dirname(os.path.dirname(os.path.abspath(__file__)))
+ROOMS = os.path.join(TOP, ".built")
+PROCESSORS = os.cpu_count() or 1
 
 
 def read_crates():
-    """The libraries of the repository that each crate of crates.txt uses."""
-    uses = {}
-    with open(os.path.join(TOP, "crates.txt")) as lines:
-        for line in lines:
+    """The libraries that each crate of crates.txt uses, and its line there."""
+    uses, lines = {}, {}
+    with open(os.path.join(TOP, "crates.txt")) as file:
+        for line in file:
             name, colon, libraries = line.split("#")[0].partition(":")
             if colon:
                 uses[name.split()[0]] = libraries.split()
-    return {name: [it for it in libraries if it in uses] for name, libraries in uses.items()}
+                lines[name.split()[0]] = line
+    return {name: [it for it in libraries if it in uses] for name, libraries in uses.items()}, lines
 
 
 def beneath(uses, name):
@@ -32,58 +41,137 @@ def beneath(uses, name):
     return found
 
 
+def folder_of(name, top=TOP):
+    return os.path.join(top, "crates", name)
+
+
+def program_of(name, top=TOP):
+    return os.path.join(folder_of(name, top), "out", name)
+
+
+def count_lines(name):
+    """About how much there is to prove."""
+    total = 0
+    for at, folders, files in os.walk(folder_of(name)):
+        folders[:] = [it for it in folders if it not in ("out", "must-fail")]
+        for file in files:
+            with open(os.path.join(at, file), "rb") as text:
+                total += text.read().count(b"\n")
+    return total
+
+
+def longest_chains(uses, names):
+    """Of each crate, how much there is to prove along the longest chain of crates above it."""
+    lines = {it: count_lines(it) for it in names}
+    longest = {}
+
+    def measure(name):
+        if name not in longest:
+            above = [measure(it) for it in names if name in uses[it]]
+            longest[name] = lines[name] + max(above, default=0)
+        return longest[name]
+
+    for it in names:
+        measure(it)
+    return longest
+
+
 def span(seconds):
     return f"{int(seconds) // 60} min {int(seconds) % 60:02} s"
 
 
-def start(name):
+def is_program(name):
+    return os.path.exists(os.path.join(folder_of(name), "src", "main.rt"))
+
+
+def make_room(lines, names, name):
+    """A repository of this crate and of those beneath it."""
+    room = os.path.join(ROOMS, name)
+    os.makedirs(room)
+    with open(os.path.join(room, "crates.txt"), "w") as file:
+        file.writelines(lines[it] for it in sorted(names))
+    shutil.copy(os.path.join(TOP, "HANDLES"), room)
+    leave = shutil.ignore_patterns("incremental", "must-fail")
+    for it in names - {name}:
+        shutil.copytree(folder_of(it), folder_of(it, room), ignore=leave, copy_function=os.link)
+    leave = shutil.ignore_patterns("out", "must-fail")
+    shutil.copytree(folder_of(name), folder_of(name, room), ignore=leave, copy_function=os.link)
+    move_out(name, TOP, room)
+    # A program of an earlier run is no sign that this one built it.
+    if is_program(name) and os.path.exists(program_of(name, room)):
+        os.remove(program_of(name, room))
+    return room
+
+
+def move_out(name, top, to):
+    """Moves what was made of the crate from one repository into the other."""
+    made, target = os.path.join(folder_of(name, top), "out"), os.path.join(folder_of(name, to), "out")
+    if os.path.isdir(made) and not os.path.exists(target):
+        os.rename(made, target)
+
+
+def start(name, room, jobs):
     """Begins to build a crate; what it prints goes to a file."""
-    folder = os.path.join(TOP, "crates", name)
-    is_program = os.path.exists(os.path.join(folder, "src", "main.rt"))
     # A program is built by running it once; its own words are no command.
-    command = ["rt", "run", "--", "usage"] if is_program else ["rt", "lib"]
+    command = ["rt", "run", "--jobs", str(jobs), "--", "usage"] if is_program(name) else ["rt", "lib", "--jobs", str(jobs)]
     log = tempfile.TemporaryFile("w+", errors="replace")
     process = subprocess.Popen(
-        command, cwd=folder, stdin=subprocess.DEVNULL, stdout=log, stderr=subprocess.STDOUT
+        command, cwd=folder_of(name, room), stdin=subprocess.DEVNULL, stdout=log, stderr=subprocess.STDOUT
     )
-    return process, log, time.monotonic()
+    return process, log
 
 
 def is_built(name, process):
-    folder = os.path.join(TOP, "crates", name)
-    if os.path.exists(os.path.join(folder, "src", "main.rt")):
-        return os.access(os.path.join(folder, "out", name), os.X_OK)
+    if is_program(name):
+        return os.access(program_of(name), os.X_OK)
     return process.returncode == 0
 
 
 def main():
     if len(sys.argv) != 2:
         sys.exit("use: tools/build.py NAME, with a name of crates.txt")
-    uses, begun = read_crates(), time.monotonic()
+    uses, lines = read_crates()
     if sys.argv[1] not in uses:
         sys.exit(f"{sys.argv[1]} is no crate of crates.txt")
     waiting, running, built = beneath(uses, sys.argv[1]), {}, set()
-    total = len(waiting)
+    try:
+        build(uses, lines, waiting, running, built)
+    finally:
+        # What is under way is ended; what was kept of it so far stays.
+        for name, (process, _, room, _, _) in running.items():
+            process.terminate()
+            process.wait()
+            move_out(name, room, TOP)
+        shutil.rmtree(ROOMS, ignore_errors=True)
+
+
+def build(uses, lines, waiting, running, built):
+    """Builds the waiting crates, each once those are built that it uses."""
+    total, begun, chains = len(waiting), time.monotonic(), longest_chains(uses, waiting)
 
     def say(text):
         print(f"{span(time.monotonic() - begun)}  {text}", file=sys.stderr, flush=True)
 
     while waiting or running:
-        for name in sorted(waiting):
-            if len(running) < (os.cpu_count() or 1) and all(it in built for it in uses[name]):
+        ready = [it for it in waiting if all(library in built for library in uses[it])]
+        for at, name in enumerate(sorted(ready, key=lambda it: -chains[it])):
+            idle = PROCESSORS - sum(jobs for _, _, _, jobs, _ in running.values())
+            if idle > 0:
                 waiting.remove(name)
-                running[name] = start(name)
+                jobs = max(1, min(4, idle // (len(ready) - at)))
+                room = make_room(lines, beneath(uses, name), name)
+                running[name] = (*start(name, room, jobs), room, jobs, time.monotonic())
                 say(f"{name}: proving")
         time.sleep(0.2)
-        for name, (process, log, since) in list(running.items()):
+        for name, (process, log, room, _, since) in list(running.items()):
             if process.poll() is None:
                 continue
             del running[name]
+            move_out(name, room, TOP)
+            shutil.rmtree(room)
             if not is_built(name, process):
-                for other, _, _ in running.values():
-                    other.terminate()
                 log.seek(0)
-                sys.stderr.write(log.read())
+                sys.stderr.write(log.read().replace(room, TOP))
                 say(f"{name}: FAILED, as said above")
                 sys.exit(1)
             built.add(name)
@@ -91,4 +179,16 @@ def main():
             say(f"{name}: proved and built in {took}, {total - len(built)} of {total} crates left")
 
 
-main()
+def clear_rooms():
+    """Gives back what a run that was killed had kept."""
+    for name in os.listdir(ROOMS) if os.path.isdir(ROOMS) else []:
+        move_out(name, os.path.join(ROOMS, name), TOP)
+    shutil.rmtree(ROOMS, ignore_errors=True)
+
+
+if __name__ == "__main__":
+    # One run at a time: a second one waits, and then finds built what the first one built.
+    with open(os.path.join(TOP, "tools", "build.py")) as itself:
+        fcntl.flock(itself, fcntl.LOCK_EX)
+        clear_rooms()
+        main()

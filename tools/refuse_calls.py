@@ -34,6 +34,50 @@ NESTED_LINES = b"".join(
     b'{"id":%d,"when":%d,"user":"u%d","tags":["a","bc"],"where":{"x":1,"y":[1,null,2]}}\n{"id":-1,"tags":[]}\n' % (i, i, i)
     for i in range(3)
 )
+# Blocks, by the words after `block` and by their bytes.
+BLOCKS = [
+    # Of numbers, strings and nulls, which are kept or not, and with bytes too many or too few.
+    ("2 a=int b=string?", "02020468690300"),
+    ("2 ~a=int b=string?", "02020468690300"),
+    ("0 a=int", ""),
+    ("2 a=int b=string?", "0202046869030000"),
+    ("2 a=int b=string?", "020204686903"),
+    ("1 a=int", "02"),
+    ("1 a=long", "8001"),
+    ("1 a=long", "808100"),
+    ("1 a=int", "8080808010"),
+    ("1 ~a=int b=int", "808080801002"),
+    ("1000000 a=int", "0202"),
+    ("1 a=long", "FFFFFFFFFFFFFFFFFF01"),
+    ("1 a=long", "FFFFFFFFFFFFFFFFFF02"),
+    ("1 a=boolean", "02"),
+    ("1 ~a=boolean b=int", "0202"),
+    ("1 ~a=int? b=int", "0402"),
+    ("1 a=string", "02FF"),
+    ("1 ~a=string b=int", "02FF02"),
+    # Of arrays, whose blocks state their size or don't, and records.
+    ("1 a=[long]", "04020400"),
+    ("1 a=[long]", "0304020400"),
+    ("1 a=[long]", "0306020400"),
+    ("1 ~a=[long] b=int", "0304FFFF0002"),
+    ("1 ~a=[long] b=int", "030102"),
+    ("1 a=[long] b=int", "030102"),
+    ("1 a=[long]", "FFFFFFFFFFFFFFFFFF01"),
+    ("2 a=[int]", "00020A00"),
+    ("0 a=" + "[" * 63 + "int" + "]" * 63, ""),
+    ("0 a=" + "[" * 64 + "int" + "]" * 64, ""),
+    ("2 r={x=int;y=[string]}?", "000202040261026200"),
+    # Of other types, and of types that aren't kept or carried.
+    ("1 e=<A,B>?", "0202"),
+    ("1 e=<A,B>?", "0204"),
+    ("1 d=decimal(10,2)", "00"),
+    ("1 d=decimal(10,2)", "0800008000"),
+    ("1 f=fixed(2) i=duration b=bytes!", "ABCD0100000002000000FFFFFFFF00027F"),
+    ("1 ~a=float b=int", "0000803F02"),
+    ("1 a=float", "0000803F"),
+    ("1 a=null", ""),
+    ("0", ""),
+]
 
 
 def number(value):
@@ -57,12 +101,9 @@ def inputs():
     avro, rewrite = ["avro", "t", "10", WRITTEN_MARKER, "a=int"], ["rewrite", "t", WRITTEN_MARKER]
     with open(os.path.join(TOP, "examples", "events.avro"), "rb") as events:
         events = events.read()
-    return [
-        (["block", "2", "a=int", "b=string?"], b"\x02\x02\x04hi\x03\x00"),
-        (["block", "2", "r={x=int;y=[string]}?"], bytes.fromhex("000202040261026200")),
+    blocks = [(["block"] + words.split(), bytes.fromhex(block)) for words, block in BLOCKS]
+    return blocks + [
         (["block-large", "1", "a=[string]"], b"\x02\x02a\x00"),
-        (["block", "1", "e=<A,B>?"], b"\x02\x02"),
-        (["block", "1", "a=int"], b"\x02\x02"),
         (["ndjson"], one),
         (["ndjson"], small),
         (["ndjson", "0"], small),

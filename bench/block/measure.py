@@ -1,5 +1,6 @@
-"""Decodes blocks of flat rows, of nested rows, of arrays, and of rows of which one field in forty is kept; and reads, decodes and
-shows the same blocks with the program."""
+"""Decodes blocks of flat rows, with strings of ASCII and of other characters, of nested rows, of
+arrays, and of rows of which one field in forty is kept; and reads, decodes and shows the same blocks
+with the program."""
 
 import subprocess
 
@@ -7,10 +8,12 @@ from timing import OURS, PLAIN, compared, least_in_turn, work
 
 AVROCAT, TIMES = work + "/crates/avrocat/out/avrocat", 5
 
+THREE = ["a=long", "b=string?", "c=boolean"]
 FORTY = ["%sf%d=%s" % ("" if i == 20 else "~", i, ["long", "string", "boolean", "long?"][i % 4]) for i in range(40)]
 BLOCKS = [
     ("long", 10_000_000, ["a=long"], "a=long"),
-    ("three", 1_000_000, ["a=long", "b=string?", "c=boolean"], "a=long b=string? c=boolean"),
+    ("three", 1_000_000, THREE, "a=long b=string? c=boolean"),
+    ("letters", 1_000_000, THREE, "a=long b=string? c=boolean, half of the characters no ASCII"),
     ("nested", 1_000_000, ["id=long", "tags=[string]", "r={x=int;y=[long]}?"], "id=long tags=[string] r={x=int;y=[long]}?"),
     ("lists", 1_000_000, ["a=[long]"], "a=[long], ten items each"),
     ("forty", 200_000, FORTY, "forty fields, of which one long is kept"),

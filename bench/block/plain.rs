@@ -25,16 +25,34 @@ fn integer(row: i64) -> i64 {
     row * 37 % 1_000_003
 }
 
-/// A long, a string or null, a boolean.
-fn make_three(out: &mut Vec<u8>, row: i64) {
+/// A long, a string or null, a boolean. The string is made of the row's number.
+fn make_three(out: &mut Vec<u8>, row: i64, text: impl Fn(i64) -> String) {
     put(out, integer(row));
     if row % 4 == 0 {
         put(out, 0);
     } else {
         put(out, 1);
-        put_text(out, &format!("u{}", row % 1000));
+        put_text(out, &text(row));
     }
     out.push((row % 2) as u8);
+}
+
+/// Two to four characters of ASCII.
+fn ascii(row: i64) -> String {
+    format!("u{}", row % 1000)
+}
+
+/// Two to four characters, of which in all a half have one byte, a quarter two and a quarter three.
+fn letters(row: i64) -> String {
+    let letter = |place: i64| {
+        let (first, count) = match (row / 4 + place) % 4 {
+            1 => ('\u{e0}', 500),
+            3 => ('\u{4e00}', 5000),
+            _ => ('a', 26),
+        };
+        char::from_u32(first as u32 + (row % count) as u32).unwrap()
+    };
+    (0..2 + row % 3).map(letter).collect()
 }
 
 /// A long, none to three strings, and a record of an int and none to four longs, or null.
@@ -92,7 +110,8 @@ fn make(kind: &str, rows: i64) -> Vec<u8> {
     for row in 0..rows {
         match kind {
             "long" => put(&mut out, integer(row)),
-            "three" => make_three(&mut out, row),
+            "three" => make_three(&mut out, row, ascii),
+            "letters" => make_three(&mut out, row, letters),
             "nested" => make_nested(&mut out, row),
             "lists" => make_lists(&mut out, row),
             _ => make_forty(&mut out, row),
@@ -273,7 +292,7 @@ fn decode(kind: &str, rows: usize, bytes: &[u8]) -> Option<Columns> {
                     columns.longs.push(cursor.number()?);
                 }
             }
-            "three" => {
+            "three" | "letters" => {
                 for _ in 0..rows {
                     decode_three(cursor, columns)?;
                 }
@@ -336,7 +355,7 @@ fn show(columns: &Columns, kind: &str, rows: usize) -> String {
     };
     match kind {
         "long" => column(out, "a", rows, long),
-        "three" => {
+        "three" | "letters" => {
             column(out, "a", rows, long);
             column(out, "b", rows, |out, i| {
                 if columns.valid.get(i) {
@@ -384,7 +403,7 @@ fn main() {
     }
     // The program counts the slots of each kept field.
     let fields = match kind {
-        "three" | "nested" => 3,
+        "three" | "letters" | "nested" => 3,
         _ => 1,
     };
     let mut slots = 0;
