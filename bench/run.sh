@@ -14,7 +14,7 @@ mkdir "$work/crates"
 cp "$bench/../HANDLES" "$bench/../crates.txt" "$work"
 for crate in "$bench"/../crates/*; do
     mkdir "$work/crates/$(basename "$crate")"
-    (cd "$crate" && tar cf - --exclude=out --exclude=must-fail .) | (cd "$work/crates/$(basename "$crate")" && tar xf -)
+    (cd "$crate" && tar cf - --exclude=out --exclude=must-fail --exclude=edits .) | (cd "$work/crates/$(basename "$crate")" && tar xf -)
 done
 program=avrocat
 if test -e "$bench/$name/main.rattle"; then

@@ -1,13 +1,14 @@
 #!/usr/bin/env python3
-"""Proves and builds a crate and the crates beneath it, side by side where they don't need each other.
+"""Proves and builds crates and those beneath them, side by side where they don't need each other.
 
-Use: tools/build.py NAME, from anywhere. It prints a line as each crate begins and ends, and what
-failed. Its status is 0 where the crate was built.
+Use: tools/build.py NAME .., from anywhere. It prints a line as each crate begins and ends, and what
+failed. Its status is 0 where all were built.
 
 While rt works on a crate it keeps other runs out of the folders of all crates beneath, so that two
 crates over one library would wait for each other. Each crate is built in a repository of its own,
 in .built/, over links to what was built beneath it, and what was made is then moved back.
 """
+import contextlib
 import fcntl
 import os
 import shutil
@@ -19,6 +20,8 @@ import time
 TOP = os.path.dirname(os.path.dirname(os.path.abspath(__file__)))
 ROOMS = os.path.join(TOP, ".built")
 PROCESSORS = os.cpu_count() or 1
+# The folders of a crate that nothing is built of.
+EDITS = ("must-fail", "edits")
 
 
 def read_crates():
@@ -53,7 +56,7 @@ def count_lines(name):
     """About how much there is to prove."""
     total = 0
     for at, folders, files in os.walk(folder_of(name)):
-        folders[:] = [it for it in folders if it not in ("out", "must-fail")]
+        folders[:] = [it for it in folders if it not in ("out", *EDITS)]
         for file in files:
             with open(os.path.join(at, file), "rb") as text:
                 total += text.read().count(b"\n")
@@ -91,16 +94,20 @@ def make_room(lines, names, name):
     with open(os.path.join(room, "crates.txt"), "w") as file:
         file.writelines(lines[it] for it in sorted(names))
     shutil.copy(os.path.join(TOP, "HANDLES"), room)
-    leave = shutil.ignore_patterns("incremental", "must-fail")
+    leave = shutil.ignore_patterns("incremental", *EDITS)
     for it in names - {name}:
         shutil.copytree(folder_of(it), folder_of(it, room), ignore=leave, copy_function=os.link)
-    leave = shutil.ignore_patterns("out", "must-fail")
+    leave = shutil.ignore_patterns("out", *EDITS)
     shutil.copytree(folder_of(name), folder_of(name, room), ignore=leave, copy_function=os.link)
+    return room
+
+
+def take_out(name, room):
+    """Moves what an earlier run made of the crate into its repository."""
     move_out(name, TOP, room)
     # A program of an earlier run is no sign that this one built it.
     if is_program(name) and os.path.exists(program_of(name, room)):
         os.remove(program_of(name, room))
-    return room
 
 
 def move_out(name, top, to):
@@ -128,12 +135,11 @@ def is_built(name, process):
 
 
 def main():
-    if len(sys.argv) != 2:
-        sys.exit("use: tools/build.py NAME, with a name of crates.txt")
+    names = sys.argv[1:]
     uses, lines = read_crates()
-    if sys.argv[1] not in uses:
-        sys.exit(f"{sys.argv[1]} is no crate of crates.txt")
-    waiting, running, built = beneath(uses, sys.argv[1]), {}, set()
+    if not names or not set(names) <= set(uses):
+        sys.exit("use: tools/build.py NAME .., with names of crates.txt")
+    waiting, running, built = set().union(*(beneath(uses, it) for it in names)), {}, set()
     try:
         build(uses, lines, waiting, running, built)
     finally:
@@ -160,6 +166,7 @@ def build(uses, lines, waiting, running, built):
                 waiting.remove(name)
                 jobs = max(1, min(4, idle // (len(ready) - at)))
                 room = make_room(lines, beneath(uses, name), name)
+                take_out(name, room)
                 running[name] = (*start(name, room, jobs), room, jobs, time.monotonic())
                 say(f"{name}: proving")
         time.sleep(0.2)
@@ -186,9 +193,15 @@ def clear_rooms():
     shutil.rmtree(ROOMS, ignore_errors=True)
 
 
-if __name__ == "__main__":
-    # One run at a time: a second one waits, and then finds built what the first one built.
+@contextlib.contextmanager
+def alone():
+    """One run at a time: a second one waits, and then finds built what the first one built."""
     with open(os.path.join(TOP, "tools", "build.py")) as itself:
         fcntl.flock(itself, fcntl.LOCK_EX)
         clear_rooms()
+        yield
+
+
+if __name__ == "__main__":
+    with alone():
         main()
