@@ -25,7 +25,8 @@ use arrow_core::Result;
 use arrow_types::{DataType, MonthsDaysNs};
 use std::alloc::Global;
 
-/// An array of any kind.
+/// An array of any kind, over shared buffers. The kind is how slots lie in memory, and not their
+/// type: `Int32` has dates too.
 #[cycle(arrays)]
 #[derive(Drop)]
 pub enum Array {

@@ -204,8 +204,8 @@ impl DictionaryArray {
         self.values.get()
     }
 
-    /// Which keys aren't null; `None` only where none is. A slot may be null beneath a key that
-    /// isn't.
+    /// Which keys aren't null. It is `None` only where no key is null. A slot may be null beneath
+    /// a key that isn't.
     pub fn validity(&self) -> Option<&Bitmap>
         ensures { TellsHeld (option_copied result) self.now.keys }
     {

@@ -75,7 +75,7 @@ impl Keys {
         }
     }
 
-    /// Which keys aren't null; `None` only where none is.
+    /// Which keys aren't null. It is `None` only where no key is null.
     pub fn validity(&self) -> Option<&Bitmap>
         ensures { TellsHeld (option_copied result) (keys_slots self.now) }
     {

@@ -275,7 +275,7 @@ impl ListArray {
         self.values.get()
     }
 
-    /// Which slots aren't null; `None` only where none is.
+    /// Which slots aren't null. It is `None` only where no slot is null.
     pub fn validity(&self) -> Option<&Bitmap>
         ensures { TellsHeld (option_copied result) self.now.slots }
     {
@@ -466,7 +466,7 @@ impl LargeListArray {
         self.values.get()
     }
 
-    /// Which slots aren't null; `None` only where none is.
+    /// Which slots aren't null. It is `None` only where no slot is null.
     pub fn validity(&self) -> Option<&Bitmap>
         ensures { TellsHeld (option_copied result) self.now.slots }
     {

@@ -5,7 +5,7 @@ use crate::array::Array;
 /// without, `end`.
 #[derive(Drop)]
 pub struct Part<'a> {
-    /// The array.
+    /// The child that the slots are in.
     pub array: &'a Array,
     /// The index of the first slot.
     pub start: usize,

@@ -117,7 +117,7 @@ impl<T: NativeType> PrimitiveArray<T> {
         &self.data_type
     }
 
-    /// Which slots aren't null; `None` only where none is.
+    /// Which slots aren't null. It is `None` only where no slot is null.
     pub fn validity(&self) -> Option<&Bitmap>
         ensures { TellsHeld (option_copied result) self.now.slots }
     {

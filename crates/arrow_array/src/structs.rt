@@ -167,7 +167,7 @@ impl StructArray {
         self.values.as_slice()
     }
 
-    /// Which slots aren't null; `None` only where none is.
+    /// Which slots aren't null. It is `None` only where no slot is null.
     pub fn validity(&self) -> Option<&Bitmap>
         ensures { TellsHeld (option_copied result) self.now.slots }
     {

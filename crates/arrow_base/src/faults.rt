@@ -2,7 +2,7 @@
 ghost use Rattle.std.specs.Prelude.{◌≡◌, ◌≤◌};
 ghost use Rattle.arrow_base.specs.Outside.{RoseOrFull, last_count, one_more};
 
-/// A read or a write that failed. Why is known outside alone.
+/// A read or a write that failed. It doesn't say why.
 #[derive(Clone, Copy, PartialEq, Eq, Debug)]
 pub struct Failed;
 

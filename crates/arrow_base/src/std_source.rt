@@ -9,8 +9,8 @@ use crate::source::Source;
 use arrow_core::{Error, Result};
 use std::io::{BufRead, Read};
 
-/// A real reader with a buffer as a source. It tells the bytes that its reader tells: none, where that is a file
-/// or a pipe. Each error of the reader counts as a fault.
+/// A real reader with a buffer as a source. It tells the bytes that its reader tells: none, where
+/// that is a file or a pipe. Each error of the reader counts as a fault.
 #[derive(Drop)]
 pub struct StdSource<R> {
     reader: R,

@@ -139,7 +139,7 @@ impl Bitmap {
         self.count == 0
     }
 
-    /// Value `i`.
+    /// Value `i`, counted from 0: bit `offset + i` of `words`.
     pub fn get(&self, i: usize) -> bool
         requires { i < length self.now.booleans }
         ensures { result ≡ slice_index_or self.now.booleans i false }
@@ -168,7 +168,7 @@ impl Bitmap {
         self.start % 64
     }
 
-    /// How many of the values are false.
+    /// How many of the values are false, counted at each call, word by word.
     pub fn unset_bits(&self) -> usize
         ensures { result ≡ length (filter not self.now.booleans) }
     {

@@ -57,7 +57,7 @@ impl DynMutableStructArray {
         })
     }
 
-    /// The child of this field.
+    /// The child of this field, counted from 0, lent to be filled.
     pub fn mut_values(&mut self, field: usize) -> &mut MutableArray
         requires { field < vec_len self.old.values }
         ensures* writes_back { sem 𝓛 (LendsField self.entry field result) }

@@ -29,7 +29,8 @@ pub enum Cell<'a> {
     Struct(&'a [Array], usize),
 }
 
-/// What slot `i` of the array holds.
+/// What slot `i` of the array holds, without a copy: of a dictionary, what the value at its key
+/// holds.
 pub fn cell_at(array: &Array, i: usize) -> Cell<'_>
     requires { i < length (array_slots array.now) }
     ensures slot { cell_slot result ≡ slot_at (array_slots array.now) i }

@@ -38,14 +38,14 @@ impl<T: Drop> Box<T> {
 }
 
 impl<T> Box<T> {
-    /// The value in the box.
+    /// The value, where it lies on the heap.
     pub fn get(&self) -> &T
         ensures { result.now ≡ self.now }
     {
         &self.inner
     }
 
-    /// Takes the value out of the box.
+    /// The value, out of the box, whose memory is given back.
     pub fn into_inner(self) -> T
         ensures { result ≡ self }
     {

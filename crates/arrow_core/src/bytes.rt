@@ -60,7 +60,7 @@ impl Bytes {
         bytes
     }
 
-    /// The bytes, in order.
+    /// The bytes, in order, without a copy.
     pub fn as_slice(&self) -> &[u8]
         ensures { result.now ≡ self.now }
     {

@@ -44,7 +44,7 @@ impl<T> Items<T> {
         items
     }
 
-    /// The items, in order.
+    /// The items, in order, without a copy.
     pub fn as_slice(&self) -> &[T]
         ensures { result.now ≡ self.now }
     {

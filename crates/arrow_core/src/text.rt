@@ -35,7 +35,7 @@ impl Text {
         Ok(Text { text })
     }
 
-    /// The text itself.
+    /// The text, without a copy.
     pub fn as_str(&self) -> &str
         ensures { result.now ≡ self.now }
     {

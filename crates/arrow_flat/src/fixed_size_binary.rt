@@ -57,7 +57,8 @@ impl Model for MutableFixedSizeBinaryArray {
 
 #[tactic(auto, using(crate::proofs::Slots::counts))]
 impl MutableFixedSizeBinaryArray {
-    /// An empty builder of binary values of so many bytes. Of the capacity nothing is promised.
+    /// An empty builder of binary values of so many bytes, at least 1. Of the capacity nothing is
+    /// promised. `OutOfMemory` alone.
     pub fn with_capacity(
         alloc: Global,
         size: usize,

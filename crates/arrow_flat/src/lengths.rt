@@ -4,8 +4,8 @@
 /// of values of one size given as bytes. A node of another kind has no content bytes.
 #[derive(Clone, Copy, PartialEq, Eq, Debug)]
 pub struct NodeLengths {
-    /// The slots.
+    /// How many slots there are, nulls among them.
     pub slots: usize,
-    /// The content bytes.
+    /// How many content bytes they have together, those of nulls among them.
     pub bytes: usize,
 }

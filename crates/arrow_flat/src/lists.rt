@@ -45,7 +45,7 @@ impl<O: Offset> Model for MutableLists<O> {
 }
 
 impl<O: Offset> MutableLists<O> {
-    /// No list. Of the capacity nothing is promised.
+    /// No list. Of the capacity nothing is promised. `OutOfMemory` alone.
     pub fn new(alloc: Global, data_type: DataType, capacity: usize) -> Result<MutableLists<O>>
         ensures data_type { IfOk result (λ b. b.data_type ≡ data_type) }
         ensures lens { IfOk result (λ b. b.lens ≡ []) }

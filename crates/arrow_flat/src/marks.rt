@@ -132,7 +132,7 @@ impl MutableMarks {
         self.validity.clear();
     }
 
-    /// The data type, and the validity of the slots, of which none stays.
+    /// The data type, and the validity of the slots, of which none stays, after `OutOfMemory` too.
     pub fn take(&mut self) -> Result<(DataType, Bitmap)>
         ensures data_type { self.new.data_type ≡ self.old.data_type }
         ensures booleans { self.new.booleans ≡ [] }

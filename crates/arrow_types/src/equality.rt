@@ -7,8 +7,8 @@ ghost use Rattle.arrow_types.specs.declared.types.Schema.{Schema};
 use crate::types::{DataType, Field, Schema};
 
 impl DataType {
-    /// `==`, whose derived contract names its ghost member alone; this one
-    /// says what the answer means, so that callers need no law.
+    /// Whether the types are equal, in every type, name, nullability and metadata within them.
+    /// It is `==`, with a contract that says so.
     pub fn is_same(&self, other: &DataType) -> bool
         ensures { (result ≡ true) ↔ (self.now ≡ other.now) }
     {

@@ -102,7 +102,8 @@ pub enum DataType {
     Time64(TimeUnit),
     /// Lengths of time as counts of the unit, in 64 bits.
     Duration(TimeUnit),
-    /// Intervals.
+    /// Intervals: months in 32 bits; days and milliseconds, 32 bits each; or months and days of 32
+    /// bits each, and nanoseconds of 64.
     Interval(IntervalUnit),
     /// Bytes of any length, with offsets of 32 bits.
     Binary,

@@ -59,7 +59,7 @@ impl Model for BlockRewriter {
     ghost invariant = { λ r. IsRewriter r.may_copy (record { decoder = r.decoder; fields = r.fields; marker = r.marker }) };
 }
 
-/// Whether there is a field, and all are carried.
+/// `NoField` where there is no field, and then `NotCarried` where one isn't carried.
 fn check_carried(avro_fields: &[AvroField]) -> Result<()>
     ensures { MatchResult result (λ _. AreCarried avro_fields.now)
         (CannotBeRewritten avro_fields.now) }

@@ -187,7 +187,8 @@ pub fn deserialize_into<'a, C: Cursor<'a>>(
 }
 
 /// Reads the rows of a whole block from a cursor that is lent once.
-// What goes over the rows is inlined here, where the cursor's fields are at hand, and has all registers.
+// What goes over the rows is inlined here, where the cursor's fields are at hand, and has all
+// registers.
 #[inline(never)]
 fn decode_lent<'a, C: Cursor<'a>>(
     cursor: &mut C,

@@ -27,8 +27,8 @@ pub(crate) fn reserve_rows(block: &Block, fields: usize, builders: &mut [Mutable
     }
 }
 
-/// The rows that a block states, or as many as its bytes can be, if these are fewer: each of the fields has
-/// a byte in each row at least.
+/// The rows that a block states, or as many as its bytes can be, if these are fewer: each of the
+/// fields has a byte in each row at least.
 fn rows_within(block: &Block, fields: usize) -> usize
     ensures stated { result ≤ block.now.number_of_rows }
     ensures backed { result ≤ length block.now.bytes }

@@ -27,7 +27,8 @@ use avro_schema::{AvroField, AvroSchema};
 /// For how many fields there are steps. Wider rows are read by their schemas.
 pub(crate) const MOST_STEPS: usize = 64;
 
-/// The kinds of values that are read with no look at their schema, and any other.
+/// The kinds of values that a step reads with no look at their schema, beneath null only longs and
+/// strings; and any other.
 #[derive(Clone, Copy)]
 pub enum Kind {
     /// True or false.
@@ -217,9 +218,10 @@ fn decode_kind<C: Ahead>(
     }
 }
 
-/// Reads a value of a kind. Longs and strings are read with no look at their schema, and all others by
-/// it.
-// Beneath a union with null it is inlined a second time, where more kinds would be too much to inline.
+/// Reads a value of a kind. Longs and strings are read with no look at their schema, and all others
+/// by it.
+// Beneath a union with null it is inlined a second time, where more kinds would be too much to
+// inline.
 #[inline(always)]
 #[tactic(auto, using(crate::proofs::Sets::kinds))]
 fn decode_frequent<C: Ahead>(

@@ -234,7 +234,7 @@ fn append_struct(
 }
 
 /// Appends the slots of the arrays at index `i`, each under its field's schema.
-// It is inlined into the one place that calls it.
+// It is inlined into its one caller.
 #[cycle(append)]
 #[inline(always)]
 fn append_fields(

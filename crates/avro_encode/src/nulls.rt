@@ -55,7 +55,7 @@ pub(crate) fn index_byte(null_first: bool, held: bool) -> u8
     }
 }
 
-/// Whether a schema has no schemas in it.
+/// Whether a schema is no array, no record and no union. Of a map, which isn't written, it is true.
 fn has_no_parts(schema: &AvroSchema) -> bool
     ensures { OnTrue result (HasNoParts schema.now) }
 {

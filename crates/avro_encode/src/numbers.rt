@@ -124,7 +124,7 @@ pub(crate) fn append_bytes(bytes: &[u8], out: &mut Vec<u8>) -> Result<(), AllocE
     Ok(())
 }
 
-/// Appends bytes after their length. `AllocError` alone.
+/// Appends bytes after their length. After `AllocError` a part of these may have been appended.
 #[inline(always)]
 pub fn append_counted(bytes: &[u8], out: &mut Vec<u8>) -> Result<(), AllocError>
     requires { length bytes.now < 2 ^ 63 }

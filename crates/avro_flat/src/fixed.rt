@@ -15,7 +15,8 @@ use arrow_flat::MutableFixedSizeBinaryArray;
 use avro_reference::Ahead;
 use std::convert::AsSlice;
 
-/// Reads as many bytes as the type has (Avro 1.11, "Fixed").
+/// Reads as many bytes as the type has into one more slot (Avro 1.11, "Fixed"). `Bytes` where fewer
+/// are ahead.
 #[inline(never)]
 #[tactic(auto, using(crate::proofs::Sets::fixed_values))]
 pub fn decode_fixed<C: Ahead>(

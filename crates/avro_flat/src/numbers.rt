@@ -12,7 +12,7 @@ use crate::fault::{DecodeFault, pushed};
 use arrow_flat::{MutableBooleanArray, MutablePrimitiveArray};
 use avro_reference::Ahead;
 
-/// Reads a boolean: one byte, 0 or 1.
+/// Reads a boolean, a byte 0 or 1, into one more slot. `Bytes` for any other byte, or for none.
 #[inline(always)]
 #[tactic(auto, using(crate::proofs::Sets::flats))]
 pub fn decode_boolean<C: Ahead>(
@@ -39,7 +39,8 @@ pub fn decode_boolean<C: Ahead>(
     pushed(values.push(Some(byte == 1)))
 }
 
-/// Reads a number of 32 bits.
+/// Reads a number of 32 bits into one more slot. `Bytes` where no prefix of the bytes is a number,
+/// or it has more bits.
 #[inline(always)]
 #[tactic(auto, using(crate::proofs::Sets::flats))]
 pub fn decode_int<C: Ahead>(
@@ -66,7 +67,7 @@ pub fn decode_int<C: Ahead>(
     }
 }
 
-/// Reads a number of 64 bits.
+/// Reads a number of 64 bits into one more slot. `Bytes` where no prefix of the bytes is a number.
 #[inline(always)]
 #[tactic(auto, using(crate::proofs::Sets::flats))]
 pub fn decode_long<C: Ahead>(
@@ -90,7 +91,8 @@ pub fn decode_long<C: Ahead>(
     }
 }
 
-/// Reads so many numbers of 64 bits, each into one more slot.
+/// Reads `count` numbers of 64 bits, each into one more slot. `Bytes` where one of them is missing;
+/// some may have their slots then.
 #[tactic(auto, using(crate::proofs::Sets::many))]
 pub fn decode_longs<C: Ahead>(
     cursor: &mut C,

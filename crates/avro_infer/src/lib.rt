@@ -1,4 +1,5 @@
-//! What is asked of Avro schemas before bytes are read: the schema of their columns, and tests.
+//! What is asked of Avro schemas before bytes are read: the schema of their columns, the same in
+//! large forms, and whether schemas and columns are such as can be read.
 #![tactic(auto)]
 
 mod carried;

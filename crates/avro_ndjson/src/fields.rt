@@ -14,7 +14,7 @@ use avro_schema::AvroField;
 use json_text::has_text;
 use std::alloc::Global;
 
-/// Whether there is a field, and all are carried.
+/// `NoField` where there is no field, and then `NotCarried` where one isn't carried.
 pub(crate) fn check_carried(avro_fields: &[AvroField]) -> Result<()>
     ensures { MatchResult result (λ _. AreCarried avro_fields.now)
         (λ e. (keep : Option (List ℕ)) → CannotBeShown keep avro_fields.now e) }
@@ -28,7 +28,7 @@ pub(crate) fn check_carried(avro_fields: &[AvroField]) -> Result<()>
     Ok(())
 }
 
-/// Whether each type has a JSON text.
+/// `NoJsonText` where a type has no JSON text.
 pub(crate) fn check_texts(fields: &[Field]) -> Result<()>
     ensures { MatchResult result (λ _. All (λ f. has_text f.data_type ≡ true) fields.now)
         (λ e. (e ≡ NotYetImplemented NoJsonText)

@@ -67,7 +67,6 @@ fn columns_of(alloc: Global, fields: &[Field]) -> Result<Vec<Column>>
     Ok(columns)
 }
 
-/// Copies of the fields.
 fn copies_of(alloc: Global, avro_fields: &[AvroField]) -> Result<Vec<AvroField>>
     ensures ok { IfOk result (λ copies. copies.items ≡ avro_fields.now) }
     ensures memory { OnlyOutOfMemory result }

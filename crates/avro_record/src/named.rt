@@ -50,7 +50,6 @@ fn named_fixed(alloc: Global, fixed: &Fixed, fixed_types: &mut u64) -> Result<Fi
     Ok(Fixed { name, ..copy })
 }
 
-/// A copy of a text, where there is one.
 fn cloned(alloc: Global, text: &Option<Text>) -> Result<Option<Text>>
     ensures copy { IfOk result (λ copied. copied ≡ text.now) }
     ensures memory { OnlyOutOfMemory result }

@@ -66,7 +66,6 @@ fn columns_fields(
     Ok(Items::from_vec(fields))
 }
 
-/// The field of this name.
 fn named_field(alloc: Global, name: &Text, schema: AvroSchema) -> Result<AvroField>
     ensures field { IfOk result (λ f. f ≡ plain_field name.now schema) }
     ensures memory { OnlyOutOfMemory result }

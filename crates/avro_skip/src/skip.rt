@@ -1,5 +1,5 @@
-//! Values that are skipped. No more of them is looked at than tells how long they are; the rest is
-//! skipped.
+//! Values that are skipped. No more of them is looked at than tells how long they are, and the byte
+//! of each boolean; the rest is skipped.
 
 ghost use Rattle.std.specs.Prelude.{◌≡◌, ◌≢◌, ◌⊎◌, ◌+◌, ◌<◌, ◌≤◌, length, pos, OnOk};
 ghost use Rattle.avro_grammar.specs.Carried.{Carried, CarriedList, IsNoUnion};

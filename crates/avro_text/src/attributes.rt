@@ -45,7 +45,6 @@ pub(crate) fn copy_at(alloc: Global, object: &Object, name: &str) -> Result<Opti
     }
 }
 
-/// A copy of a text.
 pub(crate) fn copy_of(alloc: Global, text: &str) -> Result<Text, Fault>
     ensures copy { IfOk result (λ copied. copied ≡ text.now) }
     ensures memory { IfErr result (λ fault. fault ≡ Memory) }

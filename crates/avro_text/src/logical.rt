@@ -1,4 +1,4 @@
-//! Logical types. One in another place or form than its own is ignored.
+//! Logical types. One that doesn't belong to its type, or lacks what it needs, is ignored.
 ghost use Rattle.std.specs.Prelude.{◌≡◌, codes};
 ghost use Rattle.avro_text.specs.Attributes.{attribute};
 ghost use Rattle.avro_text.specs.Types as spec;

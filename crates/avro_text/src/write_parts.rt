@@ -11,7 +11,7 @@ use avro_schema::{
 };
 use itoa::Buffer;
 
-/// These bytes.
+/// Appends these bytes. `OutOfMemory` alone.
 pub(crate) fn push(text: &mut Vec<u8>, part: &[u8]) -> Result<()>
     ensures appended { OnOk result (text.new.items ≡ text.old.items ++ part.now) }
     ensures memory { OnlyOutOfMemory result }
@@ -20,7 +20,7 @@ pub(crate) fn push(text: &mut Vec<u8>, part: &[u8]) -> Result<()>
     Ok(())
 }
 
-/// A JSON string.
+/// Appends the JSON string of `value`. `OutOfMemory` alone.
 pub(crate) fn push_string(text: &mut Vec<u8>, value: &str) -> Result<()>
     ensures appended { OnOk result (text.new.items ≡ text.old.items ++ json_string value.now) }
     ensures memory { OnlyOutOfMemory result }

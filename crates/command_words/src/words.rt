@@ -26,7 +26,8 @@ const MARKER_DIGITS: usize = 32;
 /// The most rows that `make` draws.
 const MOST_ROWS: usize = 1_000_000;
 
-/// The command that the words stand for. `Usage` exactly where they stand for none.
+/// The command that the words stand for. `Usage` exactly where they stand for none; `Memory` at any
+/// time.
 #[tactic(auto, using(crate::proofs::WordsLemmas::other_word, crate::proofs::WordsLemmas::no_words))]
 pub fn read_words(alloc: Global, words: &[Text]) -> Result<Command, WordsFault>
     ensures command { IfOk result (Stands words.now) }

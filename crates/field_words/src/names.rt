@@ -3,9 +3,10 @@
 ghost use Rattle.std.specs.Prelude.{◌≡◌, ◌↔◌, ℕ, true, None, IfSome};
 ghost use Rattle.field_words.specs.Names.{name_byte, IsName, IsRows, IsSize};
 
-/// The most digits of a number of rows, and of a size, a precision or a scale.
+/// The most digits of a number of rows.
 const ROWS_DIGITS: usize = 20;
 
+/// The most digits of a size, a precision or a scale.
 const SIZE_DIGITS: usize = 10;
 
 /// The greatest size, precision or scale.

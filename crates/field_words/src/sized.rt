@@ -107,7 +107,7 @@ fn read_digits(precision: &str, scale: &str) -> Option<(usize, usize)>
     Some((precision, scale))
 }
 
-/// A fixed-size type of this size, which no word names.
+/// A fixed-size type of this size, whose name is empty. `Memory` alone.
 pub fn new_fixed(
     alloc: Global,
     size: usize,

@@ -11,7 +11,7 @@ use arrow_core::{Items, Text};
 use avro_schema::{AvroSchema, Enum};
 use std::alloc::Global;
 
-/// The symbols of `NAME,NAME`.
+/// The symbols of `NAME,NAME`, one at least, in order. `Usage` where one is no name; `Memory`.
 pub fn read_symbols(alloc: Global, inside: &str) -> Result<Vec<Text>, WordsFault>
     ensures symbols { IfOk result (λ symbols. AreSymbols inside.now symbols.items) }
     ensures usage { result ≡ Err Usage
@@ -41,7 +41,7 @@ fn read_symbol(alloc: Global, word: &str) -> Result<Text, WordsFault>
     }
 }
 
-/// An enum of these symbols, which no word names.
+/// An enum of these symbols, whose name is empty. `Memory` alone.
 pub fn new_enum(alloc: Global, symbols: Vec<Text>) -> Result<AvroSchema, WordsFault>
     ensures symbols { IfOk result (λ schema. schema ≡ enum_of symbols.items) }
     ensures memory { IfErr result (λ fault. fault ≡ Memory) }

@@ -120,7 +120,7 @@ pub fn read_named(alloc: Global, word: &str, depth: usize) -> Result<AvroField, 
     })
 }
 
-/// A record of these fields, which no word names.
+/// A record of these fields, whose name is empty. `Memory` alone.
 fn record_of(alloc: Global, fields: Vec<AvroField>) -> Result<AvroSchema, WordsFault>
     ensures fields { IfOk result (λ schema. schema ≡ record_schema fields.items) }
     ensures memory { IfErr result (λ fault. fault ≡ Memory) }

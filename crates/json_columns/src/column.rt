@@ -24,7 +24,7 @@ use std::alloc::Global;
 /// The values of each dictionary, at every depth, are its distinct slots but null, in order of
 /// first appearance.
 ///
-/// `NotYetImplemented(TextTimestamp)` where a text under a timestamp comes, and `Overflow` where
+/// `NotYetImplemented(TextTimestamp)` where a string under a timestamp comes, and `Overflow` where
 /// another value without a slot comes or the column can't count what it has, whichever is first.
 /// `OutOfMemory` may come in place of any answer.
 #[cycle(columns)]

@@ -132,7 +132,7 @@ fn read_columns(alloc: Global, fields: &[Field], rows: &[Value]) -> Result<Chunk
     Chunk::try_new(columns)
 }
 
-/// What is answered in place of `Overflow` where there may be a text under a timestamp.
+/// What is answered in place of `Overflow` where there may be a string under a timestamp.
 fn overflow(fields: &[Field], rows: &[Value]) -> Error
     requires rows { first_fault_of fields.now rows.now ≡ None }
     requires fault { IsStructFault fields.now rows.now Overflow }
@@ -177,12 +177,12 @@ fn read_rows(alloc: Global, fields: &[Field], rows: &[Value]) -> Result<Chunk>
 /// a slot for each object, which is what the member of the field's name means.
 ///
 /// The first of these that applies: `InvalidArgumentError(DuplicateName)` where the schema, or a
-/// Struct in it at any depth, names a field twice; `NotYetImplemented(NoJsonReading)` where the type of a field has no reading, or is or
-/// holds a LargeList, a Struct or a Dictionary; `ExternalFormat(OuterNotArray)` where the value is
-/// no array; then of the first faulty row `ExternalFormat(NotAnObject)`,
-/// `ExternalFormat(UnknownKey)` where it has a key that no field names, or
-/// `ExternalFormat(MissingKey)` where it lacks a field's key;
-/// `NotYetImplemented(TextTimestamp)` where a text stands under a timestamp; and `Overflow` as in
+/// Struct in it at any depth, names a field twice; `NotYetImplemented(NoJsonReading)` where the type
+/// of a field has no reading, or is or holds a LargeList, a Struct or a Dictionary;
+/// `ExternalFormat(OuterNotArray)` where the value is no array; then of the first faulty row
+/// `ExternalFormat(NotAnObject)`, `ExternalFormat(UnknownKey)` where it has a key that no field
+/// names, or `ExternalFormat(MissingKey)` where it lacks a field's key;
+/// `NotYetImplemented(TextTimestamp)` where a string stands under a timestamp; and `Overflow` as in
 /// `deserialize`. `OutOfMemory` may come in place of any answer.
 pub fn deserialize_records(alloc: Global, json: &Value, schema: &Schema) -> Result<Chunk>
     ensures table { IfOk result (IsTableOf json.now schema.now.fields) }

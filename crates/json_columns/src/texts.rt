@@ -1,4 +1,4 @@
-//! Texts under timestamps, which are looked for once a column was refused.
+//! Strings under timestamps, which are looked for once a column was refused.
 ghost use Rattle.std.specs.Prelude.{◌≡◌, MatchBool};
 ghost use Rattle.json_flat.specs.Columns.{Has, means};
 ghost use Rattle.json_flat.specs.Meaning.{moment_in, text_timestamp};
@@ -16,7 +16,7 @@ fn is_string(value: &Value) -> bool
     matches!(value, Value::String(_))
 }
 
-/// No text stands under a timestamp where there is no timestamp.
+/// No string stands under a timestamp where there is no timestamp.
 fn has_no_text(_data_type: &DataType, _value: &Value) -> bool
     requires flat { HasNoFields _data_type.now }
     requires other { IsNoTimestamp _data_type.now }
@@ -25,7 +25,7 @@ fn has_no_text(_data_type: &DataType, _value: &Value) -> bool
     false
 }
 
-/// Whether a text stands under a timestamp in the value: the value itself, or anything beneath it.
+/// Whether a string stands under a timestamp in the value: the value itself, or anything beneath it.
 #[cycle(texts)]
 pub(crate) fn has_text(data_type: &DataType, value: &Value) -> bool
     ensures { result ≡ is_text (means (reading data_type.now) value.now) }
@@ -116,7 +116,7 @@ fn member_has_text(field: &Field, object: &Object) -> bool
     }
 }
 
-/// Whether one of the values means a text under a timestamp.
+/// Whether one of the values means a string under a timestamp.
 pub(crate) fn any_has_text(data_type: &DataType, values: &[Value]) -> bool
     ensures { MatchBool result (Has text_timestamp (reading data_type.now) values.now)
         (Has text_timestamp (reading data_type.now) values.now → ⊥) }
@@ -129,7 +129,7 @@ pub(crate) fn any_has_text(data_type: &DataType, values: &[Value]) -> bool
     false
 }
 
-/// Whether one of the rows, read as a struct of these fields, means a text under a timestamp.
+/// Whether one of the rows, read as a struct of these fields, means a string under a timestamp.
 pub(crate) fn any_row_has_text(fields: &[Field], rows: &[Value]) -> bool
     ensures { MatchBool result
         (Has text_timestamp (struct_in (field_meanings fields.now)) rows.now)

@@ -57,8 +57,8 @@ fn read_all(alloc: Global, values: &[Value], data_type: &DataType) -> Result<Arr
 ///
 /// The first of these that applies: `InvalidArgumentError(DuplicateName)` where a Struct at any
 /// depth names a field twice, `NotYetImplemented(NoJsonReading)` where a type has no reading,
-/// `NotYetImplemented(TextTimestamp)` where a text stands under a timestamp, and `Overflow` where a
-/// number doesn't fit its type, the items of lists or the bytes of strings or of binary values are
+/// `NotYetImplemented(TextTimestamp)` where a string stands under a timestamp, and `Overflow` where
+/// a number doesn't fit its type, the items of lists or the bytes of strings or of binary values are
 /// more together than the greatest offset, 2^31 - 1 or 2^63 - 1, or the distinct slots of a
 /// dictionary are more than its keys have numbers from 0 on; of the strings of a dictionary each
 /// distinct one counts once. `OutOfMemory` may come in place of any answer.
@@ -91,7 +91,7 @@ fn first_fault(data_type: &DataType, values: &[Value], error: Error) -> Error
     }
 }
 
-/// What is answered in place of `Overflow` where there may be a text under a timestamp.
+/// What is answered in place of `Overflow` where there may be a string under a timestamp.
 fn overflow(data_type: &DataType, values: &[Value]) -> Error
     requires distinct { names_twice_of data_type.now ≡ false }
     requires readable { has_reading data_type.now ≡ true }

@@ -50,7 +50,7 @@ pub fn push_date(out: &mut Vec<u8>, day: i64) -> Result<()>
     Ok(out.extend_from_slice(&text)?)
 }
 
-/// Appends `null`.
+/// Appends `null`. `OutOfMemory` alone; nothing was appended then.
 pub fn push_null(out: &mut Vec<u8>) -> Result<()>
     ensures ok { OnOk result (out.new.items ≡ out.old.items ++ codes "null") }
     ensures memory { OnlyOutOfMemory result }
@@ -59,7 +59,7 @@ pub fn push_null(out: &mut Vec<u8>) -> Result<()>
     Ok(out.extend_from_slice(b"null")?)
 }
 
-/// The text of a printed day.
+/// The ten bytes `YYYY-MM-DD` of a printed day, which is counted from 1970-01-01.
 pub fn date_digits(day: i64) -> [u8; 10]
     requires { IsTrue (is_printed_day day) }
     ensures { result ≡ date_text day }

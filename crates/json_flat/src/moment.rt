@@ -15,8 +15,8 @@ use json_tree::Value;
 use std::alloc::Global;
 
 // Appends the whole value of a number, and else a null.
-// `NotYetImplemented(TextTimestamp)` exactly for a text, and `Overflow` exactly where a number has no
-// whole value in 64 bits.
+// `NotYetImplemented(TextTimestamp)` exactly for a string, and `Overflow` exactly where a number has
+// no whole value in 64 bits.
 fn push_moment(builder: &mut MutablePrimitiveArray<i64>, value: &Value) -> Result<()>
     ensures data_type { builder.new.data_type ≡ builder.old.data_type }
     ensures ok { OnOk result (Pushes moment_in value.now builder.old.slots builder.new.slots) }
@@ -33,10 +33,10 @@ fn push_moment(builder: &mut MutablePrimitiveArray<i64>, value: &Value) -> Resul
 }
 
 /// The column of this type, one slot a value: the exact value of a number, cut towards zero, and
-/// null for any other value but a text. The type is one whose values lie in memory as 64-bit
+/// null for any other value but a string. The type is one whose values lie in memory as 64-bit
 /// integers.
 ///
-/// `NotYetImplemented(TextTimestamp)` only where a text comes, and `Overflow` only where a number
+/// `NotYetImplemented(TextTimestamp)` only where a string comes, and `Overflow` only where a number
 /// comes that has no whole value in 64 bits; where both come, either may be answered. `OutOfMemory`
 /// may come in place of any answer.
 pub fn read_moments(

@@ -3,7 +3,7 @@
 //! A reader of columns needs most values only once, to push them. `lend_row` checks a line as
 //! `json_tree::parse` does, and lends the value of each of the names. A string without escapes and a
 //! number are slices of the line; a string with escapes, an array and an object are read again when
-//! they are asked for. Only `EscapedString::to_text` takes memory.
+//! they are asked for. Of what reads, only `EscapedString::to_text` takes memory.
 #![tactic(auto)]
 
 mod array;

@@ -1,4 +1,5 @@
-//! JSON values (RFC 8259) and columns: the types of values, the whole values of numbers, and values into columns and chunks.
+//! JSON values (RFC 8259) and columns: the types of values, the whole values of numbers, and values
+//! into columns and chunks.
 #![tactic(auto)]
 
 pub use json_columns::{deserialize, deserialize_records};

@@ -39,7 +39,7 @@ pub(crate) fn push_front(out: &mut Vec<u8>, bytes: &[u8; 16], len: u8) -> Append
     Ok(())
 }
 
-/// Appends a comma before each item but the first.
+/// Appends the comma that stands before the item at `index`: none where that is 0.
 ///
 /// `AllocError` where there is no memory.
 #[inline]

@@ -16,7 +16,8 @@ fn is_string_type(data_type: &DataType) -> bool
     matches!(data_type, DataType::Utf8 | DataType::LargeUtf8)
 }
 
-/// Whether the slots of the type have a JSON text.
+/// Whether the slots of the type have a JSON text: Null, Boolean, integers of 8 to 64 bits, dates,
+/// timestamps, strings, dictionaries of strings, and lists and structs of all these.
 #[cycle(texts)]
 pub fn has_text(data_type: &DataType) -> bool
     ensures { result ≡ has_text data_type.now }

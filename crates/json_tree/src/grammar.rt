@@ -61,7 +61,8 @@ pub fn closes<'a>(reader: &mut Reader<'a>, close: u8) -> bool
     reader.takes(close)
 }
 
-/// Whether a comma is next, after white space, or the closing bracket. It is passed.
+/// Passes a comma or the closing bracket, after white space, and tells whether it was the comma.
+/// `Text` where neither is next.
 pub fn goes_on<'a>(reader: &mut Reader<'a>, close: u8) -> Result<bool, JsonFault>
     ensures forward { length reader.new ≤ length reader.old }
     ensures shorter { OnOk result (length reader.new < length reader.old) }
@@ -85,7 +86,7 @@ pub fn goes_on<'a>(reader: &mut Reader<'a>, close: u8) -> Result<bool, JsonFault
     }
 }
 
-/// Passes this word.
+/// Passes this word. `Text` where the bytes ahead don't begin with it, and then nothing is passed.
 #[inline(always)]
 pub fn literal<'a>(reader: &mut Reader<'a>, word: &[u8]) -> Result<(), JsonFault>
     ensures reads { MatchResult result (λ _. strip word.now reader.old ≡ found tt reader.new)
@@ -257,7 +258,7 @@ fn array<'a>(
     }
 }
 
-/// Passes a colon, after white space.
+/// Passes a colon and the white space before it. `Text` where no colon is next.
 pub fn name_separator<'a>(reader: &mut Reader<'a>) -> Result<(), JsonFault>
     ensures forward { length reader.new ≤ length reader.old }
     ensures found { MatchResult result

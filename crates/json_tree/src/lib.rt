@@ -1,5 +1,5 @@
-//! JSON texts read whole into a tree of values (RFC 8259). The modules `reader`, `strings`, `number` and `grammar`
-//! have what reads the parts of a text, for crates that read texts without a tree.
+//! JSON texts read whole into a tree of values (RFC 8259). The modules `reader`, `strings`, `number`
+//! and `grammar` have what reads the parts of a text, for crates that read texts without a tree.
 #![tactic(auto)]
 
 pub mod grammar;

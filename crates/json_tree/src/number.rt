@@ -79,7 +79,8 @@ pub fn is_exponent(byte: u8) -> bool
     byte == b'e' || byte == b'E'
 }
 
-/// Nothing, or e of either case, a sign and digits.
+/// Passes e of either case, a sign where one is next, and digits; nothing where no e is next.
+/// `Text` where no digit follows.
 #[tactic(auto, unfolding(crate::specs::Reading::exp_at))]
 pub fn exponent_part<'a>(reader: &mut Reader<'a>) -> Result<(), JsonFault>
     ensures reads { Moves exp_at result reader.old reader.new }

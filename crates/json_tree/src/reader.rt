@@ -36,7 +36,7 @@ fn is_space(byte: u8) -> bool
     byte == b' ' || byte == b'\t' || byte == b'\n' || byte == b'\r'
 }
 
-/// A digit (RFC 8259, section 6).
+/// Whether a byte is a digit, from `0` to `9` (RFC 8259, section 6).
 #[tactic(auto, unfolding(crate::specs::Grammar::is_digit))]
 pub fn is_decimal(byte: u8) -> bool
     ensures { result ≡ is_digit byte }
@@ -45,7 +45,7 @@ pub fn is_decimal(byte: u8) -> bool
 }
 
 impl<'a> Reader<'a> {
-    /// A reader of all bytes of a text.
+    /// A reader that has all of these bytes ahead, which are UTF-8. Nothing is copied.
     #[tactic(auto, using(crate::proofs::InTexts::in_whole))]
     pub fn new(bytes: &'a [u8]) -> Reader<'a>
         requires { IsUtf8 bytes.now }
@@ -54,7 +54,7 @@ impl<'a> Reader<'a> {
         Reader { bytes }
     }
 
-    /// The bytes ahead.
+    /// The bytes ahead, up to the end of the text. None of them is passed.
     pub fn rest(&self) -> &'a [u8]
         ensures { result.now ≡ self.now }
     {
@@ -68,14 +68,14 @@ impl<'a> Reader<'a> {
         Reader { bytes: self.bytes }
     }
 
-    /// The next byte, which stays ahead.
+    /// The next byte, which stays ahead; `None` at the end.
     pub fn peek(&self) -> Option<u8>
         ensures { MatchOption result (self.now ≡ []) (λ x. (t : List ℕ) × (self.now ≡ x ∷ t)) }
     {
         self.bytes.first().copied()
     }
 
-    /// The next byte, which is passed.
+    /// The next byte, which is passed; `None` at the end.
     #[tactic(auto, using(crate::proofs::InTexts::in_tail))]
     pub fn next(&mut self) -> Option<u8>
         ensures { MatchOption result

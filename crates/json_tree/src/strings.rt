@@ -143,7 +143,8 @@ fn short_escape(byte: u8) -> Option<u8>
     }
 }
 
-/// The character of an escape, after its reverse solidus.
+/// The character of an escape, after its reverse solidus (RFC 8259, section 7). `Text` where none
+/// stands there, as at a surrogate without its partner.
 pub fn escape<'a>(reader: &mut Reader<'a>) -> Result<char, JsonFault>
     requires { IsUtf8 reader.old }
     ensures reads { MatchResult result

@@ -169,7 +169,7 @@ fn push_lent<'a>(
     }
 }
 
-/// Appends the index of null in a union, where there is one.
+/// Appends the index of null in a union, which is 0. Where null may not stand it is given up.
 #[inline(always)]
 fn push_missing(nullable: bool, out: &mut Vec<u8>) -> Result<(), GivenUp>
     ensures nullable { OnOk result (nullable ≡ true) }

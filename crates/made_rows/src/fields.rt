@@ -8,7 +8,6 @@ use arrow_core::{Box, Items, Result, Text};
 use avro_schema::{AvroField, AvroSchema};
 use std::alloc::Global;
 
-/// A field of this name and schema.
 fn field(alloc: Global, name: &str, schema: AvroSchema) -> Result<AvroField>
     ensures field { IfOk result (λ f. f ≡ record { name = name.now; doc = None; schema = schema }) }
     ensures memory { OnlyOutOfMemory result }

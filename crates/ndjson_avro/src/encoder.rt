@@ -107,7 +107,7 @@ impl BlockEncoder {
     ///
     /// In this order: the error of the first text that is no JSON text, or has more than 128 brackets
     /// open at once; `ExternalFormat(NotAnObject)` where one is no object,
-    /// `NotYetImplemented(TextTimestamp)` where a text stands under a timestamp, `Overflow` where a
+    /// `NotYetImplemented(TextTimestamp)` where a string stands under a timestamp, `Overflow` where a
     /// value doesn't fit its type, or there are more items or bytes than can be counted, and
     /// `InvalidArgumentError(NullUnderRequired)` where a null stands where the root requires a
     /// value. `OutOfMemory` at any time.

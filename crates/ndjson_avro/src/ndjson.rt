@@ -31,7 +31,7 @@ use std::alloc::Global;
 /// rows, each error over the whole batch before the next: those of `FileReader::advance`;
 /// `ExternalFormat(Json)` or `LimitExceeded`, of the first row that is no JSON text, or has more
 /// than 128 brackets open at once; `ExternalFormat(NotAnObject)`;
-/// `NotYetImplemented(TextTimestamp)` where a text stands under a timestamp; `Overflow` where a
+/// `NotYetImplemented(TextTimestamp)` where a string stands under a timestamp; `Overflow` where a
 /// number doesn't fit its type, or there are more items or bytes than can be counted;
 /// `InvalidArgumentError(NullUnderRequired)` where a null stands under a field that isn't nullable;
 /// and `WriteFault`. `OutOfMemory` at any time. After any error but `WriteFault` the sink got

@@ -4,8 +4,8 @@ ghost use Rattle.ndjson_avro.specs.Nulls.{any_holds_null as any_holds_null_of, h
 
 use arrow_types::{DataType, Field};
 
-/// Whether the type Null stands in this type: the type itself, or one beneath it in lists and
-/// structs.
+/// Whether the type Null stands in this type: the type itself, or one beneath it in List, LargeList
+/// and Struct. Other types with types in them, which have no Avro schema, aren't looked into.
 #[cycle(nulls)]
 pub(crate) fn holds_null(data_type: &DataType) -> bool
     ensures { result ≡ holds_null_of data_type.now }

@@ -47,7 +47,7 @@ fn is_object(value: &Value) -> bool
     matches!(value, Value::Object(_))
 }
 
-/// Whether all values are objects.
+/// `NotAnObject` where one of the values is no object.
 fn check_objects(values: &[Value]) -> Result<()>
     ensures { MatchResult result (λ _. All (λ value. is_object_of value ≡ true) values.now)
         (HoldOther values.now) }

@@ -30,7 +30,7 @@ fn limit_after(limit: Option<usize>, shown: usize) -> Option<usize>
     limit.map(|limit| limit - shown)
 }
 
-// Reads the next rows, `wanted` of them at most, into the front of the texts, and answers how many
+// Reads the next rows, `wanted` of them at most, into the first of the texts, and answers how many
 // there are.
 fn read_batch<S: Source>(
     alloc: Global,
@@ -164,7 +164,7 @@ impl<S: Source> FileReader<S> {
         self.lines.lines
     }
 
-    /// The error that an `advance` answered. It takes no memory.
+    /// The error that an `advance` answered, if one did. It takes no memory.
     pub fn failed(&self) -> Option<Error>
         ensures { result ≡ failure_of self.now }
     {

@@ -135,8 +135,8 @@ fn read_text<S: Source>(alloc: Global, source: &mut LineSource<S>, text: &mut Te
     Ok(Line { is_row, more })
 }
 
-// Takes rows, `wanted` of them, or fewer where the source ends, and answers how many. They stand at
-// the front of the texts. Lines that aren't rows are passed over.
+// Takes rows, `wanted` of them, or fewer where the source ends, and answers how many. They are the
+// first of the texts. Lines that aren't rows are passed over.
 pub(crate) fn read_rows<S: Source>(
     alloc: Global,
     source: &mut LineSource<S>,

@@ -8,7 +8,7 @@ use crate::file_reader::FileReader;
 use arrow_base::{Result, Source, Text};
 
 impl<S: Source> FileReader<S> {
-    /// `advance`, and then `get`.
+    /// Shows the next batch of rows, as `advance` does, and lends it; `None` where it shows none.
     pub fn next(&mut self) -> Result<Option<&[Text]>>
         ensures* advances { sem 𝓛 (Rests (reader_row S.row) self.entry
             (λ after. AdvancesNext S.left S.faults S.whose self.old result after)) }

@@ -8,7 +8,7 @@ use arrow_base::write_str;
 use arrow_core::{Error, Result};
 use arrow_types::{DataType, Field};
 
-/// These bytes.
+/// Appends these bytes. `OutOfMemory` alone.
 fn push(out: &mut Vec<u8>, part: &[u8]) -> Result<()>
     ensures appended { OnOk result (out.new.items ≡ out.old.items ++ part.now) }
     ensures memory { OnlyOutOfMemory result }
@@ -17,7 +17,7 @@ fn push(out: &mut Vec<u8>, part: &[u8]) -> Result<()>
     Ok(())
 }
 
-/// A JSON string.
+/// Appends the JSON string of `value`. `OutOfMemory` alone.
 fn push_string(out: &mut Vec<u8>, value: &str) -> Result<()>
     ensures appended { OnOk result (out.new.items ≡ out.old.items ++ json_string value.now) }
     ensures memory { OnlyOutOfMemory result }
