@@ -6,12 +6,14 @@ failed. Its status is 0 where all were built.
 
 While rt works on a crate it keeps other runs out of the folders of all crates beneath, so that two
 crates over one library would wait for each other. Each crate is built in a repository of its own,
-in .built/, over links to what was built beneath it, and what was made is then moved back.
+in .built/, over links to what was built beneath it, and what was made is then moved back. So run no
+rt in the checkout meanwhile: the folder out of a crate is away while it is built.
 """
 import contextlib
 import fcntl
 import os
 import shutil
+import signal
 import subprocess
 import sys
 import tempfile
@@ -22,6 +24,8 @@ ROOMS = os.path.join(TOP, ".built")
 PROCESSORS = os.cpu_count() or 1
 # The folders of a crate that nothing is built of.
 EDITS = ("must-fail", "edits")
+# The descriptor of this run's lock.
+LOCKS = []
 
 
 def read_crates():
@@ -32,7 +36,7 @@ def read_crates():
             name, colon, libraries = line.split("#")[0].partition(":")
             if colon:
                 uses[name.split()[0]] = libraries.split()
-                lines[name.split()[0]] = line
+                lines[name.split()[0]] = line.rstrip("\n") + "\n"
     return {name: [it for it in libraries if it in uses] for name, libraries in uses.items()}, lines
 
 
@@ -123,7 +127,13 @@ def start(name, room, jobs):
     command = ["rt", "run", "--jobs", str(jobs), "--", "usage"] if is_program(name) else ["rt", "lib", "--jobs", str(jobs)]
     log = tempfile.TemporaryFile("w+", errors="replace")
     process = subprocess.Popen(
-        command, cwd=folder_of(name, room), stdin=subprocess.DEVNULL, stdout=log, stderr=subprocess.STDOUT
+        command,
+        cwd=folder_of(name, room),
+        stdin=subprocess.DEVNULL,
+        stdout=log,
+        stderr=subprocess.STDOUT,
+        start_new_session=True,
+        pass_fds=LOCKS,
     )
     return process, log
 
@@ -144,11 +154,11 @@ def main():
         build(uses, lines, waiting, running, built)
     finally:
         # What is under way is ended; what was kept of it so far stays.
-        for name, (process, _, room, _, _) in running.items():
-            process.terminate()
+        for process, *_ in running.values():
+            with contextlib.suppress(ProcessLookupError):
+                os.killpg(process.pid, signal.SIGTERM)
             process.wait()
-            move_out(name, room, TOP)
-        shutil.rmtree(ROOMS, ignore_errors=True)
+        clear_rooms()
 
 
 def build(uses, lines, waiting, running, built):
@@ -187,7 +197,7 @@ def build(uses, lines, waiting, running, built):
 
 
 def clear_rooms():
-    """Gives back what a run that was killed had kept."""
+    """Gives back what a run that was stopped or killed had kept."""
     for name in os.listdir(ROOMS) if os.path.isdir(ROOMS) else []:
         move_out(name, os.path.join(ROOMS, name), TOP)
     shutil.rmtree(ROOMS, ignore_errors=True)
@@ -195,11 +205,18 @@ def clear_rooms():
 
 @contextlib.contextmanager
 def alone():
-    """One run at a time: a second one waits, and then finds built what the first one built."""
-    with open(os.path.join(TOP, "tools", "build.py")) as itself:
-        fcntl.flock(itself, fcntl.LOCK_EX)
+    """One run at a time: a second one waits, and then finds built what the first one built. What a
+    run starts holds its lock too, so that nothing is cleared under it where the run is killed."""
+    signal.signal(signal.SIGTERM, lambda *_: sys.exit(143))
+    lock = os.open(os.path.join(TOP, "tools"), os.O_RDONLY)
+    LOCKS.append(lock)
+    try:
+        fcntl.flock(lock, fcntl.LOCK_EX)
         clear_rooms()
         yield
+    finally:
+        LOCKS.remove(lock)
+        os.close(lock)
 
 
 if __name__ == "__main__":

@@ -7,7 +7,7 @@ and else the texts that Python's `datetime` makes; and `avrocat rewrite` gives t
 the form that `ndjson` writes: all members, in the fields' order, without spaces. Fields that have no JSON text (bytes, times of
 day) are read by the others alone.
 
-Then files that some reader refuses, with what it says: what stands in README or docs/DIFFERENCES.md of these is looked at here.
+Then files that some reader refuses, with what it says: docs/TRIED.md has what they say of these; here it is printed.
 
 Use: apt-get install python3-avro avro-bin libavro-java default-jdk-headless, then /usr/bin/python3 tools/read_by_others.py, from
 anywhere, once `./avrocat` was built; AVROCAT names another program. Its status is 0 where all was read as it has to be.

@@ -15,6 +15,14 @@ crates=$(cd "$(dirname "$0")/../crates" && pwd)
 # Runs the tests of a crate whose names hold a word, while the nth allocation is refused.
 try() {
     report=$(cd "$crates/$1" && rt try --test --fail-alloc "$n" -- "$2" 2>&1) || true
+    case $report in
+    *"test result: "*) ;;
+    *)
+        printf '%s\n' "$report"
+        echo "$2 was not run"
+        exit 1
+        ;;
+    esac
 }
 
 wrong() {
@@ -24,6 +32,10 @@ wrong() {
 }
 
 right() {
+    if [ "$n" -eq 1 ]; then
+        echo "$1: no allocation was refused"
+        exit 1
+    fi
     echo "$1: each of $((n - 1)) allocations was refused, and each answer was right"
 }
 

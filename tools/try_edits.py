@@ -29,6 +29,7 @@ def try_edits(name):
         stdin=subprocess.DEVNULL,
         stdout=subprocess.PIPE,
         stderr=subprocess.STDOUT,
+        pass_fds=build.LOCKS,
         text=True,
         errors="replace",
     )
@@ -42,7 +43,10 @@ def main():
     named = sys.argv[1:]
     if not set(named) <= set(uses):
         sys.exit("use: tools/try_edits.py [NAME ..], with names of crates.txt")
-    names = [it for it in named or uses if os.path.isdir(edits_of(it))]
+    lacking = [it for it in named if not os.path.isdir(edits_of(it))]
+    if lacking:
+        sys.exit(f"without a folder edits: {', '.join(lacking)}")
+    names = [it for it in dict.fromkeys(named or uses) if os.path.isdir(edits_of(it))]
     if subprocess.run([os.path.join(build.TOP, "tools", "build.py"), *names]).returncode:
         sys.exit(1)
     with build.alone(), concurrent.futures.ThreadPoolExecutor(build.PROCESSORS) as pool:

@@ -9,7 +9,7 @@ ghost use Rattle.arrow_array.specs.HoldsDictionary.{holds_dictionary};
 ghost use Rattle.arrow_array.specs.Kinds.{IsListType};
 ghost use Rattle.arrow_array.specs.Lent.{IsPart, part_slots};
 ghost use Rattle.arrow_array.specs.Lists.{IsListOf, ListFits, list_at};
-ghost use Rattle.arrow_array.specs.Offsets.{AreRising, IsOffsets, offset_at};
+ghost use Rattle.arrow_array.specs.Offsets.{AreRising, IsOffsets};
 ghost use Rattle.arrow_array.specs.SlotTypes.{SlotOf};
 ghost use Rattle.arrow_array.specs.Slots.{TellsHeld, is_held, slot_at, slots_of};
 ghost use Rattle.arrow_array.specs.Parts.{IsRefusalOf};
@@ -194,8 +194,8 @@ impl ListArray {
         ListArray::try_from_rising(alloc, data_type, offsets, values, validity)
     }
 
-    /// The array that `try_new` gives, for offsets that are known not to fall: of them it looks at
-    /// the last alone.
+    /// The array that `try_new` gives, for offsets that are known to be one or more, none below 0 and
+    /// none below the one before: of them it looks at the last alone.
     ///
     /// `InvalidArgumentError(ArrayParts)` where the type isn't that of lists with such offsets of
     /// the child's type; where the last offset is past the end of the child; or where a given
@@ -385,8 +385,8 @@ impl LargeListArray {
         LargeListArray::try_from_rising(alloc, data_type, offsets, values, validity)
     }
 
-    /// The array that `try_new` gives, for offsets that are known not to fall: of them it looks at
-    /// the last alone.
+    /// The array that `try_new` gives, for offsets that are known to be one or more, none below 0 and
+    /// none below the one before: of them it looks at the last alone.
     ///
     /// `InvalidArgumentError(ArrayParts)` where the type isn't that of lists with such offsets of
     /// the child's type; where the last offset is past the end of the child; or where a given

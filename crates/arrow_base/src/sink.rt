@@ -7,8 +7,8 @@ ghost use Rattle.arrow_base.specs.Outside.{RoseOrFull, AppendsPrefix, last_count
 use crate::faults::Failed;
 use arrow_core::{Error, Result};
 
-/// What takes bytes in order, as many of those it is given as it likes. Contracts see the bytes
-/// taken, where it tells them, and a count of its failures.
+/// What takes bytes in order: of those it is given the first at least, and as many more as it likes.
+/// Contracts see the bytes taken, where it tells them, and a count of its failures.
 pub trait Sink {
     // The bytes taken, where they are told.
     ghost held: { Self → Option (List ℕ) };

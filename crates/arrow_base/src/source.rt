@@ -6,8 +6,8 @@ ghost use Rattle.arrow_base.specs.Outside.{RoseOrFull, GivesThrough, NoneGiven, 
 use crate::faults::Failed;
 use arrow_core::{Error, Result};
 
-/// What gives bytes in order, as many at once as it likes. Contracts see the bytes still to come,
-/// where it tells them, and a count of its failures.
+/// What gives bytes in order, one at least and as many more as it likes; none at the end alone.
+/// Contracts see the bytes still to come, where it tells them, and a count of its failures.
 pub trait Source {
     // The bytes still to come, where they are told.
     ghost left: { Self → Option (List ℕ) };

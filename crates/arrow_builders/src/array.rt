@@ -35,23 +35,23 @@ pub enum MutableArray {
     Null(MutableNullArray),
     /// Booleans.
     Boolean(MutableBooleanArray),
-    /// Integers of 8 bits, of any type that is kept as such.
+    /// Integers of 8 bits, of any type whose values are stored so.
     Int8(MutablePrimitiveArray<i8>),
-    /// Integers of 16 bits, of any type that is kept as such.
+    /// Integers of 16 bits, of any type whose values are stored so.
     Int16(MutablePrimitiveArray<i16>),
-    /// Integers of 32 bits, of any type that is kept as such.
+    /// Integers of 32 bits, of any type whose values are stored so.
     Int32(MutablePrimitiveArray<i32>),
-    /// Integers of 64 bits, of any type that is kept as such.
+    /// Integers of 64 bits, of any type whose values are stored so.
     Int64(MutablePrimitiveArray<i64>),
-    /// Unsigned numbers of 8 bits.
+    /// Unsigned integers of 8 bits.
     UInt8(MutablePrimitiveArray<u8>),
-    /// Unsigned numbers of 16 bits.
+    /// Unsigned integers of 16 bits.
     UInt16(MutablePrimitiveArray<u16>),
-    /// Unsigned numbers of 32 bits.
+    /// Unsigned integers of 32 bits.
     UInt32(MutablePrimitiveArray<u32>),
-    /// Unsigned numbers of 64 bits.
+    /// Unsigned integers of 64 bits.
     UInt64(MutablePrimitiveArray<u64>),
-    /// Integers of 128 bits, of any type that is kept as such.
+    /// Integers of 128 bits, of any type whose values are stored so.
     Int128(MutablePrimitiveArray<i128>),
     /// Intervals.
     MonthDayNano(MutablePrimitiveArray<MonthsDaysNs>),

@@ -27,8 +27,8 @@ use avro_schema::{AvroField, AvroSchema};
 /// For how many fields there are steps. Wider rows are read by their schemas.
 pub(crate) const MOST_STEPS: usize = 64;
 
-/// The kinds of values that a step reads with no look at their schema, beneath null only longs and
-/// strings; and any other.
+/// The kinds of values that a step reads without looking at their schema, and `Any` for all others.
+/// In a union with null only longs and strings are read so.
 #[derive(Clone, Copy)]
 pub enum Kind {
     /// True or false.

@@ -134,7 +134,8 @@ pub fn append_counted(bytes: &[u8], out: &mut Vec<u8>) -> Result<(), AllocError>
     append_bytes(bytes, out)
 }
 
-/// Appends a byte, and then bytes after their length. `AllocError` alone.
+/// Appends a byte, and then bytes after their length. After `AllocError` a part of these may have
+/// been appended.
 // The byte and the length of few bytes are appended at once.
 #[inline(always)]
 pub fn append_counted_after(byte: u8, bytes: &[u8], out: &mut Vec<u8>) -> Result<(), AllocError>

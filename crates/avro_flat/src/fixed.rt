@@ -16,7 +16,7 @@ use avro_reference::Ahead;
 use std::convert::AsSlice;
 
 /// Reads as many bytes as the type has into one more slot (Avro 1.11, "Fixed"). `Bytes` where fewer
-/// are ahead.
+/// are ahead; `Memory`.
 #[inline(never)]
 #[tactic(auto, using(crate::proofs::Sets::fixed_values))]
 pub fn decode_fixed<C: Ahead>(

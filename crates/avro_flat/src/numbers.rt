@@ -12,7 +12,8 @@ use crate::fault::{DecodeFault, pushed};
 use arrow_flat::{MutableBooleanArray, MutablePrimitiveArray};
 use avro_reference::Ahead;
 
-/// Reads a boolean, a byte 0 or 1, into one more slot. `Bytes` for any other byte, or for none.
+/// Reads a boolean, a byte 0 or 1, into one more slot. `Bytes` for any other byte, or for none;
+/// `Memory`.
 #[inline(always)]
 #[tactic(auto, using(crate::proofs::Sets::flats))]
 pub fn decode_boolean<C: Ahead>(
@@ -40,7 +41,7 @@ pub fn decode_boolean<C: Ahead>(
 }
 
 /// Reads a number of 32 bits into one more slot. `Bytes` where no prefix of the bytes is a number,
-/// or it has more bits.
+/// or it has more bits; `Memory`.
 #[inline(always)]
 #[tactic(auto, using(crate::proofs::Sets::flats))]
 pub fn decode_int<C: Ahead>(
@@ -67,7 +68,8 @@ pub fn decode_int<C: Ahead>(
     }
 }
 
-/// Reads a number of 64 bits into one more slot. `Bytes` where no prefix of the bytes is a number.
+/// Reads a number of 64 bits into one more slot. `Bytes` where no prefix of the bytes is a number;
+/// `Memory`.
 #[inline(always)]
 #[tactic(auto, using(crate::proofs::Sets::flats))]
 pub fn decode_long<C: Ahead>(
@@ -91,8 +93,8 @@ pub fn decode_long<C: Ahead>(
     }
 }
 
-/// Reads `count` numbers of 64 bits, each into one more slot. `Bytes` where one of them is missing;
-/// some may have their slots then.
+/// Reads `count` numbers of 64 bits, each into one more slot. `Bytes` where the bytes ahead don't
+/// begin with so many numbers; `Memory`. The numbers before may have their slots then.
 #[tactic(auto, using(crate::proofs::Sets::many))]
 pub fn decode_longs<C: Ahead>(
     cursor: &mut C,

@@ -135,7 +135,9 @@ fn given_pair(rt: &impl Abort, mut builder: MutableFixedSizeListArray) -> Array
 
 fn is_one_pair(array: Array) -> bool {
     match &array {
-        Array::FixedSizeList(lists) => lists.len() == 1 && lists.is_valid(0),
+        Array::FixedSizeList(lists) => {
+            lists.len() == 1 && lists.is_valid(0) && lists.values().len() == 2
+        }
         _ => false,
     }
 }
@@ -156,7 +158,9 @@ fn given_struct(rt: &impl Abort, mut builder: DynMutableStructArray) -> Array
 
 fn is_one_struct(array: Array) -> bool {
     match &array {
-        Array::Struct(structs) => structs.len() == 1 && structs.is_valid(0),
+        Array::Struct(structs) => {
+            structs.len() == 1 && structs.is_valid(0) && structs.values().len() == 1
+        }
         _ => false,
     }
 }

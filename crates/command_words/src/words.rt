@@ -26,8 +26,8 @@ const MARKER_DIGITS: usize = 32;
 /// The most rows that `make` draws.
 const MOST_ROWS: usize = 1_000_000;
 
-/// The command that the words stand for. `Usage` exactly where they stand for none; `Memory` at any
-/// time.
+/// The command that the words stand for. `Usage` where they stand for none, and there alone;
+/// `Memory` may come in place of any answer.
 #[tactic(auto, using(crate::proofs::WordsLemmas::other_word, crate::proofs::WordsLemmas::no_words))]
 pub fn read_words(alloc: Global, words: &[Text]) -> Result<Command, WordsFault>
     ensures command { IfOk result (Stands words.now) }

@@ -13,8 +13,8 @@ use std::alloc::Global;
 /// How many bytes a duration has (Avro 1.11, "Duration").
 const DURATION_SIZE: usize = 12;
 
-/// The type of a primitive type's name, or of a logical type's, as `int` or `timestamp-micros`.
-/// `Usage` for any other word; `Memory`.
+/// The type that a primitive type's name or a logical type's names, such as `int` or
+/// `timestamp-micros`. `Usage` for any other word; `Memory` of `duration` alone.
 pub fn read_plain(alloc: Global, word: &str) -> Result<AvroSchema, WordsFault>
     ensures schema { IfOk result (IsPlain word.now) }
     ensures usage { result ≡ Err Usage → (schema : Schema) → IsPlain word.now schema → ⊥ }

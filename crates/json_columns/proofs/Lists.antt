@@ -19,26 +19,9 @@ use Rattle.arrow_array.specs.declared.array.Array.{Array}
 use Rattle.arrow_flat.specs.Builders.{slots_where}
 use Rattle.arrow_flat.specs.Nested.{list_len, items_of, list_slot, lists_from, ends_from, offsets_of}
 use Rattle.arrow_flat.proofs.Bits.{made_alike}
-use Rattle.arrow_flat.proofs.ListOffsets.{length-offsets, slots_from-cut}
+use Rattle.arrow_flat.proofs.ListOffsets.{are_offsets, length-offsets, slots_from-cut}
 
 -- ---- lists
-
-ends_within : (s : ℕ) (ls : List (Option ℕ)) (n : ℕ) → s + items_of ls ≤ n → (k : ℕ) → k < length (pos s ∷ ends_from s ls) → IsWithin (offset_at (pos s ∷ ends_from s ls) k) n
-ends_within s ls n h zero l = omega (arith, h)
-ends_within s [] n h (suc k) l = absurd (omega (arith, l))
-ends_within s (o ∷ ls) n h (suc k) l = ends_within (s + list_len o) ls n (omega (arith, h)) k (omega (arith, l))
-
-ends_rising : (s : ℕ) (ls : List (Option ℕ)) (k : ℕ) → suc k < length (pos s ∷ ends_from s ls) → IsNotAbove (offset_at (pos s ∷ ends_from s ls) k) (offset_at (pos s ∷ ends_from s ls) (suc k))
-ends_rising s [] k l = absurd (omega (arith, l))
-ends_rising s (o ∷ ls) zero l = omega arith
-ends_rising s (o ∷ ls) (suc k) l = ends_rising (s + list_len o) ls k (omega (arith, l))
-
-are_offsets : (ls : List (Option ℕ)) (n : ℕ) → items_of ls ≤ n → IsOffsets (offsets_of ls) n
-are_offsets ls n h = record {
-  filled = omega (arith, length-offsets ls);
-  within = ends_within 0 ls n (omega (arith, h));
-  rising = λ k l. rw add-one (ends_rising 0 ls k (omega (arith, l)));
-}
 
 -- the lists between the offsets, where the child has their items
 between_ends : (s : ℕ) (l : Option ℕ) (ls : List (Option ℕ)) (xs : List Slot) → s + list_len l ≤ length xs → cond (is_some l) (list_at (pos s ∷ ends_from s (l ∷ ls)) xs 0) slot.Null ≡ list_slot xs s l

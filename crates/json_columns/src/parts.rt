@@ -32,7 +32,7 @@ pub(crate) fn list_array(
     ensures memory { OnlyOutOfMemory result }
 {
     let (data_type, offsets, validity) = lists.take()?;
-    let array = ListArray::try_new(alloc, data_type, offsets, items, Some(validity))?;
+    let array = ListArray::try_from_rising(alloc, data_type, offsets, items, Some(validity))?;
     Ok(Array::List(array))
 }
 
@@ -51,7 +51,7 @@ pub(crate) fn large_list_array(
     ensures memory { OnlyOutOfMemory result }
 {
     let (data_type, offsets, validity) = lists.take()?;
-    let array = LargeListArray::try_new(alloc, data_type, offsets, items, Some(validity))?;
+    let array = LargeListArray::try_from_rising(alloc, data_type, offsets, items, Some(validity))?;
     Ok(Array::LargeList(array))
 }
 
@@ -114,6 +114,6 @@ pub(crate) fn dictionary_array(
         ≡ (map (looked_up (array_slots items)) (keys_slots keys), array_slots items) ∷ []) }
     ensures memory { OnlyOutOfMemory result }
 {
-    let array = DictionaryArray::try_new(alloc, data_type, keys, items)?;
+    let array = DictionaryArray::from_parts(alloc, data_type, keys, items)?;
     Ok(Array::Dictionary(array))
 }

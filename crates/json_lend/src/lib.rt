@@ -3,7 +3,8 @@
 //! A reader of columns needs most values only once, to push them. `lend_row` checks a line as
 //! `json_tree::parse` does, and lends the value of each of the names. A string without escapes and a
 //! number are slices of the line; a string with escapes, an array and an object are read again when
-//! they are asked for. Of what reads, only `EscapedString::to_text` takes memory.
+//! they are asked for. Of the functions that read, only those that copy a string with escapes take
+//! memory.
 #![tactic(auto)]
 
 mod array;

@@ -1,4 +1,4 @@
-//! What is answered where lines aren't read the fast way.
+//! What is answered where lines aren't read the fast path.
 use arrow_core::Error;
 use json_tree::JsonFault;
 use std::alloc::{AllocError, AllocFailed};

@@ -1,6 +1,6 @@
 //! Lines of JSON read into columns, without a tree.
 //!
-//! This is the fast way: it takes what most lines are, and gives any other lines up, which are then
+//! This is the fast path: it takes what most lines are, and gives any other lines up, which are then
 //! to be read as trees. The trees alone decide what is refused, and why.
 #![tactic(auto)]
 

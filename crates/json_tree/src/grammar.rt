@@ -86,7 +86,7 @@ pub fn goes_on<'a>(reader: &mut Reader<'a>, close: u8) -> Result<bool, JsonFault
     }
 }
 
-/// Passes this word. `Text` where the bytes ahead don't begin with it, and then nothing is passed.
+/// Passes this word. `Text` where the bytes ahead don't begin with it.
 #[inline(always)]
 pub fn literal<'a>(reader: &mut Reader<'a>, word: &[u8]) -> Result<(), JsonFault>
     ensures reads { MatchResult result (λ _. strip word.now reader.old ≡ found tt reader.new)

@@ -179,7 +179,8 @@ impl<V: Drop> Members<V> {
         }
     }
 
-    /// The same of a key that mostly stands at the index `near`, where it is looked for first.
+    /// The value of a key, or `None` exactly where no member has it. The key mostly stands at the
+    /// index `near`, where it is looked for first.
     pub(crate) fn get_near(&self, near: usize, key: &str) -> Option<&V>
         ensures { MatchOption result (value_of key.now self.now ≡ None)
             (λ v. value_of key.now self.now ≡ Some v.now) }

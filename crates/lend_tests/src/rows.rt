@@ -131,7 +131,7 @@ fn scalars_are_lent(rt: HostRuntime) {
     assert!(rt; is_decoded(rt.alloc(), &found[1], "\n\u{e9}\u{1f600}"));
 }
 
-// The value of the one name in the line, where it is an unsigned integer.
+// Whether the line lends this number, which has no exponent, to the one name.
 fn is_lent(alloc: Global, line: &str, of: &str, wanted: &str) -> bool {
     let Some(only) = name(alloc, of) else {
         return false;

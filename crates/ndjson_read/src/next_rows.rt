@@ -8,7 +8,8 @@ use crate::file_reader::FileReader;
 use arrow_base::{Result, Source, Text};
 
 impl<S: Source> FileReader<S> {
-    /// Shows the next batch of rows, as `advance` does, and lends it; `None` where it shows none.
+    /// Shows the next batch of rows, as `advance` does, and lends it; `None` where it shows none. The
+    /// errors are those of `advance`.
     pub fn next(&mut self) -> Result<Option<&[Text]>>
         ensures* advances { sem 𝓛 (Rests (reader_row S.row) self.entry
             (λ after. AdvancesNext S.left S.faults S.whose self.old result after)) }

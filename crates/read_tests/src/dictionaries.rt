@@ -50,7 +50,7 @@ fn a_string_stands_once(rt: HostRuntime) -> std::result::Result<(), Fail> {
     Ok(())
 }
 
-/// Whether these are three integers.
+/// Whether these are the three integers.
 fn are_three<T: NativeType>(array: &PrimitiveArray<T>, one: T, two: T, three: T) -> bool {
     array.len() == 3 && array.value(0) == one && array.value(1) == two && array.value(2) == three
 }
@@ -69,7 +69,8 @@ fn has_three_values(column: &Array) -> bool {
     }
 }
 
-/// Whether numbers under a dictionary over a type of integers have such keys and these values.
+/// Whether numbers under a dictionary over this type of integers are cut before they are compared:
+/// the keys are 0, null, 0, 1, 1 and 2, and the values 7, 1 and 0.
 fn is_cut(alloc: Global, integers: DataType) -> Result<bool> {
     let data_type = dictionary(alloc, IntegerType::UInt8, integers)?;
     let column = column(alloc, b"[7.9,\"x\",7,true,1e0,-0.5]", data_type)?;
@@ -79,7 +80,7 @@ fn is_cut(alloc: Global, integers: DataType) -> Result<bool> {
 }
 
 #[test]
-fn an_integer_is_cut_before_it_is_looked_for(rt: HostRuntime) -> std::result::Result<(), Fail> {
+fn a_number_is_cut_before_it_is_looked_for(rt: HostRuntime) -> std::result::Result<(), Fail> {
     let alloc = rt.alloc();
     assert!(rt; is_cut(alloc, DataType::Int8)?);
     assert!(rt; is_cut(alloc, DataType::Int16)?);

@@ -58,7 +58,7 @@ fn a_number_has_to_fit(rt: HostRuntime) -> std::result::Result<(), Fail> {
 }
 
 #[test]
-fn a_text_is_no_timestamp(rt: HostRuntime) {
+fn a_string_is_no_timestamp(rt: HostRuntime) {
     let moment = DataType::Timestamp(TimeUnit::Second, None);
     let wanted = Error::NotYetImplemented(Reason::TextTimestamp);
     assert!(rt; is_refused(column(rt.alloc(), b"[\"2020\"]", moment), wanted));

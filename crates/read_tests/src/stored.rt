@@ -7,7 +7,7 @@ use arrow_types::{DataType, IntervalUnit, NativeType, Offset, TimeUnit};
 use std::alloc::Global;
 use std::test::Fail;
 
-/// Whether these are two integers and two nulls.
+/// Whether these are the two integers, and then two nulls.
 fn are_two<T: NativeType>(array: &PrimitiveArray<T>, one: T, other: T) -> bool {
     array.len() == 4
         && (array.is_valid(0) && array.value(0) == one)
@@ -17,7 +17,7 @@ fn are_two<T: NativeType>(array: &PrimitiveArray<T>, one: T, other: T) -> bool {
 
 /// Whether a number is cut, and true is 1, where they are read under a type of integers.
 fn is_integer(alloc: Global, data_type: DataType) -> Result<bool> {
-    let column = column(alloc, b"[1.5e1,true,\"x\",null]", data_type)?;
+    let column = column(alloc, b"[1.59e1,true,\"x\",null]", data_type)?;
     Ok(match &column {
         Array::UInt16(array) => are_two(array, 15, 1),
         Array::UInt32(array) => are_two(array, 15, 1),

@@ -1,9 +1,13 @@
-use Rattle.std.proofs.Common.{◌≡◌, ◌∙◌, sym, length, true, arith}
+use Rattle.std.proofs.Common.{◌≡◌, ◌∙◌, sym, subst, length, true, arith}
 use Rattle.std.proofs.lemmas.List.{map-id}
 use Rattle.std.proofs.lemmas.Result.{err_from_is_err_and}
 use Rattle.arrow_array.specs.Arrays.{array_slots, array_type}
+use Rattle.arrow_array.specs.Offsets.{AreRising}
 use Rattle.json_columns.proofs.Lists.{list_parts, list_array_slots, only_memory}
 use Rattle.json_columns.proofs.parts.large_list_array.Goals as goal
+
+pub try_from_rising-requires : goal.try_from_rising-requires
+try_from_rising-requires c = subst AreRising (map-id c.in_ok-data_type.offsets.items) c.in_ok-data_type.ensures.rising
 
 pub returns-in_err-array-clause-memory : goal.returns-in_err-array-clause-memory
 returns-in_err-array-clause-memory c =
