@@ -50,6 +50,15 @@ impl Model for FixedItemsUtf8Dictionary {
         × ((i : ℕ) → i < length b.keys.slots → IsKeyInto (length b.values.slots) (slot_at b.keys.slots i)) };
 }
 
+// The type of dictionaries with keys of 32 bits over Utf8.
+fn utf8_dictionary_type(alloc: Global) -> Result<DataType>
+    ensures ok { IfOk result (λ t. t ≡ utf8_dictionary_type) }
+    ensures memory { OnlyOutOfMemory result }
+{
+    let values = Box::new(alloc, DataType::Utf8)?;
+    Ok(DataType::Dictionary(IntegerType::Int32, values, false))
+}
+
 impl FixedItemsUtf8Dictionary {
     /// An empty builder over these strings. Of the capacity nothing is promised.
     pub fn with_capacity(
@@ -60,11 +69,11 @@ impl FixedItemsUtf8Dictionary {
         ensures ok { IfOk result (IsNewDictionary values.slots) }
         ensures err { OnlyOutOfMemory result }
     {
+        let data_type = utf8_dictionary_type(alloc)?;
         let keys = MutablePrimitiveArray::with_capacity(alloc, capacity)?;
-        let value_type = Box::new(alloc, DataType::Utf8)?;
         Ok(FixedItemsUtf8Dictionary {
             alloc,
-            data_type: DataType::Dictionary(IntegerType::Int32, value_type, false),
+            data_type,
             keys,
             values,
         })

@@ -1,10 +1,11 @@
 //! Empty builders for the values of schemas.
 
-ghost use Rattle.std.specs.Prelude.{◌≡◌, ◌≤◌, length, map, sum_by, true, All, IfOk};
+ghost use Rattle.std.specs.Prelude.{◌≡◌, ◌≤◌, [], length, map, sum_by, true, All, IfOk};
 ghost use Rattle.arrow_core.specs.Errors.{OnlyOutOfMemory};
 ghost use Rattle.arrow_types.specs.declared.physical.PhysicalType.TheVariants.{List as ListKind, LargeList as LargeListKind};
 ghost use Rattle.arrow_types.specs.declared.slot.Slot.TheVariants.{String as StringSlot};
 ghost use Rattle.arrow_types.specs.Layouts.{physical_type};
+ghost use Rattle.arrow_array.specs.Parts.{IsPlain};
 ghost use Rattle.arrow_builders.specs.Children.{fields_of};
 ghost use Rattle.arrow_builders.specs.MutableArrays.{nodes};
 ghost use Rattle.arrow_builders.specs.Nodes.{IsEmpty};
@@ -22,7 +23,7 @@ use arrow_builders::{
     MutableFixedSizeBinaryArray, MutablePrimitiveArray, MutableUtf8Array,
 };
 use arrow_core::{Error, Result, Text};
-use arrow_types::{DataType, Field, IntervalUnit};
+use arrow_types::{DataType, Field, IntervalUnit, NativeType};
 use avro_infer::is_null;
 use avro_schema::{AvroField, AvroSchema};
 use std::alloc::Global;
@@ -190,6 +191,17 @@ fn symbol_strings(alloc: Global, symbols: &[Text]) -> Result<Utf8Array<i32>>
     strings.as_box()
 }
 
+/// An empty builder of values of one size, of this type.
+fn primitive<T: NativeType>(alloc: Global, data_type: &DataType) -> Result<MutablePrimitiveArray<T>>
+    requires { IsPlain T.PRIMITIVE data_type.now }
+    ensures data_type { IfOk result (λ b. b.data_type ≡ data_type.now) }
+    ensures slots { IfOk result (λ b. b.slots ≡ []) }
+    ensures memory { OnlyOutOfMemory result }
+{
+    let values = MutablePrimitiveArray::<T>::with_capacity(alloc, 0)?;
+    Ok(values.to(data_type.try_clone(alloc)?))
+}
+
 /// An empty builder of the type of a flat value that is no enum's.
 #[tactic(auto, using(crate::proofs::NewBuilders::new_empties))]
 fn make_flat(alloc: Global, data_type: &DataType) -> Result<MutableArray>
@@ -204,12 +216,10 @@ fn make_flat(alloc: Global, data_type: &DataType) -> Result<MutableArray>
             Ok(MutableArray::Boolean(values))
         }
         DataType::Int32 | DataType::Date32 | DataType::Time32(_) => {
-            let values = MutablePrimitiveArray::with_capacity(alloc, 0)?;
-            Ok(MutableArray::Int32(values.to(data_type.try_clone(alloc)?)))
+            Ok(MutableArray::Int32(primitive(alloc, data_type)?))
         }
         DataType::Int64 | DataType::Time64(_) | DataType::Timestamp(_, _) => {
-            let values = MutablePrimitiveArray::with_capacity(alloc, 0)?;
-            Ok(MutableArray::Int64(values.to(data_type.try_clone(alloc)?)))
+            Ok(MutableArray::Int64(primitive(alloc, data_type)?))
         }
         DataType::Utf8 => {
             let values = MutableUtf8Array::with_capacity(alloc, 0)?;
@@ -227,10 +237,7 @@ fn make_flat(alloc: Global, data_type: &DataType) -> Result<MutableArray>
             let values = MutableBinaryArray::with_capacity(alloc, 0)?;
             Ok(MutableArray::LargeBinary(values))
         }
-        DataType::Decimal(_, _) => {
-            let values = MutablePrimitiveArray::with_capacity(alloc, 0)?;
-            Ok(MutableArray::Int128(values.to(data_type.try_clone(alloc)?)))
-        }
+        DataType::Decimal(_, _) => { Ok(MutableArray::Int128(primitive(alloc, data_type)?)) }
         DataType::Interval(IntervalUnit::MonthDayNano) => {
             let values = MutablePrimitiveArray::with_capacity(alloc, 0)?;
             Ok(MutableArray::MonthDayNano(values))

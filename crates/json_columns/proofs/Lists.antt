@@ -1,5 +1,5 @@
 -- Arrays whose parts fit together.
-use Rattle.std.proofs.Common.{◌≡◌, inl, inr, ap, ◌∙◌, sym, subst, Bool, false, cond, ℕ, zero, suc, ◌+◌, ◌-◌, ◌<◌, ◌≤◌, List, [], ◌∷◌, map, length, take, drop, slice_index_or, Option, Some, None, ℤ, pos, refl, arith, zero-add, add-one}
+use Rattle.std.proofs.Common.{◌≡◌, inl, inr, ap, ◌∙◌, sym, subst, Bool, false, cond, ℕ, suc, ◌+◌, ◌-◌, ◌<◌, ◌≤◌, List, [], ◌∷◌, map, length, take, drop, slice_index_or, Option, Some, None, ℤ, pos, refl, arith, zero-add}
 use Rattle.std.specs.Option.{is_some}
 use Rattle.std.specs.List.{range_with_len}
 use Rattle.std.proofs.lemmas.List.{length-map}
@@ -9,7 +9,7 @@ use Rattle.arrow_types.specs.declared.types.DataType.{DataType}
 use Rattle.arrow_bitmap.specs.Bits.{Packed}
 use Rattle.arrow_array.specs.Arrays.{array_slots}
 use Rattle.arrow_array.specs.Lists.{IsListOf, ListFits, list_at}
-use Rattle.arrow_array.specs.Offsets.{offset_at, IsWithin, IsNotAbove, IsOffsets}
+use Rattle.arrow_array.specs.Offsets.{IsOffsets}
 use Rattle.arrow_array.specs.Parts.{IsRefusalOf}
 use Rattle.arrow_array.specs.Slots.{slots_of}
 use Rattle.arrow_core.specs.declared.error.Error.{Error}

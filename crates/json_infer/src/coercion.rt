@@ -5,7 +5,8 @@ ghost use Rattle.json_infer.specs.Coercion.{are_both, coerce, flat, pair};
 ghost use Rattle.json_infer.specs.Columns.{coerced_columns as coerced_columns_of};
 ghost use Rattle.json_infer.specs.Lists.{distinct};
 ghost use Rattle.json_infer.specs.Parts.{item_of, list_of, nullable, same, sizes};
-ghost use Rattle.json_infer.specs.Seen.{are_two as are_two_of, result_of};
+ghost use Rattle.json_infer.specs.Seen.{are_two as are_two_of, result_of, seen_after};
+ghost use Rattle.json_infer.specs.declared.seen.Seen.TheVariants as variants;
 
 use crate::columns::Columns;
 use crate::parts::{are_same, item, list_type};
@@ -27,16 +28,26 @@ use std::alloc::Global;
 /// 8. Utf8.
 ///
 /// The item of a List is named `item` and nullable. `OutOfMemory` alone.
-#[tactic(auto, using(crate::proofs::Repeated::coerced_repeats, crate::proofs::Repeated::coerced_result))]
 pub fn coerce_data_type(alloc: Global, datatypes: &[DataType]) -> Result<DataType>
     ensures coerced { IfOk result (λ t. t ≡ coerce datatypes.now) }
     ensures memory { OnlyOutOfMemory result }
 {
     let seen = Seen::of(alloc, datatypes)?;
-    if repeats_two(&seen, datatypes.len()) {
+    coerced_of(alloc, &seen, datatypes)
+}
+
+// The coercion of types of which this is kept. What is kept is dropped by the caller, so that there
+// is one drop.
+#[tactic(auto, using(crate::proofs::Repeated::coerced_repeats, crate::proofs::Repeated::coerced_result))]
+fn coerced_of(alloc: Global, seen: &Seen, datatypes: &[DataType]) -> Result<DataType>
+    requires kept { seen.now ≡ seen_after variants.Nothing datatypes.now }
+    ensures coerced { IfOk result (λ t. t ≡ coerce datatypes.now) }
+    ensures memory { OnlyOutOfMemory result }
+{
+    if repeats_two(seen, datatypes.len()) {
         return Ok(DataType::Utf8);
     }
-    coerced(alloc, &seen)
+    coerced(alloc, seen)
 }
 
 // Whether more than two types came of which just two are distinct, and these aren't both Structs.
@@ -100,9 +111,28 @@ fn coerced_pair(alloc: Global, one: &DataType, other: &DataType) -> Result<DataT
     let Some(items) = inner_pair(one, other) else {
         return Ok(flat_type(one, other));
     };
-    let seen = Seen::of_pair(alloc, items.0, items.1)?;
-    let inner = coerced(alloc, &seen)?;
+    let inner = coerced_both(alloc, items.0, items.1)?;
     list_type(alloc, inner)
+}
+
+// The coercion of two types. What is kept of them is dropped here alone.
+#[cycle(coerced)]
+fn coerced_both(alloc: Global, one: &DataType, other: &DataType) -> Result<DataType>
+    ensures coerced { IfOk result (λ t. t ≡ coerce (one.now ∷ other.now ∷ [])) }
+    ensures memory { OnlyOutOfMemory result }
+{
+    let seen = Seen::of_pair(alloc, one, other)?;
+    coerced(alloc, &seen)
+}
+
+// The coercion of the distinct types among these. What is kept of them is dropped here alone.
+#[cycle(coerced)]
+fn coerced_distinct(alloc: Global, types: &[DataType]) -> Result<DataType>
+    ensures coerced { IfOk result (λ t. t ≡ coerce (distinct same types.now)) }
+    ensures memory { OnlyOutOfMemory result }
+{
+    let seen = Seen::of(alloc, types)?;
+    coerced(alloc, &seen)
 }
 
 // A field of this name for values of several types.
@@ -112,9 +142,8 @@ fn coerced_field(alloc: Global, name: &Text, types: &[DataType]) -> Result<Field
         (λ f. f ≡ nullable name.now (coerce (distinct same types.now))) }
     ensures memory { OnlyOutOfMemory result }
 {
-    let seen = Seen::of(alloc, types)?;
-    let data_type = coerced(alloc, &seen)?;
     let name = name.try_clone(alloc)?;
+    let data_type = coerced_distinct(alloc, types)?;
     Ok(Field::new(alloc, name, data_type, true))
 }
 

@@ -81,10 +81,10 @@ impl Seen {
             (λ s. s ≡ seen_after seen.Nothing (one.now ∷ other.now ∷ [])) }
         ensures memory { OnlyOutOfMemory result }
     {
-        let mut seen = Seen::Nothing;
-        seen.add(alloc, one)?;
-        seen.add(alloc, other)?;
-        Ok(seen)
+        if are_same(other, one) {
+            return Ok(Seen::One(one.try_clone(alloc)?));
+        }
+        of_both(alloc, one, other)
     }
 
     // Lets go what was kept, and keeps this. A drop looks for what the old value owns, so it

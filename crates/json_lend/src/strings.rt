@@ -1,9 +1,9 @@
 //! Strings (RFC 8259, section 7).
-ghost use Rattle.std.specs.Prelude.{◌≡◌, ◌≢◌, ◌≤◌, ◌++◌, ℕ, List, length, IfErr, MatchOption, MatchResult};
+ghost use Rattle.std.specs.Prelude.{◌≡◌, ◌≢◌, ◌≤◌, ◌++◌, ℕ, List, length, string_bytes, IfErr, MatchOption, MatchResult, OnOk};
 ghost use Rattle.std.specs.Str.{bytes_eq};
 ghost use Rattle.std.specs.Char.{encode_utf8};
 ghost use Rattle.json_tree.specs.Reading.{found, string_at};
-ghost use Rattle.json_lend.specs.Skips.{Skips};
+ghost use Rattle.json_lend.specs.Skips.{Fills, Skips};
 
 use crate::lent::EscapedString;
 use arrow_core::Text;
@@ -94,6 +94,51 @@ fn is_text<'a>(reader: &mut Reader<'a>, text: &[u8]) -> bool
     }
 }
 
+// Appends a piece. The fault is `Memory`.
+fn append(buffer: &mut String, piece: &str) -> Result<(), JsonFault>
+    ensures added { OnOk result (string_bytes buffer.new ≡ string_bytes buffer.old ++ piece.now) }
+    ensures memory { IfErr result (λ e. e ≡ JsonFault.Memory) }
+{
+    if buffer.push_str(piece).is_err() {
+        return Err(JsonFault::Memory);
+    }
+    Ok(())
+}
+
+// Appends a character. The fault is `Memory`.
+fn append_char(buffer: &mut String, c: char) -> Result<(), JsonFault>
+    ensures added { OnOk result (string_bytes buffer.new ≡ string_bytes buffer.old ++ encode_utf8 c) }
+    ensures memory { IfErr result (λ e. e ≡ JsonFault.Memory) }
+{
+    if buffer.push(c).is_err() {
+        return Err(JsonFault::Memory);
+    }
+    Ok(())
+}
+
+// Reads a string of any kind into a buffer, in place of what it held. Runs of characters that stand
+// for themselves are copied as slices.
+fn fill<'a>(reader: &mut Reader<'a>, buffer: &mut String) -> Result<(), JsonFault>
+    ensures { Fills result (string_bytes buffer.new) reader.new (string_at reader.old) }
+{
+    if !reader.takes(b'"') {
+        return Err(JsonFault::Text);
+    }
+    buffer.clear();
+    loop {
+        let run = reader.unescaped_run();
+        append(buffer, run)?;
+        if reader.takes(b'"') {
+            return Ok(());
+        }
+        if !reader.takes(b'\\') {
+            return Err(JsonFault::Text);
+        }
+        let c = escape(reader)?;
+        append_char(buffer, c)?;
+    }
+}
+
 impl<'a> EscapedString<'a> {
     /// The text that the string stands for, with a character in place of each escape. The fault is
     /// `Memory`.
@@ -102,6 +147,17 @@ impl<'a> EscapedString<'a> {
     {
         let mut reader = self.reader.again();
         escaped_string(alloc, &mut reader)
+    }
+
+    /// The same into a buffer, in place of what it held. It takes memory only where the text is
+    /// longer than the buffer's capacity. After the fault, which is `Memory`, the buffer holds
+    /// anything.
+    pub fn read_into(&self, buffer: &mut String) -> Result<(), JsonFault>
+        ensures { MatchResult result (λ _. string_bytes buffer.new ≡ self.now)
+            (λ e. e ≡ JsonFault.Memory) }
+    {
+        let mut reader = self.reader.again();
+        fill(&mut reader, buffer)
     }
 
     /// Whether the string stands for this text. That takes no memory.

@@ -30,6 +30,8 @@ pub struct LineBuilders {
     names: Vec<Name>,
     below: Vec<FieldNames>,
     builders: Vec<MutableArray>,
+    // what a string with escapes is read into
+    buffer: String,
 }
 
 impl Model for LineBuilders {
@@ -76,9 +78,10 @@ fn box_all(alloc: Global, builders: &mut [MutableArray]) -> std::result::Result<
 }
 
 /// The columns of the lines' members, by the names and the builders of their fields. `below` are the
-/// names beneath each.
+/// names beneath each. `buffer` takes the text of each string that has escapes, one after another.
 fn read_all(
     alloc: Global,
+    buffer: &mut String,
     lines: &[Text],
     names: &[Name],
     below: &[FieldNames],
@@ -90,7 +93,7 @@ fn read_all(
         → IfOk result (λ columns. AreColumnsOf fields lines.now columns.items) }
 {
     clear_all(builders);
-    push_lines(alloc, lines, names, below, builders)?;
+    push_lines(buffer, lines, names, below, builders)?;
     let columns = box_all(alloc, builders)?;
     Ok(columns)
 }
@@ -115,6 +118,7 @@ impl LineBuilders {
             names,
             below,
             builders,
+            buffer: String::new(alloc),
         }))
     }
 
@@ -131,7 +135,14 @@ impl LineBuilders {
     {
         let names = self.names.as_slice();
         let below = self.below.as_slice();
-        let columns = read_all(self.alloc, lines, names, below, &mut self.builders)?;
+        let columns = read_all(
+            self.alloc,
+            &mut self.buffer,
+            lines,
+            names,
+            below,
+            &mut self.builders,
+        )?;
         Ok(columns)
     }
 }

@@ -10,7 +10,6 @@ use crate::given_up::GivenUp;
 use arrow_builders::{Content, MutableBinaryArray, MutableContentArray, MutableUtf8Array};
 use arrow_types::Offset;
 use json_lend::{EscapedString, Lent};
-use std::alloc::Global;
 
 #[inline(always)]
 fn push_str<O: Offset>(builder: &mut MutableUtf8Array<O>, value: &str) -> Result<(), GivenUp>
@@ -22,10 +21,10 @@ fn push_str<O: Offset>(builder: &mut MutableUtf8Array<O>, value: &str) -> Result
     Ok(())
 }
 
-// A string that has escapes, after a call, since few have.
+// A string that has escapes, after a call, since few have. `buffer` takes its text.
 #[inline(never)]
 fn push_escaped<'a, O: Offset>(
-    alloc: Global,
+    buffer: &mut String,
     builder: &mut MutableUtf8Array<O>,
     string: &EscapedString<'a>,
 ) -> Result<(), GivenUp>
@@ -33,8 +32,8 @@ fn push_escaped<'a, O: Offset>(
     ensures ok { OnOk result
         (builder.new.slots ≡ builder.old.slots ++ StringSlot string.now ∷ []) }
 {
-    match string.to_text(alloc) {
-        Ok(text) => push_str(builder, text.as_str()),
+    match string.read_into(buffer) {
+        Ok(()) => push_str(builder, buffer.as_str()),
         Err(_) => Err(GivenUp),
     }
 }
@@ -61,7 +60,7 @@ fn boolean_text(boolean: bool) -> &'static str
 /// null, an array and an object. A number with an exponent is given up.
 #[inline(always)]
 pub(crate) fn push_text<'a, O: Offset>(
-    alloc: Global,
+    buffer: &mut String,
     builder: &mut MutableUtf8Array<O>,
     lent: &Lent<'a>,
 ) -> Result<(), GivenUp>
@@ -71,7 +70,7 @@ pub(crate) fn push_text<'a, O: Offset>(
 {
     match lent {
         Lent::String(text) => push_str(builder, text),
-        Lent::Escaped(string) => push_escaped(alloc, builder, string),
+        Lent::Escaped(string) => push_escaped(buffer, builder, string),
         Lent::Number(mantissa, exponent) => {
             if exponent.is_empty() {
                 return push_str(builder, mantissa);
@@ -93,10 +92,10 @@ fn push_slice<O: Offset>(builder: &mut MutableBinaryArray<O>, value: &[u8]) -> R
     Ok(())
 }
 
-// The bytes of a string that has escapes, after a call, since few have.
+// The bytes of a string that has escapes, after a call, since few have. `buffer` takes its text.
 #[inline(never)]
 fn push_escaped_bytes<'a, O: Offset>(
-    alloc: Global,
+    buffer: &mut String,
     builder: &mut MutableBinaryArray<O>,
     string: &EscapedString<'a>,
 ) -> Result<(), GivenUp>
@@ -104,8 +103,8 @@ fn push_escaped_bytes<'a, O: Offset>(
     ensures ok { OnOk result
         (builder.new.slots ≡ builder.old.slots ++ BinarySlot string.now ∷ []) }
 {
-    match string.to_text(alloc) {
-        Ok(text) => push_slice(builder, text.as_str().as_bytes()),
+    match string.read_into(buffer) {
+        Ok(()) => push_slice(builder, buffer.as_str().as_bytes()),
         Err(_) => Err(GivenUp),
     }
 }
@@ -113,7 +112,7 @@ fn push_escaped_bytes<'a, O: Offset>(
 /// Appends the bytes of a string, and a null for any other value.
 #[inline(always)]
 pub(crate) fn push_bytes<'a, O: Offset>(
-    alloc: Global,
+    buffer: &mut String,
     builder: &mut MutableBinaryArray<O>,
     lent: &Lent<'a>,
 ) -> Result<(), GivenUp>
@@ -123,7 +122,7 @@ pub(crate) fn push_bytes<'a, O: Offset>(
 {
     match lent {
         Lent::String(text) => push_slice(builder, text.as_bytes()),
-        Lent::Escaped(string) => push_escaped_bytes(alloc, builder, string),
+        Lent::Escaped(string) => push_escaped_bytes(buffer, builder, string),
         _ => push_missing(builder),
     }
 }

@@ -13,12 +13,11 @@ use crate::flat::push_flat;
 use crate::given_up::GivenUp;
 use arrow_builders::{DynMutableStructArray, MutableArray};
 use json_lend::Lent;
-use std::alloc::Global;
 
 // Appends what null means under the builder's type. `names` are those of the type.
 #[inline(never)]
 fn push_missing(
-    alloc: Global,
+    buffer: &mut String,
     names: &FieldNames,
     builder: &mut MutableArray,
 ) -> Result<(), GivenUp>
@@ -29,7 +28,7 @@ fn push_missing(
     ensures ok { OnOk result (Takes null builder.old builder.new) }
 {
     match names {
-        FieldNames::Flat => push_flat(alloc, builder, &Lent::Null),
+        FieldNames::Flat => push_flat(buffer, builder, &Lent::Null),
         FieldNames::Items(_) => push_null(builder),
         FieldNames::Sized(_, _) => push_null(builder),
         FieldNames::Fields(_, _) => push_null(builder),
@@ -39,7 +38,7 @@ fn push_missing(
 // The same, where the builder has `count` slots. Where it has others, it stays.
 #[inline(always)]
 fn fill(
-    alloc: Global,
+    buffer: &mut String,
     names: &FieldNames,
     builder: &mut MutableArray,
     count: usize,
@@ -52,13 +51,13 @@ fn fill(
     if builder.len() != count {
         return Ok(());
     }
-    push_missing(alloc, names, builder)
+    push_missing(buffer, names, builder)
 }
 
 /// Appends what null means to each builder that has `count` slots.
 #[inline(always)]
 pub(crate) fn fill_columns(
-    alloc: Global,
+    buffer: &mut String,
     below: &[FieldNames],
     builders: &mut [MutableArray],
     count: usize,
@@ -69,7 +68,7 @@ pub(crate) fn fill_columns(
     ensures ok { OnOk result (AllZip (Fills count) builders.old builders.new) }
 {
     for i in 0..builders.len() {
-        fill(alloc, &below[i], &mut builders[i], count)?;
+        fill(buffer, &below[i], &mut builders[i], count)?;
     }
     Ok(())
 }
@@ -77,7 +76,7 @@ pub(crate) fn fill_columns(
 /// The same of the children of a builder of structs.
 #[inline(always)]
 pub(crate) fn fill_fields(
-    alloc: Global,
+    buffer: &mut String,
     below: &[FieldNames],
     structs: &mut DynMutableStructArray,
     count: usize,
@@ -90,7 +89,7 @@ pub(crate) fn fill_fields(
         (AllZip (Fills count) structs.old.values.items structs.new.values.items) }
 {
     for i in 0..below.len() {
-        fill(alloc, &below[i], structs.mut_values(i), count)?;
+        fill(buffer, &below[i], structs.mut_values(i), count)?;
     }
     Ok(())
 }

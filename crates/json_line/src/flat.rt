@@ -7,7 +7,6 @@ use crate::given_up::GivenUp;
 use crate::plain::{push_as_null, push_boolean, push_int64, push_integer};
 use arrow_builders::MutableArray;
 use json_lend::Lent;
-use std::alloc::Global;
 
 /// Appends the slot that a value means under the builder's type, to a builder without children.
 ///
@@ -15,7 +14,7 @@ use std::alloc::Global;
 /// another kind, where the value doesn't fit it, and where there is no memory.
 #[inline(always)]
 pub(crate) fn push_flat<'a>(
-    alloc: Global,
+    buffer: &mut String,
     builder: &mut MutableArray,
     lent: &Lent<'a>,
 ) -> Result<(), GivenUp>
@@ -32,10 +31,10 @@ pub(crate) fn push_flat<'a>(
         MutableArray::UInt16(integers) => push_integer(integers, lent),
         MutableArray::UInt32(integers) => push_integer(integers, lent),
         MutableArray::UInt64(integers) => push_integer(integers, lent),
-        MutableArray::Utf8(strings) => push_text(alloc, strings, lent),
-        MutableArray::LargeUtf8(strings) => push_text(alloc, strings, lent),
-        MutableArray::Binary(values) => push_bytes(alloc, values, lent),
-        MutableArray::LargeBinary(values) => push_bytes(alloc, values, lent),
+        MutableArray::Utf8(strings) => push_text(buffer, strings, lent),
+        MutableArray::LargeUtf8(strings) => push_text(buffer, strings, lent),
+        MutableArray::Binary(values) => push_bytes(buffer, values, lent),
+        MutableArray::LargeBinary(values) => push_bytes(buffer, values, lent),
         _ => Err(GivenUp),
     }
 }

@@ -18,12 +18,11 @@ use arrow_core::Text;
 use json_lend::{Name, read_name, skip_value};
 use json_tree::grammar::{closes, goes_on};
 use json_tree::reader::Reader;
-use std::alloc::Global;
 
 // A member's value, to the builder at the index, or skipped where there is no index.
 #[inline(always)]
 fn read_column<'a>(
-    alloc: Global,
+    buffer: &mut String,
     reader: &mut Reader<'a>,
     depth: usize,
     at: Option<usize>,
@@ -40,7 +39,7 @@ fn read_column<'a>(
         (ReadsMember depth count at reader.old reader.new builders.old builders.new) }
 {
     match at {
-        Some(i) => push_once(alloc, reader, depth, &below[i], &mut builders[i], count),
+        Some(i) => push_once(buffer, reader, depth, &below[i], &mut builders[i], count),
         None => {
             skip_value(reader, depth)?;
             Ok(())
@@ -51,7 +50,7 @@ fn read_column<'a>(
 // Each member, one after another, and the closing bracket. A builder whose name is no key stays.
 #[inline(always)]
 fn read_columns<'a>(
-    alloc: Global,
+    buffer: &mut String,
     reader: &mut Reader<'a>,
     depth: usize,
     names: &[Name],
@@ -74,7 +73,7 @@ fn read_columns<'a>(
     let mut guess = 0;
     loop {
         let at = read_name(reader, names, guess)?;
-        read_column(alloc, reader, depth, at, below, builders, count)?;
+        read_column(buffer, reader, depth, at, below, builders, count)?;
         if let Some(i) = at {
             guess = i + 1;
         }
@@ -89,7 +88,7 @@ fn read_columns<'a>(
 /// `below` are the names beneath each. After `GivenUp` the builders have any slots.
 #[inline(always)]
 fn push_line(
-    alloc: Global,
+    buffer: &mut String,
     line: &str,
     names: &[Name],
     below: &[FieldNames],
@@ -110,8 +109,8 @@ fn push_line(
     if !reader.takes(b'{') {
         return Err(GivenUp);
     }
-    read_columns(alloc, &mut reader, 127, names, below, builders, count)?;
-    fill_columns(alloc, below, builders, count)?;
+    read_columns(buffer, &mut reader, 127, names, below, builders, count)?;
+    fill_columns(buffer, below, builders, count)?;
     reader.skip_spaces();
     match reader.peek() {
         None => Ok(()),
@@ -122,7 +121,7 @@ fn push_line(
 /// Reads lines that are objects into empty builders, one for each name: each takes for each line the
 /// slot that the value of its name means. After `GivenUp` the builders have any slots.
 pub(crate) fn push_lines(
-    alloc: Global,
+    buffer: &mut String,
     lines: &[Text],
     names: &[Name],
     below: &[FieldNames],
@@ -137,7 +136,7 @@ pub(crate) fn push_lines(
         × TakesRows names.now rows builders.old builders.new) }
 {
     for i in 0..lines.len() {
-        push_line(alloc, lines[i].as_str(), names, below, builders, i)?;
+        push_line(buffer, lines[i].as_str(), names, below, builders, i)?;
     }
     Ok(())
 }

@@ -22,7 +22,6 @@ use arrow_builders::{
 use json_lend::{Name, read_name, skip_value};
 use json_tree::grammar::{closes, goes_on};
 use json_tree::reader::Reader;
-use std::alloc::Global;
 
 // Whether this bracket is next and may be opened. Then it is passed.
 #[inline(always)]
@@ -35,7 +34,7 @@ fn opens<'a>(reader: &mut Reader<'a>, bracket: u8, depth: usize) -> bool
 
 // Reads the value that is next, in which at most `depth` brackets are open at once, and appends the
 // slot that it means under the builder's type, with what stands beneath. `names` are those of the
-// type.
+// type. `buffer` takes the text of each string that has escapes.
 //
 // `GivenUp` may come at any time, and then the builder has any slots: where no value stands there,
 // where it doesn't fit the builder, where a key stands twice in an object, and where there is no
@@ -43,7 +42,7 @@ fn opens<'a>(reader: &mut Reader<'a>, bracket: u8, depth: usize) -> bool
 #[cycle(push)]
 #[inline(always)]
 fn push_value<'a>(
-    alloc: Global,
+    buffer: &mut String,
     reader: &mut Reader<'a>,
     depth: usize,
     names: &FieldNames,
@@ -58,23 +57,23 @@ fn push_value<'a>(
         (ReadsInto (value_at depth) reader.old reader.new builder.old builder.new) }
 {
     match names {
-        FieldNames::Flat => push_single(alloc, reader, depth, builder),
+        FieldNames::Flat => push_single(buffer, reader, depth, builder),
         FieldNames::Items(item) => {
             if opens(reader, b'[', depth) {
-                return push_array(alloc, reader, depth - 1, item, builder);
+                return push_array(buffer, reader, depth - 1, item, builder);
             }
             push_no_list(reader, depth, builder)
         }
         FieldNames::Sized(size, item) => {
             if opens(reader, b'[', depth) {
-                return push_sized_array(alloc, reader, depth - 1, *size, item, builder);
+                return push_sized_array(buffer, reader, depth - 1, *size, item, builder);
             }
             push_no_list(reader, depth, builder)
         }
         FieldNames::Fields(own, below) => {
             if opens(reader, b'{', depth) {
                 let (own, below) = (own.as_slice(), below.as_slice());
-                return push_object(alloc, reader, depth - 1, own, below, builder);
+                return push_object(buffer, reader, depth - 1, own, below, builder);
             }
             push_no_struct(reader, depth, builder)
         }
@@ -86,7 +85,7 @@ fn push_value<'a>(
 #[cycle(push)]
 #[inline(always)]
 pub(crate) fn push_once<'a>(
-    alloc: Global,
+    buffer: &mut String,
     reader: &mut Reader<'a>,
     depth: usize,
     names: &FieldNames,
@@ -105,14 +104,14 @@ pub(crate) fn push_once<'a>(
     if builder.len() != count {
         return Err(GivenUp);
     }
-    push_value(alloc, reader, depth, names, builder)
+    push_value(buffer, reader, depth, names, builder)
 }
 
 // What follows the opening bracket of an array, to a builder of lists.
 #[cycle(push)]
 #[inline(always)]
 fn push_array<'a>(
-    alloc: Global,
+    buffer: &mut String,
     reader: &mut Reader<'a>,
     depth: usize,
     names: &FieldNames,
@@ -127,8 +126,8 @@ fn push_array<'a>(
         (ReadsInto (array_at (value_at depth)) reader.old reader.new builder.old builder.new) }
 {
     match builder {
-        MutableArray::List(lists) => push_list(alloc, reader, depth, names, lists),
-        MutableArray::LargeList(lists) => push_large_list(alloc, reader, depth, names, lists),
+        MutableArray::List(lists) => push_list(buffer, reader, depth, names, lists),
+        MutableArray::LargeList(lists) => push_large_list(buffer, reader, depth, names, lists),
         _ => Err(GivenUp),
     }
 }
@@ -137,7 +136,7 @@ fn push_array<'a>(
 #[cycle(push)]
 #[inline(never)]
 fn push_list<'a>(
-    alloc: Global,
+    buffer: &mut String,
     reader: &mut Reader<'a>,
     depth: usize,
     names: &FieldNames,
@@ -151,7 +150,7 @@ fn push_list<'a>(
     ensures ok { OnOk result (ReadsInto (array_at (value_at depth)) reader.old reader.new
         (List lists.old) (List lists.new)) }
 {
-    push_items(alloc, reader, depth, names, lists.mut_values())?;
+    push_items(buffer, reader, depth, names, lists.mut_values())?;
     end_list(lists)
 }
 
@@ -159,7 +158,7 @@ fn push_list<'a>(
 #[cycle(push)]
 #[inline(never)]
 fn push_large_list<'a>(
-    alloc: Global,
+    buffer: &mut String,
     reader: &mut Reader<'a>,
     depth: usize,
     names: &FieldNames,
@@ -173,7 +172,7 @@ fn push_large_list<'a>(
     ensures ok { OnOk result (ReadsInto (array_at (value_at depth)) reader.old reader.new
         (LargeList lists.old) (LargeList lists.new)) }
 {
-    push_items(alloc, reader, depth, names, lists.mut_values())?;
+    push_items(buffer, reader, depth, names, lists.mut_values())?;
     end_large_list(lists)
 }
 
@@ -181,7 +180,7 @@ fn push_large_list<'a>(
 #[cycle(push)]
 #[inline(never)]
 fn push_sized_array<'a>(
-    alloc: Global,
+    buffer: &mut String,
     reader: &mut Reader<'a>,
     depth: usize,
     size: usize,
@@ -198,7 +197,7 @@ fn push_sized_array<'a>(
 {
     match builder {
         MutableArray::FixedSizeList(lists) => {
-            push_sized_list(alloc, reader, depth, size, names, lists)
+            push_sized_list(buffer, reader, depth, size, names, lists)
         }
         _ => Err(GivenUp),
     }
@@ -208,7 +207,7 @@ fn push_sized_array<'a>(
 #[cycle(push)]
 #[inline(always)]
 fn push_sized_list<'a>(
-    alloc: Global,
+    buffer: &mut String,
     reader: &mut Reader<'a>,
     depth: usize,
     size: usize,
@@ -224,7 +223,7 @@ fn push_sized_list<'a>(
     ensures ok { OnOk result (ReadsInto (array_at (value_at depth)) reader.old reader.new
         (FixedSizeList lists.old) (FixedSizeList lists.new)) }
 {
-    push_sized_items(alloc, reader, depth, size, names, lists.mut_values())?;
+    push_sized_items(buffer, reader, depth, size, names, lists.mut_values())?;
     end_sized_list(lists)
 }
 
@@ -240,7 +239,7 @@ fn are_more_by(size: usize, before: usize, after: usize) -> bool
 // took them, and so it is given up.
 #[cycle(push)]
 fn push_sized_items<'a>(
-    alloc: Global,
+    buffer: &mut String,
     reader: &mut Reader<'a>,
     depth: usize,
     size: usize,
@@ -257,7 +256,7 @@ fn push_sized_items<'a>(
         (length (builder_slots builder.new) ≡ length (builder_slots builder.old) + size) }
 {
     let before = builder.len();
-    push_items(alloc, reader, depth, names, builder)?;
+    push_items(buffer, reader, depth, names, builder)?;
     if !are_more_by(size, before, builder.len()) {
         return Err(GivenUp);
     }
@@ -267,7 +266,7 @@ fn push_sized_items<'a>(
 // Each item, one after another, and the closing bracket.
 #[cycle(push)]
 fn push_items<'a>(
-    alloc: Global,
+    buffer: &mut String,
     reader: &mut Reader<'a>,
     depth: usize,
     names: &FieldNames,
@@ -285,7 +284,7 @@ fn push_items<'a>(
     }
     loop {
         reader.skip_spaces();
-        push_value(alloc, reader, depth, names, builder)?;
+        push_value(buffer, reader, depth, names, builder)?;
         if !goes_on(reader, b']')? {
             return Ok(());
         }
@@ -296,7 +295,7 @@ fn push_items<'a>(
 #[cycle(push)]
 #[inline(always)]
 fn push_object<'a>(
-    alloc: Global,
+    buffer: &mut String,
     reader: &mut Reader<'a>,
     depth: usize,
     own: &[Name],
@@ -314,7 +313,7 @@ fn push_object<'a>(
     let count = builder.len();
     match builder {
         MutableArray::Struct(structs) => {
-            push_struct(alloc, reader, depth, own, below, structs, count)
+            push_struct(buffer, reader, depth, own, below, structs, count)
         }
         _ => Err(GivenUp),
     }
@@ -325,7 +324,7 @@ fn push_object<'a>(
 #[cycle(push)]
 #[inline(never)]
 fn push_struct<'a>(
-    alloc: Global,
+    buffer: &mut String,
     reader: &mut Reader<'a>,
     depth: usize,
     own: &[Name],
@@ -347,8 +346,8 @@ fn push_struct<'a>(
     if own.len() != below.len() {
         return Err(GivenUp);
     }
-    read_fields(alloc, reader, depth, own, below, structs, count)?;
-    fill_fields(alloc, below, structs, count)?;
+    read_fields(buffer, reader, depth, own, below, structs, count)?;
+    fill_fields(buffer, below, structs, count)?;
     end_struct(structs)
 }
 
@@ -356,7 +355,7 @@ fn push_struct<'a>(
 #[cycle(push)]
 #[inline(always)]
 fn read_fields<'a>(
-    alloc: Global,
+    buffer: &mut String,
     reader: &mut Reader<'a>,
     depth: usize,
     own: &[Name],
@@ -380,7 +379,7 @@ fn read_fields<'a>(
     let mut guess = 0;
     loop {
         let at = read_name(reader, own, guess)?;
-        read_field(alloc, reader, depth, at, below, structs, count)?;
+        read_field(buffer, reader, depth, at, below, structs, count)?;
         if let Some(i) = at {
             guess = i + 1;
         }
@@ -394,7 +393,7 @@ fn read_fields<'a>(
 #[cycle(push)]
 #[inline(always)]
 fn read_field<'a>(
-    alloc: Global,
+    buffer: &mut String,
     reader: &mut Reader<'a>,
     depth: usize,
     at: Option<usize>,
@@ -413,7 +412,7 @@ fn read_field<'a>(
 {
     match at {
         Some(i) => push_once(
-            alloc,
+            buffer,
             reader,
             depth,
             &below[i],

@@ -12,12 +12,11 @@ use crate::given_up::GivenUp;
 use arrow_builders::MutableArray;
 use json_lend::{Lent, lend};
 use json_tree::reader::Reader;
-use std::alloc::Global;
 
 /// Reads a value, to a builder without children.
 #[inline(always)]
 pub(crate) fn push_single<'a>(
-    alloc: Global,
+    buffer: &mut String,
     reader: &mut Reader<'a>,
     depth: usize,
     builder: &mut MutableArray,
@@ -29,7 +28,7 @@ pub(crate) fn push_single<'a>(
         (ReadsInto (value_at depth) reader.old reader.new builder.old builder.new) }
 {
     let lent = lend(reader, depth)?;
-    push_flat(alloc, builder, &lent)
+    push_flat(buffer, builder, &lent)
 }
 
 /// Reads a value, to a builder of lists, which takes a null. An array is given up.

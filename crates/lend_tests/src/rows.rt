@@ -112,13 +112,22 @@ fn is_number(value: &Lent<'_>, mantissa: &str, exponent: &str) -> bool {
     }
 }
 
+// Whether it is a string with escapes that stands for this text, which takes the place of what a
+// buffer held.
 fn is_decoded(alloc: Global, value: &Lent<'_>, wanted: &str) -> bool {
-    match value {
-        Lent::Escaped(string) => match string.to_text(alloc) {
-            Ok(text) => text.as_str() == wanted && string.is(wanted),
-            Err(_) => false,
-        },
-        _ => false,
+    let Lent::Escaped(string) = value else {
+        return false;
+    };
+    let mut buffer = String::new(alloc);
+    if buffer.push_str("another text, and longer").is_err() {
+        return false;
+    }
+    if string.read_into(&mut buffer).is_err() || buffer.as_str() != wanted {
+        return false;
+    }
+    match string.to_text(alloc) {
+        Ok(text) => text.as_str() == wanted && string.is(wanted),
+        Err(_) => false,
     }
 }
 

@@ -26,15 +26,15 @@ fn members_are_read_by_name(rt: HostRuntime) {
     );
     let wanted: [&[u8]; 3] = [b"true,null", b"255,null", b"\"x\\n\",\"-1.50\""];
     assert!(rt; has_texts(&rt, alloc, columns, wanted));
-    // Other lines, by builders that were used.
+    // Other lines, by builders that were used, and a string with escapes by a buffer that was.
     let columns = read(
         &rt,
         alloc,
         &mut kept,
         "{}",
-        "{\"a\":false,\"b\":1,\"c\":\"\"}",
+        "{\"a\":false,\"b\":1,\"c\":\"\\t\"}",
     );
-    let wanted: [&[u8]; 3] = [b"null,false", b"null,1", b"null,\"\""];
+    let wanted: [&[u8]; 3] = [b"null,false", b"null,1", b"null,\"\\t\""];
     assert!(rt; has_texts(&rt, alloc, columns, wanted));
 }
 

@@ -20,27 +20,37 @@ coerced_columns-loop-index-preserved t c =
     column_more c.args.columns.now c.loop-index.index (c.at.result.0.now, c.at.result.1.now) c.loop-index.fields.items c.push.new.self.items c.in_ok-field.field
     c.at.ensures c.loop-index.invariant c.in_ok-field.ensures.field (search rules)
 
-pub coerced_field-coerced-requires : goal.coerced_field-coerced-requires
-coerced_field-coerced-requires t c =
+pub coerced_distinct-coerced-requires : goal.coerced_distinct-coerced-requires
+coerced_distinct-coerced-requires t c =
     let e : seen_size c.in_ok-seen.seen ≡ seen_size (seen_after seen.Nothing c.args.types.now) = ap seen_size c.in_ok-seen.ensures.kept in
     let fits = seen_fits c.args.types.now in
     (omega (arith, e, fits), tt)
 
+pub coerced_distinct-returns-clause-coerced : goal.coerced_distinct-returns-clause-coerced
+coerced_distinct-returns-clause-coerced t c =
+    IfOk-weaker c.coerced.result _ _ (λ v h. h ∙ ap result_of c.in_ok-seen.ensures.kept ∙ sym (one_at_a_time c.args.types.now)) c.coerced.ensures.coerced
+
 pub coerced_field-returns-clause-field : goal.coerced_field-returns-clause-field
 coerced_field-returns-clause-field t c =
-    let d : c.in_ok-data_type.data_type ≡ coerce (distinct same c.args.types.now) = c.in_ok-data_type.ensures.coerced ∙ ap result_of c.in_ok-seen.ensures.kept ∙ sym (one_at_a_time c.args.types.now) in
+    let d : c.in_ok-data_type.data_type ≡ coerce (distinct same c.args.types.now) = c.in_ok-data_type.ensures.coerced in
     let n : c.in_ok-name.name ≡ c.args.name.now = c.in_ok-name.ensures.copy in
     c.new.ensures ∙ λ i. nullable (n i) (d i)
 
-pub coerced_pair-coerced-requires : goal.coerced_pair-coerced-requires
-coerced_pair-coerced-requires t c =
-    let e : seen_size c.in_ok-seen.seen ≡ seen_size (seen_after seen.Nothing (c.in-Some.items.0.now ∷ c.in-Some.items.1.now ∷ [])) = ap seen_size c.in_ok-seen.ensures.kept in
-    let fits = seen_fits (c.in-Some.items.0.now ∷ c.in-Some.items.1.now ∷ []) in
+pub coerced_both-coerced-requires : goal.coerced_both-coerced-requires
+coerced_both-coerced-requires t c =
+    let e : seen_size c.in_ok-seen.seen ≡ seen_size (seen_after seen.Nothing (c.args.one.now ∷ c.args.other.now ∷ [])) = ap seen_size c.in_ok-seen.ensures.kept in
+    let fits = seen_fits (c.args.one.now ∷ c.args.other.now ∷ []) in
+    (omega (arith, e, fits), tt)
+
+pub coerced_both-returns-clause-coerced : goal.coerced_both-returns-clause-coerced
+coerced_both-returns-clause-coerced t c =
+    IfOk-weaker c.coerced.result _ _ (λ v h. h ∙ ap result_of c.in_ok-seen.ensures.kept ∙ sym (coerced_both c.args.one.now c.args.other.now)) c.coerced.ensures.coerced
+
+pub coerced_pair-coerced_both-requires : goal.coerced_pair-coerced_both-requires
+coerced_pair-coerced_both-requires t c =
     let less = c.in-Some.ensures.less in
-    (omega (arith, e, fits, less), tt)
+    (omega (arith, less), tt)
 
 pub coerced_pair-returns-clause-coerced : goal.coerced_pair-returns-clause-coerced
 coerced_pair-returns-clause-coerced t c =
-    let d : c.in_ok-inner.inner ≡ coerce (c.in-Some.items.0.now ∷ c.in-Some.items.1.now ∷ []) =
-    c.in_ok-inner.ensures.coerced ∙ ap result_of c.in_ok-seen.ensures.kept ∙ sym (coerced_both c.in-Some.items.0.now c.in-Some.items.1.now) in
-    IfOk-weaker c.list_type.result _ _ (λ v h. h ∙ ap list_of d ∙ sym c.in-Some.ensures.list) c.list_type.ensures.list
+    IfOk-weaker c.list_type.result _ _ (λ v h. h ∙ ap list_of c.in_ok-inner.ensures.coerced ∙ sym c.in-Some.ensures.list) c.list_type.ensures.list
