@@ -184,6 +184,8 @@ def build(uses, lines, waiting, running, built):
             if process.poll() is None:
                 continue
             del running[name]
+            # A folder that something made meanwhile gives way to what was proved.
+            shutil.rmtree(os.path.join(folder_of(name), "out"), ignore_errors=True)
             move_out(name, room, TOP)
             shutil.rmtree(room)
             if not is_built(name, process):
