@@ -39,7 +39,10 @@ fn are_found(alloc: Global, object: &Object) -> Result<bool> {
         let key = key.as_str();
         let last = last.as_str();
         let is_first = object.members()[i].0.as_str() == key;
-        if !is_first || !is_number(object.get(key), last) || !is_number(object.get_near(i, key), last) {
+        if !is_first
+            || !is_number(object.get(key), last)
+            || !is_number(object.get_near(i, key), last)
+        {
             return Ok(false);
         }
     }
