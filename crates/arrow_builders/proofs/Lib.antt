@@ -1,5 +1,6 @@
 pub mod Boxed
 pub mod Finds
+pub mod FixedContents
 pub mod Growth
 pub mod ListFits
 pub mod ManyNulls

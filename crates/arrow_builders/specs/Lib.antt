@@ -5,6 +5,7 @@ pub use Rattle.arrow_flat.specs.Nodes
 pub mod Calls
 pub mod Children
 pub mod Fits
+pub mod FixedContent
 pub mod Found
 pub mod Lending
 pub mod MutableArrays

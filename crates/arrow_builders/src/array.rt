@@ -11,6 +11,7 @@ ghost use Rattle.arrow_array.specs.Parts.{IsRefusalOf, is_extension};
 ghost use Rattle.arrow_flat.specs.Nodes.{NoLessSpare, Emptied, HasSpare, IsEmpty};
 ghost use Rattle.arrow_builders.specs.Calls.{PushesNull};
 ghost use Rattle.arrow_builders.specs.Fits.{ChildrenFit, TypesFit};
+ghost use Rattle.arrow_builders.specs.FixedContent.{HasFixedContent};
 ghost use Rattle.arrow_builders.specs.MutableArrays.{builder_type, builder_slots, builder_kind, nodes, lengths_of, slots_at};
 ghost use Rattle.arrow_builders.specs.Shapes.{shape, nulls_at, AllTake, AllGetNulls, AllGetBytes, FitsIn, BytesFitIn, IsFlat};
 ghost use Rattle.arrow_builders.specs.Tight.{IsTight};
@@ -134,6 +135,25 @@ impl MutableArray {
         match self.find_node(node) {
             Ok(here) => Some(here),
             Err(_) => None,
+        }
+    }
+
+    /// Law: in each builder of fixed-size binary values, this one and those at any depth beneath,
+    /// the content bytes are its slots times the width of its type. It looks at each child once,
+    /// changes nothing, and takes no memory.
+    #[cycle(contents)]
+    pub fn fixed_content_is_whole(&self)
+        ensures { HasFixedContent self.now }
+    {
+        match self {
+            MutableArray::FixedSizeBinary(builder) => {
+                let _ = builder.len();
+            }
+            MutableArray::List(builder) => builder.fixed_content_is_whole(),
+            MutableArray::LargeList(builder) => builder.fixed_content_is_whole(),
+            MutableArray::FixedSizeList(builder) => builder.fixed_content_is_whole(),
+            MutableArray::Struct(builder) => builder.fixed_content_is_whole(),
+            _ => {}
         }
     }
 

@@ -7,6 +7,7 @@ ghost use Rattle.arrow_core.specs.declared.error.Error.TheVariants.{OutOfMemory}
 ghost use Rattle.arrow_types.specs.declared.slot.Slot.TheVariants.{List as ListSlot};
 ghost use Rattle.arrow_array.specs.FixedLists.{list_size};
 ghost use Rattle.arrow_builders.specs.Calls.{Boxes, Clears, PushesNulls, Reserves};
+ghost use Rattle.arrow_builders.specs.FixedContent.{HasFixedContent};
 ghost use Rattle.arrow_builders.specs.Found.{found_at};
 ghost use Rattle.arrow_builders.specs.Lending.{LendsFixedSizeListValues};
 ghost use Rattle.arrow_builders.specs.MutableArrays.{builder_type, builder_slots, nodes};
@@ -127,6 +128,14 @@ impl MutableFixedSizeListArray {
             Ok(here) => Ok(here),
             Err(left) => self.values.find_node(left),
         }
+    }
+
+    /// The law `fixed_content_is_whole`, of the child.
+    #[cycle(contents)]
+    pub(crate) fn fixed_content_is_whole(&self)
+        ensures { HasFixedContent (FixedSizeList self.now) }
+    {
+        self.values.fixed_content_is_whole();
     }
 
     /// Appends a null, and beneath it as many nulls as a list has items.

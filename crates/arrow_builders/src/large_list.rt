@@ -7,6 +7,7 @@ ghost use Rattle.arrow_core.specs.declared.error.Error.TheVariants.{OutOfMemory,
 ghost use Rattle.arrow_types.specs.Numbers.{greatest_offset};
 ghost use Rattle.arrow_types.specs.declared.slot.Slot.TheVariants.{List as ListSlot};
 ghost use Rattle.arrow_builders.specs.Calls.{Boxes, Clears, PushesNulls, Reserves};
+ghost use Rattle.arrow_builders.specs.FixedContent.{HasFixedContent};
 ghost use Rattle.arrow_builders.specs.Found.{found_at};
 ghost use Rattle.arrow_builders.specs.Lending.{LendsLargeListValues};
 ghost use Rattle.arrow_builders.specs.MutableArrays.{builder_type, builder_slots, nodes};
@@ -119,6 +120,14 @@ impl DynMutableLargeListArray {
             Ok(here) => Ok(here),
             Err(left) => self.values.find_node(left),
         }
+    }
+
+    /// The law `fixed_content_is_whole`, of the child.
+    #[cycle(contents)]
+    pub(crate) fn fixed_content_is_whole(&self)
+        ensures { HasFixedContent (LargeList self.now) }
+    {
+        self.values.fixed_content_is_whole();
     }
 
     /// Appends a null, which has no items.

@@ -1,12 +1,13 @@
 //! A builder of structs.
 
-ghost use Rattle.std.specs.Prelude.{◌≡◌, ◌<◌, ◌≤◌, ◌++◌, ◌∷◌, [], true, length, map, get_or, vec_len, IsOk, IfOk, OnOk, OnErr};
+ghost use Rattle.std.specs.Prelude.{◌≡◌, ◌<◌, ◌≤◌, ◌++◌, ◌∷◌, [], true, length, map, get_or, vec_len, All, IsOk, IfOk, OnOk, OnErr};
 ghost use Rattle.std.specs.Borrow.{sem};
 ghost use Rattle.arrow_core.specs.Errors.{OnlyOutOfMemory};
 ghost use Rattle.arrow_core.specs.declared.error.Error.TheVariants.{OutOfMemory};
 ghost use Rattle.arrow_array.specs.Structs.{record_at};
 ghost use Rattle.arrow_builders.specs.Calls.{AllBox, AllClear, AllPushNull, AllReserve, Boxes, Clears, PushesNulls, Reserves};
 ghost use Rattle.arrow_builders.specs.Children.{all_nodes};
+ghost use Rattle.arrow_builders.specs.FixedContent.{HasFixedContent};
 ghost use Rattle.arrow_builders.specs.Found.{found_at};
 ghost use Rattle.arrow_builders.specs.Lending.{LendsField};
 ghost use Rattle.arrow_builders.specs.MutableArrays.{builder_type, builder_slots, nodes};
@@ -110,6 +111,14 @@ impl DynMutableStructArray {
         }
     }
 
+    /// The law `fixed_content_is_whole`, of each child.
+    #[cycle(contents)]
+    pub(crate) fn fixed_content_is_whole(&self)
+        ensures { HasFixedContent (Struct self.now) }
+    {
+        all_content_is_whole(self.values.as_slice());
+    }
+
     /// Appends a null, and a null to each child.
     ///
     /// After `OutOfMemory` some children may have taken one.
@@ -165,6 +174,16 @@ fn find_below(children: &[MutableArray], node: usize) -> std::result::Result<Nod
         }
     }
     Err(left)
+}
+
+/// The law `fixed_content_is_whole`, of each of several builders.
+#[cycle(contents)]
+fn all_content_is_whole(children: &[MutableArray])
+    ensures { All HasFixedContent children.now }
+{
+    for child in children {
+        child.fixed_content_is_whole();
+    }
 }
 
 /// Appends a null to each child. After `OutOfMemory` some may have taken one.
