@@ -1,5 +1,5 @@
 -- Keys and values together.
-use Rattle.std.proofs.Common.{◌≡◌, ◌∙◌, ◌⊎◌, inl, inr, ℕ, ◌<◌, List, length, refl, sym, ap, subst, Result, Ok, Err, IfOk, IfErr}
+use Rattle.std.proofs.Common.{◌≡◌, ◌∙◌, ◌⊎◌, inl, inr, ℕ, ◌<◌, ◌≤◌, List, length, refl, sym, ap, subst, Result, Ok, Err, IfOk, IfErr, OnOk}
 use Rattle.std.specs.Prelude.{sum_by, IsOk}
 use Rattle.arrow_array.specs.Dictionaries.{keys_slots, keys_type}
 use Rattle.arrow_array.specs.declared.keys.Keys.{Keys}
@@ -10,6 +10,7 @@ use Rattle.arrow_types.specs.declared.types.DataType.{DataType}
 use Rattle.arrow_types.specs.declared.types.IntegerType.{IntegerType}
 use Rattle.arrow_dictionaries.specs.Encoding.{EncodesSlots, HasTooLongStrings, HasTooManyDistinct, IsEncodingFault, string_size}
 use Rattle.arrow_dictionaries.proofs.Faults.{strings_fault, wider_fault}
+use Rattle.arrow_dictionaries.proofs.Firsts.{short_strings}
 use Rattle.arrow_dictionaries.proofs.Steps.{recoded}
 
 -- strings, once there are keys
@@ -32,6 +33,18 @@ module _ {V : Type 0} (keys : Result Keys Error) (values : Result V Error) where
   slots_are (Ok p) view slots items shown h v s k e =
       recoded slots (keys_slots p.0) (keys_slots p.0) items (view p.1) refl (subst (λ z. IfOk z (λ a. view a ≡ shown)) e v ∙ s) (subst (λ z. IfOk z (λ k. EncodesSlots slots (keys_slots k) items)) k h)
   slots_are (Err x) view slots items shown h v s k e = tt
+
+  -- what is so of keys that were made
+  pub keys_tell : (r : Result (Keys × V) Error) (P : Type 0) → OnOk keys P → IfOk r (λ p. keys ≡ Ok p.0) → OnOk r P
+  keys_tell (Ok p) P h e = subst (λ z. OnOk z P) e h
+  keys_tell (Err x) P h e = tt
+
+  pub short_enough : (r : Result (Keys × V) Error) (greatest : ℕ) (slots items shown : List Slot) → IfOk keys (λ k. EncodesSlots slots (keys_slots k) items) → OnOk values (sum_by string_size shown ≤ greatest) → shown ≡ items
+      → IfOk r (λ p. keys ≡ Ok p.0) → IfOk r (λ p. values ≡ Ok p.1) → OnOk r (HasTooLongStrings greatest slots → ⊥)
+  short_enough (Ok p) greatest slots items shown h v s k e =
+      short_strings greatest slots (keys_slots p.0) items (subst (λ z. IfOk z (λ k. EncodesSlots slots (keys_slots k) items)) k h)
+      (subst (λ z. sum_by string_size z ≤ greatest) s (subst (λ z. OnOk z (sum_by string_size shown ≤ greatest)) e v))
+  short_enough (Err x) greatest slots items shown h v s k e = tt
 
   pub primitive_fault : (r : Result (Keys × V) Error) (many : Type 0) → IfErr keys (IsEncodingFault many) → IfErr values (λ e. e ≡ OutOfMemory) → IfErr r (λ e. (keys ≡ Err e) ⊎ (IsOk keys × (values ≡ Err e))) → IfErr r (IsEncodingFault many)
   primitive_fault (Ok p) many k v e = tt

@@ -1,18 +1,22 @@
 -- Slots of values: equal values have equal slots, and none is null.
-use Rattle.std.proofs.Common.{◌≡◌, ◌∙◌, ◌⊎◌, ◌↔◌, inl, inr, ℕ, zero, suc, ◌+◌, ◌<◌, ◌≤◌, Bool, true, ℤ, List, [], ◌∷◌, ◌++◌, length, map, get_or, take, refl, sym, ap, arith, Result, Ok, Err, IfOk}
+use Rattle.std.proofs.Common.{◌≡◌, ◌∙◌, ◌⊎◌, ◌↔◌, inl, inr, ℕ, zero, suc, ◌+◌, ◌<◌, ◌≤◌, Bool, true, ℤ, List, [], ◌∷◌, ◌++◌, length, map, get_or, take, refl, sym, ap, subst, arith, Option, Result, Ok, Err, IfOk, OnOk}
 use Rattle.std.specs.Prelude.{sum_by}
 use Rattle.std.specs.Borrow.{Bor}
+use Rattle.std.specs.List.{All}
+use Rattle.std.proofs.lemmas.List.Elements.{All-push}
 use Rattle.std.proofs.lemmas.List.{get_or-map, length-map, map_more, take-map}
 use Rattle.std.proofs.lemmas.List.Sums.{sum_by-append, sum_by_more_le}
 use Rattle.std.proofs.lemmas.Slice.Eq.{bytes_eq-Decides}
 use Rattle.std.specs.Str.{bytes_eq}
+use Rattle.arrow_array.specs.Dictionaries.{IsKeyInto}
 use Rattle.arrow_array.specs.Slots.{is_held}
 use Rattle.arrow_core.specs.declared.error.Error.{Error}
+use Rattle.arrow_core.specs.declared.error.Error.TheVariants.{Overflow}
 use Rattle.arrow_types.specs.Numbers.{slot_of_numbers}
 use Rattle.arrow_types.specs.declared.slot.Slot.{Slot, Struct', items-the_row-Slot, items_hidden-the_row-Slot-0}
 use Rattle.arrow_types.specs.declared.slot.Slot.TheVariants as slot
 use Rattle.arrow_dictionaries.specs.Encoding.{IsEncodingFault, string_size}
-use Rattle.arrow_dictionaries.specs.Indices.{string_slot}
+use Rattle.arrow_dictionaries.specs.Indices.{index_key, string_slot}
 
 -- ---- integers
 
@@ -108,3 +112,32 @@ module _ (xs : List (Bor (List ℕ))) (i : ℕ) (d : Bor (List ℕ)) (l : i < le
 pub boxed : {A : Type 0} (r : Result A Error) (view : A → List Slot) (s t : List Slot) → s ≡ t → IfOk r (λ a. view a ≡ s) → IfOk r (λ a. view a ≡ t)
 boxed (Ok a) view s t e h = h ∙ e
 boxed (Err x) view s t e h = tt
+
+-- ---- keys so far, and one more
+
+pub key_more : (ps : List (Option ℕ)) (i : ℕ) (d : Option ℕ) (old new : List Slot) → i < length ps → old ≡ map index_key (take i ps) → new ≡ old ++ index_key (get_or ps i d) ∷ [] → new ≡ map index_key (take (i + 1) ps)
+key_more ps i d old new l h e = e ∙ ap (λ (z : List Slot). z ++ index_key (get_or ps i d) ∷ []) h ∙ sym (map_more index_key ps i d l)
+
+pub more_keys : (count : ℕ) (old new : List Slot) (key : Slot) → All (IsKeyInto count) old → IsKeyInto count key → new ≡ old ++ key ∷ [] → All (IsKeyInto count) new
+more_keys count old new key h k e = subst (All (IsKeyInto count)) (sym e) (All-push (IsKeyInto count) old key h k)
+
+pub boxed_keys : {A : Type 0} (count : ℕ) (r : Result A Error) (view : A → List Slot) (s : List Slot) → All (IsKeyInto count) s → IfOk r (λ a. view a ≡ s) → IfOk r (λ a. All (IsKeyInto count) (view a))
+boxed_keys count (Ok a) view s h e = subst (All (IsKeyInto count)) (sym e) h
+boxed_keys count (Err x) view s h e = tt
+
+-- ---- bytes that offsets count
+
+-- what was pushed is no overflow
+pub push_within : {A : Type 0} (r : Result A Error) (greatest n new : ℕ) → ((r ≡ Err Overflow) ↔ (greatest < n)) → OnOk r (new ≡ n) → OnOk r (new ≤ greatest)
+push_within (Ok a) greatest n new over e =
+    let few : greatest < n → ⊥ = λ l. is_not (over.1 l) in
+    omega (arith, few, e)
+  where
+    is_not : Ok a ≡ Err Overflow → ⊥
+    is_not p = absurd cc
+push_within (Err x) greatest n new over e = tt
+
+pub size_within : {A : Type 0} (r : Result A Error) (greatest bytes : ℕ) (xs : List (Bor (List ℕ))) (n : ℕ) → length xs ≤ n → bytes ≡ sum_by string_size (map string_slot (take n xs)) → bytes ≤ greatest
+    → OnOk r (sum_by string_size (map string_slot xs) ≤ greatest)
+size_within (Ok a) greatest bytes xs n l h w = omega (arith, h, w, ap (λ ys. sum_by string_size (map string_slot ys)) (take_all xs n l))
+size_within (Err x) greatest bytes xs n l h w = tt

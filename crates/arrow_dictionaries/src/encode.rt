@@ -1,5 +1,5 @@
 //! Arrays as the keys and the values of a dictionary.
-ghost use Rattle.std.specs.Prelude.{◌≡◌, ◌⊎◌, [], map, Ok, Err, IsOk, IfOk, IfErr};
+ghost use Rattle.std.specs.Prelude.{◌≡◌, ◌⊎◌, [], map, Ok, Err, IsOk, IfOk, IfErr, OnOk};
 ghost use Rattle.arrow_array.specs.Dictionaries.{keys_slots, keys_type};
 ghost use Rattle.arrow_array.specs.Parts.{utf8_type};
 ghost use Rattle.arrow_types.specs.Numbers.{greatest_offset};
@@ -39,6 +39,7 @@ fn primitive_keys<T: NativeType + Ord>(
     ensures key { IfOk result (λ keys. keys_type keys ≡ key) }
     ensures slots { IfOk result (λ keys. EncodesSlots array.now.slots (keys_slots keys)
         (map T.native_slot distinct.new)) }
+    ensures few { OnOk result (HasTooManyDistinct key array.now.slots → ⊥) }
     ensures err { IfErr result (IsEncodingFault (HasTooManyDistinct key array.now.slots)) }
 {
     let indices = primitive_indices(alloc, distinct, array)?;
@@ -50,7 +51,7 @@ fn primitive_keys<T: NativeType + Ord>(
 /// order of first appearance, in an array of the same data type; the key of a slot is its index
 /// among them, and null where the slot is.
 ///
-/// `Overflow` only where there are more distinct slots than the keys have numbers from 0 on.
+/// `Overflow` exactly where there are more distinct slots than the keys have numbers from 0 on.
 /// `OutOfMemory` may come in place of any answer.
 pub fn encode_primitives<T: NativeType + Ord>(
     alloc: Global,
@@ -60,6 +61,7 @@ pub fn encode_primitives<T: NativeType + Ord>(
     ensures key { IfOk result (λ p. keys_type p.0 ≡ key) }
     ensures data_type { IfOk result (λ p. p.1.data_type ≡ array.now.data_type) }
     ensures slots { IfOk result (λ p. EncodesSlots array.now.slots (keys_slots p.0) p.1.slots) }
+    ensures few { OnOk result (HasTooManyDistinct key array.now.slots → ⊥) }
     ensures err { IfErr result (IsEncodingFault (HasTooManyDistinct key array.now.slots)) }
 {
     let mut distinct = FirstSeen::<T>::new(alloc);
@@ -79,6 +81,7 @@ fn string_keys<'a, O: Offset>(
     ensures key { IfOk result (λ keys. keys_type keys ≡ key) }
     ensures slots { IfOk result (λ keys. EncodesSlots array.now.slots (keys_slots keys)
         (map string_slot distinct.new)) }
+    ensures few { OnOk result (HasTooManyDistinct key array.now.slots → ⊥) }
     ensures err { IfErr result (IsEncodingFault (HasTooManyDistinct key array.now.slots)) }
 {
     let indices = string_indices(alloc, distinct, array)?;
@@ -88,7 +91,7 @@ fn string_keys<'a, O: Offset>(
 /// The same of an array of strings. The offsets of the values are of `P`, whatever those of the
 /// array are.
 ///
-/// `Overflow` only where there are more distinct slots than the keys have numbers from 0 on, or
+/// `Overflow` exactly where there are more distinct slots than the keys have numbers from 0 on, or
 /// these have more bytes together than the greatest offset of `P`, 2^31 - 1 or 2^63 - 1.
 /// `OutOfMemory` may come in place of any answer.
 pub fn encode_strings<O: Offset, P: Offset>(
@@ -99,6 +102,9 @@ pub fn encode_strings<O: Offset, P: Offset>(
     ensures key { IfOk result (λ p. keys_type p.0 ≡ key) }
     ensures data_type { IfOk result (λ p. p.1.data_type ≡ utf8_type P.IS_LARGE) }
     ensures slots { IfOk result (λ p. EncodesSlots array.now.slots (keys_slots p.0) p.1.slots) }
+    ensures few { OnOk result (HasTooManyDistinct key array.now.slots → ⊥) }
+    ensures counted { OnOk result
+        (HasTooLongStrings (greatest_offset P.IS_LARGE) array.now.slots → ⊥) }
     ensures err { IfErr result (IsEncodingFault (HasTooManyDistinct key array.now.slots
         ⊎ HasTooLongStrings (greatest_offset P.IS_LARGE) array.now.slots)) }
 {

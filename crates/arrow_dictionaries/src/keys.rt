@@ -1,6 +1,7 @@
 //! Keys of a dictionary.
-ghost use Rattle.std.specs.Prelude.{◌≡◌, ◌≤◌, ◌++◌, ◌∷◌, [], ℕ, pos, map, MatchOption, OnOk, IfOk, IfErr};
-ghost use Rattle.arrow_array.specs.Dictionaries.{keys_slots, keys_type};
+ghost use Rattle.std.specs.Prelude.{◌≡◌, ◌<◌, ◌≤◌, ◌++◌, ◌∷◌, [], ℕ, pos, map, MatchOption, IfSome, OnOk, IfOk, IfErr};
+ghost use Rattle.std.specs.List.{All};
+ghost use Rattle.arrow_array.specs.Dictionaries.{IsKeyInto, keys_slots, keys_type};
 ghost use Rattle.arrow_types.specs.declared.slot.Slot.TheVariants.{Integer as IntegerSlot};
 ghost use Rattle.arrow_dictionaries.specs.Encoding.{IsEncodingFault, key_count};
 ghost use Rattle.arrow_dictionaries.specs.Indices.{IsKeyFault, IsPast, index_key};
@@ -18,8 +19,8 @@ trait Key: NativeType {
 
     /// The key of an index; `None` exactly where keys don't number so far.
     fn from_index(index: usize) -> Option<Self>
-        ensures { MatchOption result (count ≤ index)
-            (λ key. Self.native_slot key ≡ IntegerSlot (pos index)) };
+        ensures counts { MatchOption result (count ≤ index) (λ _. index < count) }
+        ensures slot { IfSome result (λ key. Self.native_slot key ≡ IntegerSlot (pos index)) };
 }
 
 impl Key for i8 {
@@ -114,10 +115,12 @@ impl Key for u64 {
     }
 }
 
-/// Appends the key of an index, and a null where there is none.
+/// Appends the key of an index, and a null where there is none. `Overflow` exactly where keys don't
+/// number so far.
 fn push_key<K: Key>(builder: &mut MutablePrimitiveArray<K>, index: Option<usize>) -> Result<()>
     ensures ok { OnOk result
         (builder.new.slots ≡ builder.old.slots ++ index_key index ∷ []) }
+    ensures within { OnOk result (IsKeyInto K.count (index_key index)) }
     ensures err { IfErr result (IsEncodingFault (IsPast K.count index)) }
 {
     match index {
@@ -129,9 +132,10 @@ fn push_key<K: Key>(builder: &mut MutablePrimitiveArray<K>, index: Option<usize>
     }
 }
 
-/// The keys of indices, null where there is none. `Overflow` only where keys don't number so far.
+/// The keys of indices, null for none. `Overflow` exactly where keys don't number so far.
 fn key_array<K: Key>(alloc: Global, indices: &[Option<usize>]) -> Result<PrimitiveArray<K>>
     ensures slots { IfOk result (λ a. a.slots ≡ map index_key indices.now) }
+    ensures within { IfOk result (λ a. All (IsKeyInto K.count) a.slots) }
     ensures err { IfErr result (IsKeyFault K.count indices.now) }
 {
     let mut builder = MutablePrimitiveArray::<K>::with_capacity(alloc, indices.len())?;
@@ -145,6 +149,7 @@ fn key_array<K: Key>(alloc: Global, indices: &[Option<usize>]) -> Result<Primiti
 pub(crate) fn keys_of(alloc: Global, key: IntegerType, indices: &[Option<usize>]) -> Result<Keys>
     ensures key { IfOk result (λ keys. keys_type keys ≡ key) }
     ensures slots { IfOk result (λ keys. keys_slots keys ≡ map index_key indices.now) }
+    ensures within { IfOk result (λ keys. All (IsKeyInto (key_count key)) (keys_slots keys)) }
     ensures err { IfErr result (IsKeyFault (key_count key) indices.now) }
 {
     match key {

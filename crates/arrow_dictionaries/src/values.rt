@@ -1,5 +1,5 @@
 //! The values of a dictionary as arrays.
-ghost use Rattle.std.specs.Prelude.{◌≡◌, ◌+◌, ◌<◌, ◌++◌, ◌∷◌, [], length, map, sum_by, OnOk, IfOk, IfErr};
+ghost use Rattle.std.specs.Prelude.{◌≡◌, ◌+◌, ◌<◌, ◌≤◌, ◌++◌, ◌∷◌, [], length, map, sum_by, OnOk, IfOk, IfErr};
 ghost use Rattle.arrow_array.specs.Parts.{IsPlain, utf8_type};
 ghost use Rattle.arrow_core.specs.Errors.{OnlyOutOfMemory};
 ghost use Rattle.arrow_types.specs.Numbers.{greatest_offset};
@@ -32,24 +32,27 @@ pub(crate) fn primitive_values<T: NativeType>(
     builder.as_box()
 }
 
-/// Appends a string. `Overflow` only where the strings would have more bytes together than the
+/// Appends a string. `Overflow` exactly where the strings would have more bytes together than the
 /// greatest offset.
 fn push_string<O: Offset>(builder: &mut MutableUtf8Array<O>, string: &str) -> Result<()>
     ensures data_type { builder.new.data_type ≡ builder.old.data_type }
     ensures ok { OnOk result
         (builder.new.slots ≡ builder.old.slots ++ StringSlot string.now ∷ []) }
     ensures bytes { OnOk result (builder.new.bytes ≡ builder.old.bytes + length string.now) }
+    ensures within { OnOk result (builder.new.bytes ≤ greatest_offset O.IS_LARGE) }
     ensures err { IfErr result (IsEncodingFault
         (greatest_offset O.IS_LARGE < builder.old.bytes + length string.now)) }
 {
     builder.push(Some(string))
 }
 
-/// The array of these strings. `Overflow` only where they have more bytes together than the
+/// The array of these strings. `Overflow` exactly where they have more bytes together than the
 /// greatest offset.
 pub(crate) fn string_values<O: Offset>(alloc: Global, strings: &[&str]) -> Result<Utf8Array<O>>
     ensures data_type { IfOk result (λ a. a.data_type ≡ utf8_type O.IS_LARGE) }
     ensures slots { IfOk result (λ a. a.slots ≡ map string_slot strings.now) }
+    ensures counted { OnOk result
+        (sum_by string_size (map string_slot strings.now) ≤ greatest_offset O.IS_LARGE) }
     ensures err { IfErr result (IsEncodingFault (greatest_offset O.IS_LARGE
         < sum_by string_size (map string_slot strings.now))) }
 {
