@@ -1,4 +1,5 @@
 pub mod Bounds
+pub mod Counting
 pub mod Digits
 pub mod Growing
 pub mod Integers

@@ -1,5 +1,5 @@
 //! Columns of strings and of bytes.
-ghost use Rattle.std.specs.Prelude.{◌≡◌, ◌+◌, ◌<◌, ◌++◌, ◌∷◌, [], ◌⊎◌, cond, length, string_bytes, OnOk, IfOk, IfErr};
+ghost use Rattle.std.specs.Prelude.{◌≡◌, ◌+◌, ◌<◌, ◌≤◌, ◌++◌, ◌∷◌, [], ◌⊎◌, cond, length, string_bytes, OnOk, IfOk, IfErr};
 ghost use Rattle.std.specs.Option.{option_copied};
 ghost use Rattle.arrow_array.specs.Parts.{binary_type, utf8_type};
 ghost use Rattle.arrow_core.specs.Errors.{OnlyOutOfMemory};
@@ -30,7 +30,8 @@ fn write_number(buffer: &mut String, mantissa: &str, exponent: &str) -> Result<(
     Ok(())
 }
 
-// Appends the text of a number. The buffer takes it where it has an exponent.
+// Appends the text of a number. The buffer takes it where it has an exponent. `Overflow` exactly
+// where the strings would have more bytes together than the greatest offset.
 fn push_number<O: Offset>(
     builder: &mut MutableUtf8Array<O>,
     buffer: &mut String,
@@ -42,6 +43,7 @@ fn push_number<O: Offset>(
         ≡ builder.old.slots ++ StringSlot (with_exponent mantissa.now exponent.now) ∷ []) }
     ensures bytes { OnOk result (builder.new.bytes
         ≡ builder.old.bytes + length (with_exponent mantissa.now exponent.now)) }
+    ensures within { OnOk result (builder.new.bytes ≤ greatest_offset O.IS_LARGE) }
     ensures err { IfErr result (λ e. (e ≡ OutOfMemory) ⊎ ((e ≡ Overflow)
         × (greatest_offset O.IS_LARGE
         < builder.old.bytes + length (with_exponent mantissa.now exponent.now)))) }
@@ -70,6 +72,7 @@ fn push_text<O: Offset>(
     ensures ok { OnOk result (Pushes text_in value.now builder.old.slots builder.new.slots) }
     ensures bytes { OnOk result
         (builder.new.bytes ≡ builder.old.bytes + size_of (means text_in value.now)) }
+    ensures within { OnOk result (builder.new.bytes ≤ greatest_offset O.IS_LARGE) }
     ensures err { IfErr result
         (IsTextFault (greatest_offset O.IS_LARGE) builder.old.bytes text_in value.now) }
 {
@@ -89,11 +92,13 @@ fn push_text<O: Offset>(
 /// The column of strings, one slot a value: a string itself, the text of a number with `e` before its
 /// exponent, `true` or `false`, and null for any other value.
 ///
-/// `Overflow` only where they have more bytes together than the greatest offset, 2^31 - 1 or
+/// `Overflow` exactly where they have more bytes together than the greatest offset, 2^31 - 1 or
 /// 2^63 - 1. `OutOfMemory` may come in place of any answer.
 pub fn read_strings<O: Offset>(alloc: Global, values: &[&Value]) -> Result<Utf8Array<O>>
     ensures data_type { IfOk result (λ a. a.data_type ≡ utf8_type O.IS_LARGE) }
     ensures slots { IfOk result (λ a. AreSlotsOf text_in (lent values.now) a.slots) }
+    ensures counted { OnOk result
+        (IsTooLong (greatest_offset O.IS_LARGE) text_in (lent values.now) → ⊥) }
     ensures err { IfErr result (IsColumnFault text_in
         (IsTooLong (greatest_offset O.IS_LARGE) text_in (lent values.now)) (lent values.now)) }
 {
@@ -123,6 +128,7 @@ fn push_bytes<O: Offset>(builder: &mut MutableBinaryArray<O>, value: &Value) -> 
     ensures ok { OnOk result (Pushes bytes_in value.now builder.old.slots builder.new.slots) }
     ensures bytes { OnOk result
         (builder.new.bytes ≡ builder.old.bytes + size_of (means bytes_in value.now)) }
+    ensures within { OnOk result (builder.new.bytes ≤ greatest_offset O.IS_LARGE) }
     ensures err { IfErr result
         (IsTextFault (greatest_offset O.IS_LARGE) builder.old.bytes bytes_in value.now) }
 {
@@ -131,11 +137,13 @@ fn push_bytes<O: Offset>(builder: &mut MutableBinaryArray<O>, value: &Value) -> 
 
 /// The column of bytes, one slot a value: the bytes of a string, and null for any other value.
 ///
-/// `Overflow` only where there are more bytes together than the greatest offset, 2^31 - 1 or
+/// `Overflow` exactly where there are more bytes together than the greatest offset, 2^31 - 1 or
 /// 2^63 - 1. `OutOfMemory` may come in place of any answer.
 pub fn read_binaries<O: Offset>(alloc: Global, values: &[&Value]) -> Result<BinaryArray<O>>
     ensures data_type { IfOk result (λ a. a.data_type ≡ binary_type O.IS_LARGE) }
     ensures slots { IfOk result (λ a. AreSlotsOf bytes_in (lent values.now) a.slots) }
+    ensures counted { OnOk result
+        (IsTooLong (greatest_offset O.IS_LARGE) bytes_in (lent values.now) → ⊥) }
     ensures err { IfErr result (IsColumnFault bytes_in
         (IsTooLong (greatest_offset O.IS_LARGE) bytes_in (lent values.now)) (lent values.now)) }
 {

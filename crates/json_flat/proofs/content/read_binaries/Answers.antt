@@ -1,6 +1,7 @@
 use Rattle.std.proofs.lemmas.Result.{err_from_is_err_and}
 use Rattle.arrow_types.specs.Numbers.{greatest_offset}
 use Rattle.json_flat.specs.Meaning.{bytes_in}
+use Rattle.json_flat.proofs.Counting.{counted}
 use Rattle.json_flat.proofs.Growing.{boxed, too-long}
 use Rattle.json_flat.proofs.content.read_binaries.Goals as goal
 
@@ -12,3 +13,7 @@ returns-in_err-push_bytes-clause-err g c =
 pub returns-clause-slots : goal.returns-clause-slots
 returns-clause-slots g c =
     boxed c.as_box.result (λ a. a.slots) bytes_in c.args.values.now c.loop-value.value-index c.loop-value.builder.slots c.loop-value-test.false c.loop-value.invariant.slots c.as_box.ensures.array_slots
+
+pub returns-clause-counted : goal.returns-clause-counted
+returns-clause-counted g c =
+    counted c.as_box.result (greatest_offset g.O.Offset.IS_LARGE) bytes_in c.args.values.now c.loop-value.value-index c.loop-value.builder.bytes c.loop-value-test.false c.loop-value.invariant.bytes c.loop-value.invariant.within

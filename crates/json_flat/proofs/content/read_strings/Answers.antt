@@ -3,6 +3,7 @@ use Rattle.arrow_array.specs.Parts.{utf8_type}
 use Rattle.arrow_types.specs.Numbers.{greatest_offset}
 use Rattle.json_flat.specs.Columns.{IsTooLong, lent}
 use Rattle.json_flat.specs.Meaning.{text_in}
+use Rattle.json_flat.proofs.Counting.{counted}
 use Rattle.json_flat.proofs.Growing.{boxed, no-memory, too-long, typed}
 use Rattle.json_flat.proofs.content.read_strings.Goals as goal
 
@@ -21,3 +22,7 @@ returns-clause-slots g c =
 
 pub returns-clause-err : goal.returns-clause-err
 returns-clause-err g c = no-memory c.as_box.result text_in (IsTooLong (greatest_offset g.O.Offset.IS_LARGE) text_in (lent c.args.values.now)) (lent c.args.values.now) c.as_box.ensures.memory
+
+pub returns-clause-counted : goal.returns-clause-counted
+returns-clause-counted g c =
+    counted c.as_box.result (greatest_offset g.O.Offset.IS_LARGE) text_in c.args.values.now c.loop-value.value-index c.loop-value.builder.bytes c.loop-value-test.false c.loop-value.invariant.bytes c.loop-value.invariant.within
