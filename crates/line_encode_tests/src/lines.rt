@@ -66,3 +66,21 @@ fn lists_and_structs_are_encoded(rt: HostRuntime) {
     );
     assert!(rt; is_encoded(&rt, alloc, &rows, "{\"a\":[]}", b"\x00\x00"));
 }
+
+#[test]
+fn a_count_may_take_two_bytes(rt: HostRuntime) {
+    let alloc = rt.alloc();
+    let a = field(&rt, alloc, "a", lists(&rt, alloc, DataType::Int64), false);
+    let b = field(&rt, alloc, "b", DataType::Boolean, true);
+    let rows = plan(&rt, alloc, a, b);
+    let mut line = String::from_str(alloc, "{\"a\":[0").expect(&rt, "memory");
+    for _ in 0..63 {
+        line.push_str(",0").expect(&rt, "memory");
+    }
+    line.push_str("]}").expect(&rt, "memory");
+    // The count, 64 items, the end of blocks, and the index of null.
+    let mut wanted = [0u8; 68];
+    wanted[0] = 0x80;
+    wanted[1] = 0x01;
+    assert!(rt; is_encoded(&rt, alloc, &rows, line.as_str(), &wanted));
+}

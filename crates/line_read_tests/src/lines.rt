@@ -118,7 +118,7 @@ fn each_value_under_null_is_null(rt: HostRuntime) {
 }
 
 #[test]
-fn dictionaries_are_made(rt: HostRuntime) {
+fn lines_of_dictionaries_are_read(rt: HostRuntime) {
     let alloc = rt.alloc();
     let a = dictionary(&rt, alloc, IntegerType::UInt8, DataType::Utf8);
     let b = dictionary(&rt, alloc, IntegerType::Int64, DataType::LargeUtf8);

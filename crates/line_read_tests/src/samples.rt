@@ -24,7 +24,7 @@ pub(crate) fn large_list(rt: &impl Abort, alloc: Global, item: DataType) -> Data
     DataType::LargeList(Box::new(alloc, item).expect(rt, "memory"))
 }
 
-/// Lists of so many items.
+/// Lists of `size` items.
 pub(crate) fn sized_list(rt: &impl Abort, alloc: Global, item: DataType, size: usize) -> DataType {
     let item = field(rt, alloc, "item", item);
     DataType::FixedSizeList(Box::new(alloc, item).expect(rt, "memory"), size)

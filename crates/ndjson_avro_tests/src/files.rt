@@ -1,4 +1,5 @@
-//! Files in memory, and pieces of files.
+//! Files in memory, and pieces of files, worked by hand from Avro 1.11, "Object Container Files" and
+//! "Binary Encoding".
 
 /// The header of a file of a record of one int, `a`. Its marker is sixteen bytes 1.
 pub static HEADER: &[u8] =

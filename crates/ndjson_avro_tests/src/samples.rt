@@ -68,7 +68,8 @@ pub fn structs(fields: Vec<Field>) -> DataType {
     DataType::Struct(Items::from_vec(fields))
 }
 
-fn number(rt: &impl Abort, alloc: Global, number: u64) -> Items<u64> {
+/// The number of one call.
+fn one_call(rt: &impl Abort, alloc: Global, number: u64) -> Items<u64> {
     Items::try_from_slice(alloc, &[number]).expect(rt, "memory")
 }
 
@@ -89,8 +90,8 @@ pub fn convert(
     columns: &Schema,
     how: How,
 ) -> Converted {
-    let failing_read = number(rt, alloc, how.failing_read);
-    let failing_write = number(rt, alloc, how.failing_write);
+    let failing_read = one_call(rt, alloc, how.failing_read);
+    let failing_write = one_call(rt, alloc, how.failing_write);
     let piece = how.piece.max(1);
     let mut source = MemorySource::new(joined(rt, alloc, &[lines]), piece, failing_read);
     let mut sink = MemorySink::with_room(alloc, 1000, piece, failing_write).expect(rt, "memory");

@@ -89,7 +89,7 @@ fn a_number_is_cut_before_it_is_looked_for(rt: HostRuntime) -> std::result::Resu
     Ok(())
 }
 
-/// The text of an array of so many strings, each another.
+/// The text of an array of `count` strings, no two the same.
 fn counted(alloc: Global, count: u8) -> Result<String> {
     let mut text = String::from_str(alloc, "[\"\"")?;
     for i in 1..count {

@@ -76,8 +76,8 @@ fn is_enough<T: Drop>(answer: Result<T>) -> Result<bool> {
     }
 }
 
-/// So many integers, each another.
-fn other_integers(alloc: Global, count: u16) -> Result<PrimitiveArray<u16>> {
+/// `count` integers, no two the same.
+fn distinct_integers(alloc: Global, count: u16) -> Result<PrimitiveArray<u16>> {
     let mut builder = MutablePrimitiveArray::<u16>::with_capacity(alloc, 0)?;
     for i in 0..count {
         builder.push(Some(i))?;
@@ -85,8 +85,8 @@ fn other_integers(alloc: Global, count: u16) -> Result<PrimitiveArray<u16>> {
     builder.as_box()
 }
 
-/// So many strings, each another.
-fn other_strings(alloc: Global, count: u16) -> Result<Utf8Array<i32>> {
+/// `count` strings, no two the same.
+fn distinct_strings(alloc: Global, count: u16) -> Result<Utf8Array<i32>> {
     let mut builder = MutableUtf8Array::<i32>::with_capacity(alloc, 0)?;
     for i in 0..count {
         builder.push(Some(format!(in alloc; "{i}")?.as_str()))?;
@@ -95,8 +95,8 @@ fn other_strings(alloc: Global, count: u16) -> Result<Utf8Array<i32>> {
 }
 
 fn are_keys_enough(alloc: Global, count: u16, key: IntegerType) -> Result<(bool, bool)> {
-    let integers = encode_primitives(alloc, &other_integers(alloc, count)?, key);
-    let strings = encode_strings::<i32, i64>(alloc, &other_strings(alloc, count)?, key);
+    let integers = encode_primitives(alloc, &distinct_integers(alloc, count)?, key);
+    let strings = encode_strings::<i32, i64>(alloc, &distinct_strings(alloc, count)?, key);
     Ok((is_enough(integers)?, is_enough(strings)?))
 }
 
@@ -113,8 +113,7 @@ fn keys_number_so_many_values(rt: HostRuntime) -> std::result::Result<(), Fail> 
 /// How many distinct strings there are.
 const DISTINCT: usize = 3000;
 
-/// Strings of which each comes twice, first in the order of the multiples of 7, each cut at
-/// `DISTINCT`.
+/// Each of `DISTINCT` strings twice, in the order of the multiples of 7 modulo `DISTINCT`.
 fn strings_twice(alloc: Global) -> Result<Utf8Array<i64>> {
     let mut builder = MutableUtf8Array::<i64>::with_capacity(alloc, 0)?;
     for i in 0..2 * DISTINCT {

@@ -25,7 +25,7 @@ fn a_number_is_cut_towards_zero(rt: HostRuntime) {
 }
 
 #[test]
-fn no_exponent_takes_long(rt: HostRuntime) {
+fn exponents_far_from_the_range(rt: HostRuntime) {
     assert!(rt; whole("0", "999999999") == Some(0));
     assert!(rt; whole("1", "-99999") == Some(0));
     assert!(rt; whole("1", "999999999") == None);

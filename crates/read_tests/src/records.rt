@@ -1,4 +1,5 @@
 //! Chunks of JSON records. What is expected is worked by hand from the table of types.
+use crate::refusals::is_refused;
 use crate::types::field;
 use arrow_array::Chunk;
 use arrow_core::{Error, Items, Metadata, Reason, Result};
@@ -23,13 +24,6 @@ fn schema(alloc: Global, data_type: DataType) -> Result<Schema> {
 fn read(alloc: Global, text: &[u8], data_type: DataType) -> Result<Chunk> {
     let value = parse(alloc, text)?;
     deserialize_records(alloc, &value, &schema(alloc, data_type)?)
-}
-
-fn is_refused(answer: Result<Chunk>, wanted: Error) -> bool {
-    match answer {
-        Ok(_) => false,
-        Err(error) => error == wanted,
-    }
 }
 
 #[test]

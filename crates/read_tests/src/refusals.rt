@@ -1,14 +1,14 @@
 //! Why there is no column of JSON values. What is expected is the order of refusals, worked by hand.
 use crate::columns::column;
 use crate::types::{field, list, one_field, two_fields};
-use arrow_array::Array;
 use arrow_core::{Error, Reason, Result};
 use arrow_types::{DataType, TimeUnit};
 use json_columns::deserialize;
 use json_tree::Value;
 use std::test::Fail;
 
-pub(crate) fn is_refused(answer: Result<Array>, wanted: Error) -> bool {
+/// Whether the answer is this error.
+pub(crate) fn is_refused<T: Drop>(answer: Result<T>, wanted: Error) -> bool {
     match answer {
         Ok(_) => false,
         Err(error) => error == wanted,
@@ -70,9 +70,9 @@ fn a_text_under_a_timestamp_comes_before_a_number_that_does_not_fit(
 ) -> std::result::Result<(), Fail> {
     let alloc = rt.alloc();
     let wanted = Error::NotYetImplemented(Reason::TextTimestamp);
-    let day = field(alloc, "a", DataType::Int8)?;
+    let byte = field(alloc, "a", DataType::Int8)?;
     let moment = field(alloc, "b", DataType::Timestamp(TimeUnit::Second, None))?;
-    let both = two_fields(alloc, day, moment)?;
+    let both = two_fields(alloc, byte, moment)?;
     let text = b"[{\"a\":300,\"b\":1},{\"a\":1,\"b\":\"2020\"}]";
     assert!(rt; is_refused(column(alloc, text, both), wanted));
     Ok(())

@@ -41,16 +41,14 @@ fn no_rows_are_an_empty_column_of_an_iterator_alone(
 
 // A row that is no JSON text comes before a type without a reading.
 #[test]
-fn the_first_faulty_row_decides(rt: HostRuntime) {
+fn the_first_faulty_row_decides(rt: HostRuntime) -> std::result::Result<(), Fail> {
     let alloc = rt.alloc();
-    let rows = "300\n[1]]\n300".lines();
-    let wanted = Error::ExternalFormat(Reason::Json);
-    assert!(rt; is_refused(deserialize_iter(alloc, rows, DataType::Float64), wanted));
-    let rows = "300\n1".lines();
-    assert!(rt;
-        is_refused(
-            deserialize_iter(alloc, rows, DataType::Int8),
-            Error::Overflow
-        )
-    );
+    let deep = "[".repeat(alloc, 129)?;
+    let rows = format!(in alloc; "[1]]\n{deep}")?;
+    let answer = deserialize_iter(alloc, rows.as_str().lines(), DataType::Float64);
+    assert!(rt; is_refused(answer, Error::ExternalFormat(Reason::Json)));
+    let rows = format!(in alloc; "{deep}\n[1]]")?;
+    let answer = deserialize_iter(alloc, rows.as_str().lines(), DataType::Float64);
+    assert!(rt; is_refused(answer, Error::LimitExceeded));
+    Ok(())
 }

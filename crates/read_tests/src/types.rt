@@ -30,7 +30,7 @@ pub(crate) fn two_fields(alloc: Global, one: Field, other: Field) -> Result<Data
     Ok(DataType::Struct(Items::from_vec(fields)))
 }
 
-/// A FixedSizeList of so many nullable items.
+/// A FixedSizeList of `size` nullable items.
 pub(crate) fn sized_list(alloc: Global, item: DataType, size: usize) -> Result<DataType> {
     let item = field(alloc, "item", item)?;
     Ok(DataType::FixedSizeList(Box::new(alloc, item)?, size))
