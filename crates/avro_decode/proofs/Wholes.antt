@@ -4,6 +4,7 @@ use Rattle.std.specs.Prelude.{IfErr}
 use Rattle.std.proofs.lemmas.List.{append-nil, length-map, get_or-map, drop-set-lt}
 use Rattle.std.proofs.lemmas.List.FromFn.{get_or-map-range_with_len}
 use Rattle.std.proofs.Math.Seq.{drop-cons}
+use Rattle.arrow_core.specs.declared.error.Error.TheVariants.{OutOfMemory}
 use Rattle.arrow_types.specs.declared.slot.Slot.{Slot}
 use Rattle.arrow_types.specs.declared.types.Field.{Field}
 use Rattle.arrow_array.specs.declared.array.Array.{Array}
@@ -24,10 +25,11 @@ use Rattle.avro_reference.proofs.Exact.{block_gives_rows, block_is_bad, block_is
 use Rattle.avro_decode.specs.Columns.{columns, AreColumns}
 use Rattle.avro_decode.specs.Counting.{ShowsAtMost, CallsAtMost}
 use Rattle.avro_reference.specs.Costs.{Costs}
-use Rattle.avro_decode.specs.Decoding.{grown_by, IsFault, AreWide}
+use Rattle.avro_decode.specs.Decoding.{grown_by, BlockHasMemory, IsFault, AreWide}
+use Rattle.avro_decode.specs.Faults.{fault_error}
 use Rattle.avro_decode.specs.declared.fault.BlockFault.{BlockFault}
-use Rattle.avro_decode.specs.declared.fault.BlockFault.TheVariants.{Bytes, NegativeSize as BelowZero}
-use Rattle.avro_decode.specs.Refusals.{AreCounted}
+use Rattle.avro_decode.specs.declared.fault.BlockFault.TheVariants.{Bytes, NegativeSize as BelowZero, Memory}
+use Rattle.avro_decode.specs.Refusals.{AreCounted, BytesRefused}
 use Rattle.avro_decode.proofs.Columns.{AreEmpty, grown_columns, length-grown_by}
 
 wide_same : (m n : ℕ) (rs : List (List Slot)) → m ≡ n → AreWide m rs → AreWide n rs
@@ -44,17 +46,19 @@ block_columns n fields projection before now start many h g =
     let l : length now ≡ length before = ap length g.2 ∙ length-grown_by table before in
     (table, rows.1, many, g.2 ∙ grown_columns table before h (wide_same (length now) (length before) table l g.3) ∙ ap (λ (cs : List (List Slot)). columns (length cs) table) (sym g.2))
 
-module _ (n : ℕ) (fs : List Field) (fields : List AvroField) (projection : List Bool) (start : List ℕ) (d : BlockFault) (c : AreCounted n fs projection start) where
-  pub block_refused : d ≡ Bytes → IsFault d (block n fields projection start) → AreCounted n fs projection start × ((table : List (List Slot)) → Rows n fields projection start table → ⊥) × (NegativeSize n fields projection start → ⊥)
-  block_refused is e =
-      let bad : block n fields projection start ≡ Err Bad = subst (λ (x : BlockFault). IsFault x (block n fields projection start)) is e in
-      let b = (block_is_bad n fields projection start).0 bad in
-      (c, λ table r. b.0 table c.1 r, b.1)
+-- why bytes are refused, by the fault
+pub bytes_refused : (n : ℕ) (fs : List Field) (fields : List AvroField) (projection : List Bool) (start : List ℕ) (d : BlockFault) → AreCounted n fs projection start → IsFault d (block n fields projection start) → BytesRefused n fs fields projection start (fault_error d)
+bytes_refused n fs fields projection start Bytes c e =
+    let b = (block_is_bad n fields projection start).0 e in
+    (c, λ table r. b.0 table c.1 r, b.1)
+bytes_refused n fs fields projection start BelowZero c e = (c, (block_is_negative n fields projection start).0 e)
+bytes_refused n fs fields projection start Memory c e = tt
 
-  pub block_negative : d ≡ BelowZero → IsFault d (block n fields projection start) → AreCounted n fs projection start × NegativeSize n fields projection start
-  block_negative is e =
-      let negative : block n fields projection start ≡ Err Negative = subst (λ (x : BlockFault). IsFault x (block n fields projection start)) is e in
-      (c, (block_is_negative n fields projection start).0 negative)
+-- where memory doesn't run out, another fault comes
+pub not_memory : (d : BlockFault) → BlockHasMemory {X = Unit {0}} (Err d) → fault_error d ≡ OutOfMemory → ⊥
+not_memory Bytes h e = cc
+not_memory BelowZero h e = cc
+not_memory Memory h e = h
 
 -- ---- what a block costs
 

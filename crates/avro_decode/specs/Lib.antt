@@ -3,6 +3,7 @@ pub mod Columns
 pub mod Counting
 pub mod Decoder
 pub mod Decoding
+pub mod Faults
 pub mod Growth
 pub mod Making
 pub mod Masks

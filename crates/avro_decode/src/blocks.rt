@@ -5,6 +5,7 @@ ghost use Rattle.arrow_core.specs.Errors.{OnlyOutOfMemory};
 ghost use Rattle.arrow_core.specs.declared.error.Error.TheVariants.{OutOfMemory};
 ghost use Rattle.arrow_array.specs.Arrays.{array_type, array_slots};
 ghost use Rattle.arrow_builders.specs.Fits.{TypesFit};
+ghost use Rattle.arrow_builders.specs.FixedContent.{HasFixedContent};
 ghost use Rattle.arrow_builders.specs.Nodes.{IsEmpty, KeepsCapacity, HasSpare};
 ghost use Rattle.arrow_builders.specs.MutableArrays.{builder_type, builder_slots};
 ghost use Rattle.arrow_builders.specs.Shapes.{shape};
@@ -20,6 +21,7 @@ ghost use Rattle.avro_decode.specs.Columns.{AreColumns, kept_types};
 ghost use Rattle.avro_decode.specs.Counting.{ShowsAtMost, CallsAtMost};
 ghost use Rattle.avro_decode.specs.Decoder.{projected, AreReady};
 ghost use Rattle.avro_decode.specs.Decoding.{BlockHasMemory, GivesBlock};
+ghost use Rattle.avro_decode.specs.Faults.{fault_error};
 ghost use Rattle.avro_decode.specs.Growth.{ChildrenGrow, ChildrenReach, ChildrenHaveSpare};
 ghost use Rattle.avro_decode.specs.Masks.{total, BytesBoundContent};
 ghost use Rattle.avro_decode.specs.Refusals.{BelongTogether, AreCounted, BytesRefused, BlockRefused};
@@ -121,9 +123,9 @@ pub(crate) fn decode_into(
 /// has lost capacity; the cursor has only moved forward, and was called at most 2n + 1 times. Of
 /// content bytes those of fixed-size binary values to which nulls come (a union's member, or a
 /// field of records in one, but not items of an array) are left out: these are as many as their
-/// slots times their size. With spare capacity for n slots and n content bytes at each node, and no
-/// such values, there is no `OutOfMemory`. After an Err the builders' slots aren't told; `clear`
-/// makes them usable again.
+/// slots times their size, as at each node of fixed-size binary values. With spare capacity for n
+/// slots and n content bytes at each node, and no values that are left out, there is no
+/// `OutOfMemory`. After an Err the builders' slots aren't told; `clear` makes them usable again.
 ///
 /// On Ok no more bytes were shown than those of kept fields, those that tell how long the others
 /// are, and one for each skipped boolean: what isn't kept is skipped. Bytes and calls are told as
@@ -167,22 +169,34 @@ pub fn deserialize_into<'a, C: Cursor<'a>>(
     ensures slots { AtNodes (λ x. x.slots ≤ length (C.rest cursor.old)) builders.new }
     ensures content { total (kept avro_fields.now projection.now) builders.new
         ≤ length (C.rest cursor.old) }
+    ensures fixed_content { All HasFixedContent builders.new }
     ensures capacity { BetweenNodes KeepsCapacity builders.old builders.new }
     ensures has_capacity { AtNodes (HasSpare (length (C.rest cursor.old))) builders.old
         → BytesBoundContent (kept avro_fields.now projection.now)
         → IfErr result (λ e. e ≡ OutOfMemory → ⊥) }
 {
     if !offsets_fit(cursor.left(), fields, projection) {
+        all_content_is_whole(builders);
         return Err(Error::Overflow);
     }
     if rows > cursor.left() {
+        all_content_is_whole(builders);
         return Err(Error::ExternalFormat(Reason::Rows));
     }
     match decode_lent(cursor, rows, avro_fields, projection, builders) {
         Ok(()) => Ok(()),
-        Err(BlockFault::Bytes) => Err(Error::ExternalFormat(Reason::BlockBytes)),
-        Err(BlockFault::NegativeSize) => Err(Error::OutOfSpec(Reason::NegativeSize)),
-        Err(BlockFault::Memory) => Err(Error::OutOfMemory),
+        Err(fault) => Err(error_of(fault)),
+    }
+}
+
+/// The error that tells a fault.
+fn error_of(fault: BlockFault) -> Error
+    ensures { result ≡ fault_error fault }
+{
+    match fault {
+        BlockFault::Bytes => Error::ExternalFormat(Reason::BlockBytes),
+        BlockFault::NegativeSize => Error::OutOfSpec(Reason::NegativeSize),
+        BlockFault::Memory => Error::OutOfMemory,
     }
 }
 
@@ -214,12 +228,24 @@ fn decode_lent<'a, C: Cursor<'a>>(
     ensures reads { GivesBlock C.rest C.shown C.calls cursor.old cursor.new
         (map builder_slots builders.old) (map builder_slots builders.new) result
         (block rows avro_fields.now projection.now (C.rest cursor.old)) }
+    ensures fixed_content { All HasFixedContent builders.new }
 {
     let mut lent = Lent {
         cursor: &mut *cursor,
         of: &PhantomData,
     };
-    decode_block(&mut lent, rows, avro_fields, projection, builders)
+    let read = decode_block(&mut lent, rows, avro_fields, projection, builders);
+    all_content_is_whole(builders);
+    read
+}
+
+/// Law: what `fixed_content_is_whole` says, of each builder.
+fn all_content_is_whole(builders: &[MutableArray])
+    ensures { All HasFixedContent builders.now }
+{
+    for builder in builders {
+        builder.fixed_content_is_whole();
+    }
 }
 
 /// The arrays of the builders, in order.
