@@ -41,7 +41,7 @@ fn rows_of(alloc: Global, array: &Array, is_nullable: bool) -> Result<Bytes> {
     Ok(block.bytes)
 }
 
-/// Whether the rows of slots `offset` and on are these bytes.
+/// Whether the array was made, and its rows are these bytes.
 fn is_written(alloc: Global, array: Result<Array>, is_nullable: bool, wanted: &[u8]) -> bool {
     match array.and_then(|array| rows_of(alloc, &array, is_nullable)) {
         Ok(found) => found.as_slice() == wanted,
@@ -49,7 +49,7 @@ fn is_written(alloc: Global, array: Result<Array>, is_nullable: bool, wanted: &[
     }
 }
 
-/// The last slots of an array, but for the first.
+/// The slots of an array but its first.
 fn but_first(alloc: Global, array: &Array) -> Result<Array> {
     if array.len() == 0 {
         return array.slice(alloc, 0, 0);
@@ -57,10 +57,10 @@ fn but_first(alloc: Global, array: &Array) -> Result<Array> {
     array.slice(alloc, 1, array.len() - 1)
 }
 
-fn longs(alloc: Global, numbers: &[i64], valid: Option<Bitmap>) -> Result<Array> {
+fn longs(alloc: Global, numbers: &[i64], validity: Option<Bitmap>) -> Result<Array> {
     let mut values = Vec::new(alloc);
     values.extend_from_slice(numbers)?;
-    Ok(Array::Int64(PrimitiveArray::try_new(alloc, DataType::Int64, values, valid)?))
+    Ok(Array::Int64(PrimitiveArray::try_new(alloc, DataType::Int64, values, validity)?))
 }
 
 /// "h\u{e9}", "" and "b".
@@ -95,21 +95,21 @@ fn structs(alloc: Global) -> Result<Array> {
 
 /// "" and "b".
 #[test]
-fn cut_strings(rt: HostRuntime) {
+fn a_slice_of_strings_is_written(rt: HostRuntime) {
     let array = large_strings(rt.alloc()).and_then(|array| but_first(rt.alloc(), &array));
     assert!(rt; is_written(rt.alloc(), array, false, b"\x00\x02\x62"));
 }
 
 /// [] and [3].
 #[test]
-fn cut_lists(rt: HostRuntime) {
+fn a_slice_of_lists_is_written(rt: HostRuntime) {
     let array = lists(rt.alloc()).and_then(|array| but_first(rt.alloc(), &array));
     assert!(rt; is_written(rt.alloc(), array, false, b"\x00\x02\x06\x00"));
 }
 
 /// {x = 2} and {x = 3}.
 #[test]
-fn cut_structs(rt: HostRuntime) {
+fn a_slice_of_structs_is_written(rt: HostRuntime) {
     let array = structs(rt.alloc()).and_then(|array| but_first(rt.alloc(), &array));
     assert!(rt; is_written(rt.alloc(), array, false, b"\x04\x06"));
 }
