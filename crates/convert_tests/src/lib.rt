@@ -2,8 +2,6 @@
 #![tactic(auto)]
 
 #[cfg(test)]
-mod decoder;
-#[cfg(test)]
 mod files;
 #[cfg(test)]
 mod lines;

@@ -135,152 +135,85 @@ fn numbers_are_refused_before_floats(rt: HostRuntime) {
     assert!(rt; gives(&rt, alloc, &[FLOAT], Some(&[0, 0]), PLAIN, numbers, b""));
 }
 
+/// Whether the conversion ends with this error, and the sink then holds this text.
+fn ends(rt: &impl Abort, alloc: Global, file: &[&[u8]], error: Error, held: &[u8]) -> bool {
+    gives(rt, alloc, file, None, PLAIN, Err(error), held)
+}
+
 #[test]
 fn lines_before_a_refused_block_are_written(rt: HostRuntime) {
     let alloc = rt.alloc();
     let rows = b"\x04\x02\x02\x01\x01\x01\x01\x01\x01\x01\x01\x01\x01\x01\x01\x01\x01\x01\x01";
     let bytes = b"\x02\x04\x02\x03\x01\x01\x01\x01\x01\x01\x01\x01\x01\x01\x01\x01\x01\x01\x01\x01";
+    let other = b"\x04\x04\x02\x03\x01\x01\x01\x01\x01\x01\x01\x01\x01\x01\x01\x01\x01\x01\x01\x02";
     let two = TWO_LINES.as_bytes();
-    let fault = |reason: Reason| Err(Error::ExternalFormat(reason));
-    let few = fault(Reason::Rows);
-    let wrong = fault(Reason::BlockBytes);
+    let few = Error::ExternalFormat(Reason::Rows);
+    assert!(rt; ends(&rt, alloc, &[HEADER, BLOCK, rows, BLOCK], few, two));
+    let wrong = Error::ExternalFormat(Reason::BlockBytes);
+    assert!(rt; ends(&rt, alloc, &[HEADER, BLOCK, bytes, BLOCK], wrong, two));
+    assert!(rt; ends(&rt, alloc, &[FALSE_COUNT], wrong, b""));
+    let marker = Error::ExternalFormat(Reason::Marker);
+    assert!(rt; ends(&rt, alloc, &[HEADER, other], marker, b""));
+    assert!(rt; ends(&rt, alloc, &[HEADER, BLOCK, other], marker, two));
+    let range = Error::InvalidArgumentError(Reason::DateRange);
+    let day = b"{\"a\":\"9999-12-31\"}\n";
+    assert!(rt; ends(&rt, alloc, &[DATES_HEADER, DATES], range, day));
+}
+
+#[test]
+fn the_header_counts_for_the_limit(rt: HostRuntime) {
+    let alloc = rt.alloc();
+    let limit = |limit: u64| How { limit, ..PLAIN };
+    let file = [HEADER, BLOCK];
+    let exceeded = Err(Error::LimitExceeded);
+    assert!(rt; gives(&rt, alloc, &file, None, limit(120), exceeded, b""));
     assert!(rt;
         gives(
             &rt,
             alloc,
-            &[HEADER, BLOCK, rows, BLOCK],
+            &file,
             None,
-            PLAIN,
-            few,
-            two
+            limit(121),
+            Ok(2),
+            TWO_LINES.as_bytes()
         )
     );
-    assert!(rt;
-        gives(
-            &rt,
-            alloc,
-            &[HEADER, BLOCK, bytes, BLOCK],
-            None,
-            PLAIN,
-            wrong,
-            two
-        )
-    );
+}
+
+/// Whether a file is refused with this error, and nothing is written.
+fn is_refused(
+    rt: &impl Abort,
+    alloc: Global,
+    file: &[u8],
+    keep: Option<&[usize]>,
+    error: Error,
+) -> bool {
+    gives(rt, alloc, &[file], keep, PLAIN, Err(error), b"")
 }
 
 #[test]
 fn fields_that_cannot_be_shown_are_refused(rt: HostRuntime) {
-    let alloc = rt.alloc();
-    let argument = |reason: Reason| Err(Error::InvalidArgumentError(reason));
-    let missing = |reason: Reason| Err(Error::NotYetImplemented(reason));
-    let numbers = argument(Reason::KeepNumber);
-    assert!(rt; gives(&rt, alloc, &[EVENTS], Some(&[4]), PLAIN, numbers, b""));
-    assert!(rt; gives(&rt, alloc, &[EVENTS], Some(&[1, 1]), PLAIN, numbers, b""));
-    assert!(rt;
-        gives(
-            &rt,
-            alloc,
-            &[EVENTS],
-            Some(&[]),
-            PLAIN,
-            argument(Reason::NothingKept),
-            b""
-        )
-    );
-    assert!(rt;
-        gives(
-            &rt,
-            alloc,
-            &[NO_FIELD],
-            None,
-            PLAIN,
-            missing(Reason::NoField),
-            b""
-        )
-    );
-    assert!(rt;
-        gives(
-            &rt,
-            alloc,
-            &[MAP],
-            None,
-            PLAIN,
-            missing(Reason::NotCarried),
-            b""
-        )
-    );
-    assert!(rt;
-        gives(
-            &rt,
-            alloc,
-            &[FLOAT],
-            None,
-            PLAIN,
-            missing(Reason::Float),
-            b""
-        )
-    );
-    assert!(rt; gives(&rt, alloc, &[FLOAT], Some(&[1]), PLAIN, Ok(0), b""));
-    assert!(rt;
-        gives(
-            &rt,
-            alloc,
-            &[BINARY],
-            None,
-            PLAIN,
-            missing(Reason::NoJsonText),
-            b""
-        )
-    );
-    assert!(rt; gives(&rt, alloc, &[BINARY], Some(&[1]), PLAIN, Ok(0), b""));
+    let number = Error::InvalidArgumentError(Reason::KeepNumber);
+    let nothing = Error::InvalidArgumentError(Reason::NothingKept);
+    let table: [(&[u8], Option<&[usize]>, Error); 7] = [
+        (EVENTS, Some(&[4]), number),
+        (EVENTS, Some(&[1, 1]), number),
+        (EVENTS, Some(&[]), nothing),
+        (NO_FIELD, None, Error::NotYetImplemented(Reason::NoField)),
+        (MAP, None, Error::NotYetImplemented(Reason::NotCarried)),
+        (FLOAT, None, Error::NotYetImplemented(Reason::Float)),
+        (BINARY, None, Error::NotYetImplemented(Reason::NoJsonText)),
+    ];
+    for (file, keep, error) in table {
+        assert!(rt; is_refused(&rt, rt.alloc(), file, keep, error), "{error:?}");
+    }
 }
 
 #[test]
-fn whole_blocks_before_a_wrong_one_are_written(rt: HostRuntime) {
+fn fields_beside_those_are_shown(rt: HostRuntime) {
     let alloc = rt.alloc();
-    let other = b"\x04\x04\x02\x03\x01\x01\x01\x01\x01\x01\x01\x01\x01\x01\x01\x01\x01\x01\x01\x02";
-    let marker = Err(Error::ExternalFormat(Reason::Marker));
-    assert!(rt; gives(&rt, alloc, &[HEADER, other], None, PLAIN, marker, b""));
-    let two = TWO_LINES.as_bytes();
-    assert!(rt;
-        gives(
-            &rt,
-            alloc,
-            &[HEADER, BLOCK, other],
-            None,
-            PLAIN,
-            marker,
-            two
-        )
-    );
-    let wrong = Err(Error::ExternalFormat(Reason::BlockBytes));
-    assert!(rt; gives(&rt, alloc, &[FALSE_COUNT], None, PLAIN, wrong, b""));
-    let range = Err(Error::InvalidArgumentError(Reason::DateRange));
-    assert!(rt;
-        gives(
-            &rt,
-            alloc,
-            &[DATES_HEADER, DATES],
-            None,
-            PLAIN,
-            range,
-            b"{\"a\":\"9999-12-31\"}\n"
-        )
-    );
-    let limit = |limit: u64| How { limit, ..PLAIN };
-    let exceeded = Err(Error::LimitExceeded);
-    assert!(rt;
-        gives(
-            &rt,
-            alloc,
-            &[HEADER, BLOCK],
-            None,
-            limit(120),
-            exceeded,
-            b""
-        )
-    );
-    assert!(rt; gives(&rt, alloc, &[HEADER, BLOCK], None, limit(121), Ok(2), two));
+    assert!(rt; gives(&rt, alloc, &[FLOAT], Some(&[1]), PLAIN, Ok(0), b""));
+    assert!(rt; gives(&rt, alloc, &[BINARY], Some(&[1]), PLAIN, Ok(0), b""));
 }
 
 #[test]

@@ -67,19 +67,40 @@ pub(crate) fn are_columns(chunk: &Chunk) -> bool {
     }
 }
 
+/// A decoder of such rows.
+fn decoder(rt: &impl Abort, alloc: Global) -> Decoder {
+    let fields = fields(rt, alloc, DataType::Int32);
+    let avro_fields = Items::from_vec(avro_fields(rt, alloc));
+    let projection = vec![in alloc; true; 2].expect(rt, "memory");
+    Decoder::new(alloc, fields, avro_fields, projection).expect(rt, "a decoder")
+}
+
+fn is_empty(chunk: &Chunk) -> bool {
+    chunk.len() == 0 && chunk.arrays().len() == 2
+}
+
 #[test]
-fn a_decoder_takes_block_after_block(rt: HostRuntime) {
+fn a_block_holds_no_row_of_those_before(rt: HostRuntime) {
     let alloc = rt.alloc();
-    let fields = fields(&rt, alloc, DataType::Int32);
-    let avro_fields = Items::from_vec(avro_fields(&rt, alloc));
-    let projection = vec![in alloc; true; 2].expect(&rt, "memory");
-    let mut decoder = Decoder::new(alloc, fields, avro_fields, projection).expect(&rt, "a decoder");
+    let mut decoder = decoder(&rt, alloc);
     let rows = block(&rt, alloc, 2, ROWS);
-    let cut = block(&rt, alloc, 2, b"\x02\x02");
     assert!(rt; are_columns(&decoder.decode(&rows).expect(&rt, "two rows")));
     assert!(rt; are_columns(&decoder.decode(&rows).expect(&rt, "two rows")));
+    let none = block(&rt, alloc, 0, b"");
+    assert!(rt; is_empty(&decoder.decode(&none).expect(&rt, "no row")));
+}
+
+#[test]
+fn rows_of_a_refused_block_are_dropped(rt: HostRuntime) {
+    let alloc = rt.alloc();
+    let mut decoder = decoder(&rt, alloc);
+    // The second row is cut short.
+    let cut = block(&rt, alloc, 2, b"\x02\x02\x04hi\x03");
     let wrong = decoder.decode(&cut).err();
     assert!(rt; wrong == Some(Error::ExternalFormat(Reason::BlockBytes)));
+    let few = decoder.decode(&block(&rt, alloc, 2, b"\x02")).err();
+    assert!(rt; few == Some(Error::ExternalFormat(Reason::Rows)));
+    let rows = block(&rt, alloc, 2, ROWS);
     assert!(rt; are_columns(&decoder.decode(&rows).expect(&rt, "two rows")));
 }
 

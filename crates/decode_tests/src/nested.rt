@@ -68,9 +68,17 @@ fn are_lists(lists: &ListArray) -> bool {
     }
 }
 
-/// Whether these are a struct and a null.
+/// Whether these are a struct of true and a null.
 fn are_structs(structs: &StructArray) -> bool {
-    structs.len() == 2 && structs.is_valid(0) && !structs.is_valid(1)
+    match structs.values() {
+        [Array::Boolean(flags)] => {
+            structs.len() == 2
+                && flags.len() == 2
+                && (structs.is_valid(0) && flags.is_valid(0) && flags.value(0))
+                && !structs.is_valid(1)
+        }
+        _ => false,
+    }
 }
 
 fn are_columns(chunk: &Chunk) -> bool {
