@@ -1,16 +1,8 @@
 //! The command `avro` over sources and sinks in memory.
 
-use crate::tests::{has_ended, plain_answer};
+use crate::tests::{FILE, HEADER, has_ended, plain_answer};
 
-/// The header of a file of a record of one int, `a`, with a marker of sixteen bytes 1.
-const HEADER: &[u8] =
-    b"Obj\x01\x02\x16avro.schema\x82\x01{\"type\":\"record\",\"name\":\"t\",\"fields\":[{\"name\":\"a\",\"type\":\"int\"}]}\x00\x01\x01\x01\x01\x01\x01\x01\x01\x01\x01\x01\x01\x01\x01\x01\x01";
-
-/// The file with a block of two rows, of the values 1 and -2.
-const FILE: &[u8] =
-    b"Obj\x01\x02\x16avro.schema\x82\x01{\"type\":\"record\",\"name\":\"t\",\"fields\":[{\"name\":\"a\",\"type\":\"int\"}]}\x00\x01\x01\x01\x01\x01\x01\x01\x01\x01\x01\x01\x01\x01\x01\x01\x01\x04\x04\x02\x03\x01\x01\x01\x01\x01\x01\x01\x01\x01\x01\x01\x01\x01\x01\x01\x01";
-
-/// The file with a block of a row of the value 15.
+/// The header with a block of a row of the value 15 after it.
 const FIFTEEN: &[u8] =
     b"Obj\x01\x02\x16avro.schema\x82\x01{\"type\":\"record\",\"name\":\"t\",\"fields\":[{\"name\":\"a\",\"type\":\"int\"}]}\x00\x01\x01\x01\x01\x01\x01\x01\x01\x01\x01\x01\x01\x01\x01\x01\x01\x02\x02\x1e\x01\x01\x01\x01\x01\x01\x01\x01\x01\x01\x01\x01\x01\x01\x01\x01";
 

@@ -119,6 +119,7 @@ fn chunk_lines(
     lines.push_columns(names.as_slice(), chunk.arrays())?;
     Ok(lines)
 }
+
 /// The names of the fields that are kept.
 fn kept_names(alloc: Global, avro_fields: &[AvroField], projection: &[bool]) -> Result<Vec<Text>>
     requires { length avro_fields.now ≡ length projection.now }

@@ -22,8 +22,16 @@ fn types_of_lines_are_told(rt: HostRuntime) {
 fn lines_without_a_type_are_refused(rt: HostRuntime) {
     let none = plain_answer(&rt, rt.alloc(), "infer", b"");
     assert!(rt; is_answer(none, 4, "", "avrocat: ExternalFormat: EmptyInput\n"));
+}
+
+#[test]
+fn other_words_of_infer_are_usage(rt: HostRuntime) {
     let more = plain_answer(&rt, rt.alloc(), "infer 1", b"1\n");
     assert!(rt; is_answer(more, 1, "", "avrocat: usage\n"));
+}
+
+#[test]
+fn a_failed_read_is_told_with_its_line(rt: HostRuntime) {
     let unread = source(&rt, rt.alloc(), b"1\n2\n", 1);
     let fault = answer_of(&rt, rt.alloc(), "infer", unread, sink(&rt, rt.alloc(), 0));
     assert!(rt; is_answer(fault, 8, "", "avrocat: ReadFault: line 1\n"));

@@ -1,16 +1,12 @@
 //! The command `rewrite` over sources and sinks in memory.
 
-use crate::tests::{has_written, is_answer, plain_answer};
+use crate::tests::{FILE, has_ended, is_answer, plain_answer};
 
-/// A file of a record of one int, `a`, with a block of the rows 1 and -2.
-const FILE: &[u8] =
-    b"Obj\x01\x02\x16avro.schema\x82\x01{\"type\":\"record\",\"name\":\"t\",\"fields\":[{\"name\":\"a\",\"type\":\"int\"}]}\x00\x01\x01\x01\x01\x01\x01\x01\x01\x01\x01\x01\x01\x01\x01\x01\x01\x04\x04\x02\x03\x01\x01\x01\x01\x01\x01\x01\x01\x01\x01\x01\x01\x01\x01\x01\x01";
-
-/// The same with the first number in two bytes.
+/// `FILE` with the first number in two bytes.
 const LONGER: &[u8] =
     b"Obj\x01\x02\x16avro.schema\x82\x01{\"type\":\"record\",\"name\":\"t\",\"fields\":[{\"name\":\"a\",\"type\":\"int\"}]}\x00\x01\x01\x01\x01\x01\x01\x01\x01\x01\x01\x01\x01\x01\x01\x01\x01\x04\x06\x82\x00\x03\x01\x01\x01\x01\x01\x01\x01\x01\x01\x01\x01\x01\x01\x01\x01\x01";
 
-/// The same with the sync marker a0 a1 to af.
+/// `FILE` with the sync marker a0 a1 to af.
 const OTHER_MARKER: &[u8] =
     b"Obj\x01\x02\x16avro.schema\x82\x01{\"type\":\"record\",\"name\":\"t\",\"fields\":[{\"name\":\"a\",\"type\":\"int\"}]}\x00\xa0\xa1\xa2\xa3\xa4\xa5\xa6\xa7\xa8\xa9\xaa\xab\xac\xad\xae\xaf\x04\x04\x02\x03\xa0\xa1\xa2\xa3\xa4\xa5\xa6\xa7\xa8\xa9\xaa\xab\xac\xad\xae\xaf";
 
@@ -24,7 +20,7 @@ fn files_are_rewritten(rt: HostRuntime) {
         (others, FILE, OTHER_MARKER),
     ] {
         let answer = plain_answer(&rt, rt.alloc(), line, bytes);
-        assert!(rt; has_written(answer, output), "{line}");
+        assert!(rt; has_ended(answer, 0, output, ""), "{line}");
     }
 }
 

@@ -75,11 +75,6 @@ pub(crate) fn has_ended(answer: Answer, status: u8, output: &[u8], note: &str) -
         && answer.note.held() == note.as_bytes()
 }
 
-/// Whether the status is 0, and these bytes were written.
-pub(crate) fn has_written(answer: Answer, output: &[u8]) -> bool {
-    answer.status == 0 && answer.output.held() == output
-}
-
 /// The answer of a line on these bytes, where no read and no write fails.
 pub(crate) fn plain_answer(rt: &impl Abort, alloc: Global, line: &str, bytes: &[u8]) -> Answer {
     answer_of(
@@ -90,6 +85,14 @@ pub(crate) fn plain_answer(rt: &impl Abort, alloc: Global, line: &str, bytes: &[
         sink(rt, alloc, 0),
     )
 }
+
+/// The header of a file of a record of one int, `a`, with a marker of sixteen bytes 1.
+pub(crate) const HEADER: &[u8] =
+    b"Obj\x01\x02\x16avro.schema\x82\x01{\"type\":\"record\",\"name\":\"t\",\"fields\":[{\"name\":\"a\",\"type\":\"int\"}]}\x00\x01\x01\x01\x01\x01\x01\x01\x01\x01\x01\x01\x01\x01\x01\x01\x01";
+
+/// The file of this header, with a block of the rows 1 and -2.
+pub(crate) const FILE: &[u8] =
+    b"Obj\x01\x02\x16avro.schema\x82\x01{\"type\":\"record\",\"name\":\"t\",\"fields\":[{\"name\":\"a\",\"type\":\"int\"}]}\x00\x01\x01\x01\x01\x01\x01\x01\x01\x01\x01\x01\x01\x01\x01\x01\x01\x04\x04\x02\x03\x01\x01\x01\x01\x01\x01\x01\x01\x01\x01\x01\x01\x01\x01\x01\x01";
 
 const TWO_ROWS: &[u8] = b"\x02\x02\x04hi\x03\x00";
 
