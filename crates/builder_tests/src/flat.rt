@@ -11,7 +11,7 @@ use arrow_types::{DataType, MonthsDaysNs, NativeType};
 use std::alloc::Global;
 use std::process::Abort;
 
-// Each maker looks that its builder is empty once it has given its array.
+// The makers of a value and a null check that their builder is empty once it has given its array.
 
 fn number_and_null<T: NativeType>(rt: &impl Abort, alloc: Global, number: T) -> PrimitiveArray<T> {
     let mut builder = MutablePrimitiveArray::with_capacity(alloc, 0).expect(rt, "memory");

@@ -133,10 +133,22 @@ fn given_pair(rt: &impl Abort, mut builder: MutableFixedSizeListArray) -> Array
     given(rt, MutableArray::FixedSizeList(builder))
 }
 
+/// Whether these are 5 and 6.
+fn are_five_and_six(items: &Array) -> bool {
+    match items {
+        Array::Int32(numbers) => {
+            numbers.len() == 2
+                && (numbers.is_valid(0) && numbers.value(0) == 5)
+                && (numbers.is_valid(1) && numbers.value(1) == 6)
+        }
+        _ => false,
+    }
+}
+
 fn is_one_pair(array: Array) -> bool {
     match &array {
         Array::FixedSizeList(lists) => {
-            lists.len() == 1 && lists.is_valid(0) && lists.values().len() == 2
+            lists.len() == 1 && lists.is_valid(0) && are_five_and_six(lists.values())
         }
         _ => false,
     }
@@ -158,9 +170,10 @@ fn given_struct(rt: &impl Abort, mut builder: DynMutableStructArray) -> Array
 
 fn is_one_struct(array: Array) -> bool {
     match &array {
-        Array::Struct(structs) => {
-            structs.len() == 1 && structs.is_valid(0) && structs.values().len() == 1
-        }
+        Array::Struct(structs) => match structs.values() {
+            [child] => structs.len() == 1 && structs.is_valid(0) && is_five(child),
+            _ => false,
+        },
         _ => false,
     }
 }
