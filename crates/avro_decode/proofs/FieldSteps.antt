@@ -1,6 +1,6 @@
 -- Steps: whether one is that of a schema, and what the member beside null is.
 use Rattle.std.proofs.Common.{◌≡◌, ◌∙◌, ℕ, ℤ, ◌+◌, ◌<◌, ◌⊎◌, Bool, true, false, List, [], ◌∷◌, ◌++◌, length, get_or, set, Some, Result, Ok, Err, refl, sym, ap, subst, inl, inr, arith}
-use Rattle.std.specs.Prelude.{OnOk, OnErr, IfErr}
+use Rattle.std.specs.Prelude.{All, OnOk, OnErr, IfErr, IsTrue}
 use Rattle.std.proofs.lemmas.Bool.{cases_eq}
 use Rattle.std.proofs.lemmas.List.{get_or-set_same, get_or-set_other}
 use Rattle.arrow_core.specs.declared.error.Error.{Error}
@@ -128,6 +128,9 @@ kept_next n projection ln is so = λ i d lt. from i d lt (cases_eq i n)
     from : (i : ℕ) (d : Bool) → i < n + 1 → (i ≡ n) ⊎ (i ≡ n → ⊥) → get_or projection i d ≡ true
     from i d lt (inl e) = ap (λ (j : ℕ). get_or projection j d) e ∙ same_at projection n d false ln ∙ is
     from i d lt (inr ne) = so i d (omega (arith, lt, ne))
+
+pub not_all_kept : (n : ℕ) (projection : List Bool) → n < length projection → get_or projection n false ≡ false → All IsTrue projection → ⊥
+not_all_kept n projection lt is all = let kept : get_or projection n false ≡ true = all n false lt in absurd cc
 
 -- ---- nulls
 

@@ -13,6 +13,7 @@ pub mod Making
 pub mod Members
 pub mod NewBuilders
 pub mod Nodes
+pub mod NotCarried
 pub mod OneField
 pub mod Pairs
 pub mod Reading

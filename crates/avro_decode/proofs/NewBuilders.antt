@@ -7,7 +7,7 @@ use Rattle.arrow_types.specs.declared.types.Field.{Field}
 use Rattle.arrow_types.specs.declared.types.DataType.{DataType}
 use Rattle.arrow_builders.specs.Builders.{PlainBuilder, ContentBuilder, plain_node, content_node}
 use Rattle.arrow_builders.specs.Children.{all_nodes, fields_of}
-use Rattle.arrow_builders.specs.MutableArrays.{builder_slots, nodes}
+use Rattle.arrow_builders.specs.MutableArrays.{nodes}
 use Rattle.arrow_builders.specs.Nested.{lists_node, marks_node}
 use Rattle.arrow_builders.specs.Nodes.{Node, IsEmpty}
 use Rattle.arrow_builders.specs.Shapes.{dictionary, lists, records, shape}
@@ -31,7 +31,6 @@ use Rattle.arrow_core.specs.declared.error.Error.{Error}
 use Rattle.arrow_core.specs.declared.error.Error.TheVariants.{Overflow, OutOfMemory}
 use Rattle.arrow_builders.specs.Fits.{TypesFit}
 use Rattle.arrow_builders.specs.Tight.{IsTight}
-use Rattle.arrow_builders.proofs.Heads.{no_slots}
 use Rattle.arrow_builders.proofs.TightLaws.{empty_tight}
 use Rattle.avro_grammar.specs.Types.{HasType, HasColumnType}
 use Rattle.avro_grammar.specs.ValidBlock.{HasFloat, EnumsFit}
@@ -225,6 +224,3 @@ module _ (avros : List AvroField) (fs : List Field) (bs : List MutableArray) (h 
 
   pub made_tight : All IsTight bs
   made_tight = all_new IsTight avros fs bs (λ s t b n. empty_tight b n.empty) h
-
-  pub made_no_slots : All (λ b. builder_slots b ≡ []) bs
-  made_no_slots = all_new (λ b. builder_slots b ≡ []) avros fs bs (λ s t b n. no_slots b n.empty) h

@@ -1,4 +1,4 @@
--- How nodes grow, and that their room lasts.
+-- How nodes grow, and that their spare capacity lasts.
 use Rattle.std.proofs.Common.{◌≡◌, ℕ, ◌+◌, ◌≤◌, Bool, true, false, ◌&&◌, List, [], ◌∷◌, ◌++◌, length, refl, arith}
 use Rattle.arrow_types.specs.Numbers.{greatest_offset}
 use Rattle.std.specs.Prelude.{if◌then◌else◌}

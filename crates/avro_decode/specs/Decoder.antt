@@ -1,8 +1,9 @@
 -- What contracts see of a decoder of block after block, and what it is made for.
-use Rattle.std.specs.Prelude.{◌≡◌, ◌≢◌, ◌<◌, List, length, map, Bool, All, Option, IfSome, refl}
+use Rattle.std.specs.Prelude.{◌≡◌, ◌≢◌, ℕ, ◌<◌, List, length, map, Bool, All, Option, IfSome, refl}
 use Rattle.std.specs.Coded.{Coded, code_by, coded×, coded_list, coded_bool}
 use Rattle.arrow_core.specs.declared.error.Error.{Error}
 use Rattle.arrow_core.specs.declared.error.Error.TheVariants.{Overflow, OutOfMemory}
+use Rattle.arrow_types.specs.declared.slot.Slot.{Slot}
 use Rattle.arrow_types.specs.declared.types.Field.{Field}
 use Rattle.arrow_types.specs.contracts.types.Field as the_fields
 use Rattle.arrow_builders.specs.Fits.{TypesFit}
@@ -14,11 +15,12 @@ use Rattle.arrow_builders.specs.declared.array.MutableArray.{MutableArray}
 use Rattle.avro_schema.specs.declared.schema.AvroField.{AvroField}
 use Rattle.avro_schema.specs.contracts.schema.AvroField as the_avro_fields
 use Rattle.avro_grammar.specs.Carried.{CarriedList}
+use Rattle.avro_grammar.specs.Rows.{Rows}
 use Rattle.avro_grammar.specs.Types.{Fits}
-use Rattle.avro_grammar.specs.ValidBlock.{kept, HaveSameLength, KeepNoFloat}
+use Rattle.avro_grammar.specs.ValidBlock.{kept, HaveSameLength, KeepNoFloat, KeptEnumsFit}
 use Rattle.avro_decode.specs.Capacity.{AtNodes}
 use Rattle.avro_decode.specs.Columns.{kept_types}
-use Rattle.avro_decode.specs.Refusals.{BelongTogether, FieldsRefused}
+use Rattle.avro_decode.specs.Refusals.{BelongTogether, FieldsRefused, AreCounted}
 use Rattle.avro_decode.specs.Suits.{AllSuit}
 
 -- a decoder: the fields, the Avro fields, and which of them are kept
@@ -45,6 +47,13 @@ pub record CanBeDecoded (p : Projected) : Type 0 where
 -- why no decoder is made for them: as for a block, symbols and memory aside
 abbrev pub ProjectionRefused : Projected → Error → Type 0
 ProjectionRefused p e = FieldsRefused p.fields p.avro_fields p.projection e × (e ≢ Overflow) × (e ≢ OutOfMemory)
+
+-- The bytes are n rows, whose kept slots are the table. Offsets can count the bytes, and dictionaries the symbols of
+-- kept enums.
+pub record HasTable (p : Projected) (n : ℕ) (bytes : List ℕ) (table : List (List Slot)) : Type 0 where
+  pub rows : Rows n p.avro_fields p.projection bytes table
+  pub counted : AreCounted n p.fields p.projection bytes
+  pub symbols : KeptEnumsFit p.avro_fields p.projection
 
 -- cited by private contracts alone: they belong together, and these are empty builders of the kept fields, of which
 -- arrays can be made

@@ -74,12 +74,13 @@ abbrev pub BlockHasMemory : {X : Type 0} → Result X BlockFault → Type 0
 BlockHasMemory (Err Memory) = ⊥
 BlockHasMemory _ = Unit {0}
 
--- what reading a kept field gives
+-- why a kept field isn't read
 abbrev pub FieldFails : {Y : Type 0} → BlockFault → Option Y → Type 0
 FieldFails Bytes reading = reading ≡ None
 FieldFails NegativeSize reading = ⊥
 FieldFails Memory reading = Unit {0}
 
+-- what reading a kept field gives
 abbrev pub GivesField : {X Y : Type 0} → (X → Y) → Result X BlockFault → Option Y → Type 0
 GivesField view (Ok x) reading = reading ≡ Some (view x)
 GivesField view (Err e) reading = FieldFails e reading

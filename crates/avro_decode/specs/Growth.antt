@@ -45,7 +45,7 @@ all_large (records data_type fields) = all_large fields
 all_large (field first more) = all_large first && all_large more
 all_large _ = true
 
--- offsets, of 64 bits where large, can count n more slots, and n more content bytes
+-- offsets, of 64 bits where large, can count n more slots, and, where these are bounded, n more content bytes
 abbrev pub Reaches : Bool → Bool → ℕ → Node → Type 0
 Reaches large true n x = (x.slots + n ≤ greatest_offset large) × (x.bytes + n ≤ greatest_offset large)
 Reaches large false n x = (x.slots + n ≤ greatest_offset large) × Unit {0}
@@ -54,7 +54,7 @@ abbrev pub AllReach : Bool → List Bool → ℕ → List Node → Type 0
 AllReach large ms n [] = Unit {0}
 AllReach large ms n (x ∷ xs) = Reaches large (bounded ms) n x × AllReach large (later ms) n xs
 
--- the offsets of the builder can
+-- the same at each node of the builder
 abbrev pub AllOffsetsReach : List Bool → ℕ → MutableArray → Type 0
 AllOffsetsReach ms n b = AllReach (all_large (shape b)) ms n (nodes b)
 
@@ -63,7 +63,7 @@ abbrev pub HaveSpare : List Bool → ℕ → List Node → Type 0
 HaveSpare ms n [] = Unit {0}
 HaveSpare ms n (x ∷ xs) = (bounded ms ≡ true) × HasSpare n x × HaveSpare (later ms) n xs
 
--- the same of members and of fields as lists
+-- the masks of a union's and of a record's builders, by members and fields as lists
 abbrev pub mask_pair : List Schema → List Bool
 mask_pair (a ∷ b ∷ []) = if is_null a then mask true b else mask true a
 mask_pair _ = []
@@ -101,12 +101,12 @@ PartTight n (suc k) (b ∷ bs) = (length (builder_slots b) ≡ n + 1) × IsTight
 
 -- ---- the kinds of builders
 
--- the same of members as a list
+-- the builder takes the values of a union of these members
 abbrev pub SuitsPair : List Schema → Shape → Type 0
 SuitsPair (a ∷ b ∷ []) s = (IsNull a × Suits b s × IsNoUnion b) ⊎ (Suits a s × IsNoUnion a × IsNull b)
 SuitsPair _ s = ⊥
 
--- what follows of the builder's kind
+-- the kind of a builder that takes a record's or an array's values
 abbrev pub HasKindOf : Schema → PhysicalType → Type 0
 HasKindOf (Record r) k = k ≡ physical.Struct
 HasKindOf (Array' p item) k = (k ≡ physical.List) ⊎ (k ≡ physical.LargeList)

@@ -12,6 +12,18 @@ use Rattle.avro_grammar.specs.Rows.{Rows}
 use Rattle.avro_grammar.specs.ValidBlock.{HaveSameLength, KeepNoFloat, KeptEnumsFit, OffsetsFit, ValidBlock}
 use Rattle.avro_grammar.specs.Types.{Fits}
 
+-- ---- Avro fields
+
+-- there is a field, and all are carried
+abbrev pub AreCarried : List AvroField → Type 0
+AreCarried avro_fields = (0 < length avro_fields) × CarriedList avro_fields
+
+-- why they aren't, in this order
+abbrev pub AreNotCarried : List AvroField → Error → Type 0
+AreNotCarried avro_fields (NotYetImplemented reason.NoField) = avro_fields ≡ []
+AreNotCarried avro_fields (NotYetImplemented reason.NotCarried) = (0 < length avro_fields) × (CarriedList avro_fields → ⊥)
+AreNotCarried avro_fields _ = ⊥
+
 -- ---- fields, Avro fields and a projection
 
 -- they belong together: what `CanBeColumns` asks of them
@@ -25,7 +37,7 @@ pub record BelongTogether (fields : List Field) (avro_fields : List AvroField) (
 
 -- the lengths agree, there is a field, and each schema is carried
 abbrev pub HaveCarriedFields : List Field → List AvroField → List Bool → Type 0
-HaveCarriedFields fields avro_fields projection = HaveSameLength fields avro_fields projection × (0 < length fields) × CarriedList avro_fields
+HaveCarriedFields fields avro_fields projection = HaveSameLength fields avro_fields projection × AreCarried avro_fields
 
 -- why they do not belong together, in this order
 abbrev pub FieldsRefused : List Field → List AvroField → List Bool → Error → Type 0

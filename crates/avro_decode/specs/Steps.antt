@@ -20,19 +20,19 @@ IsOfKind kind.Long s = (logical : Option LongLogical) × (s ≡ Long logical)
 IsOfKind kind.String s = (logical : Option StringLogical) × (s ≡ String logical)
 IsOfKind kind.Any s = Unit {0}
 
--- null is the first member or the second, and the other is of the kind
+-- the first member is null exactly where null_first, and the member beside null is of the kind
 abbrev pub AreOfKind : Bool → Kind → Schema → Schema → Type 0
 AreOfKind true k a b = IsNull a × IsOfKind k b
 AreOfKind false k a b = (IsNull a → ⊥) × IsOfKind k a
 
-abbrev pub RowFits : {m : _} → Bool → Kind → Row_of-Schema m → Type 0
-RowFits null_first k (more_of-Schema a (more_of-Schema b end_of-Schema)) = AreOfKind null_first k a b
-RowFits null_first k _ = ⊥
+abbrev pub MembersFit : {m : _} → Bool → Kind → Row_of-Schema m → Type 0
+MembersFit null_first k (more_of-Schema a (more_of-Schema b end_of-Schema)) = AreOfKind null_first k a b
+MembersFit null_first k _ = ⊥
 
 -- the step reads values of the schema
 abbrev pub StepFits : Step → Schema → Type 0
 StepFits (Plain k) s = IsOfKind k s
-StepFits (Nullable null_first k) (Union' shape members) = RowFits null_first k members
+StepFits (Nullable null_first k) (Union' shape members) = MembersFit null_first k members
 StepFits (Nullable null_first k) _ = ⊥
 
 -- the same of a union by its members as a list

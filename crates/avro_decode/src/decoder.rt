@@ -18,8 +18,8 @@ use avro_schema::{AvroField, Block};
 use std::alloc::Global;
 use std::marker::Model;
 
-/// Decodes block after block of one schema: what `deserialize` answers of each. It uses the same
-/// builders for all; no clause says so.
+/// Decodes block after block of one schema: what `deserialize` answers of each. It keeps its builders
+/// from block to block, but for after a refused one; no clause says so.
 #[derive(Drop)]
 pub struct Decoder {
     alloc: Global,
@@ -52,8 +52,8 @@ impl Decoder {
     /// In this order: `InvalidArgumentError(Lengths)` where the lengths of the three lists differ,
     /// `NotYetImplemented(NoField)` where there is no field, `NotYetImplemented(NotCarried)` where
     /// a schema isn't carried, be it kept or not, `InvalidArgumentError(FieldType)` where a field
-    /// hasn't the type and the nullability of its schema, and `NotYetImplemented(Float)` where a
-    /// kept schema holds a float or a double at any depth.
+    /// hasn't the type, in small or large forms, and the nullability of its schema, and
+    /// `NotYetImplemented(Float)` where a kept schema holds a float or a double at any depth.
     pub fn new(
         alloc: Global,
         fields: Vec<Field>,
@@ -75,6 +75,20 @@ impl Decoder {
             projection,
             builders: None,
         })
+    }
+
+    /// The Avro fields of the rows that it decodes.
+    pub fn avro_fields(&self) -> &[AvroField]
+        ensures { result.now ≡ self.now.avro_fields }
+    {
+        self.avro_fields.as_slice()
+    }
+
+    /// Which of them are kept.
+    pub fn projection(&self) -> &[bool]
+        ensures { result.now ≡ self.now.projection }
+    {
+        &self.projection
     }
 
     /// The columns of a block's kept fields, as `deserialize` gives them.

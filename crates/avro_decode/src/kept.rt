@@ -8,7 +8,7 @@ use avro_infer::{enums_fit, has_float, is_small};
 use avro_schema::AvroField;
 
 /// The most bytes of a block of which a column has offsets of 32 bits.
-const MOST_BYTES: usize = 2_147_483_647;
+pub const MOST_BYTES: usize = 2_147_483_647;
 
 /// Whether no `float` and no `double` stands in the schema of a kept field, at any depth.
 pub fn keep_no_float(avro_fields: &[AvroField], projection: &[bool]) -> bool

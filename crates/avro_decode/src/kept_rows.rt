@@ -1,6 +1,6 @@
 //! Rows of which each field is kept, by the steps of the fields.
 
-ghost use Rattle.std.specs.Prelude.{◌≡◌, ◌≤◌, length, map, true, All, IsTrue, OnOk};
+ghost use Rattle.std.specs.Prelude.{◌≡◌, ◌≤◌, ◌↔◌, length, map, All, IsTrue, OnOk};
 ghost use Rattle.arrow_builders.specs.MutableArrays.{builder_slots};
 ghost use Rattle.arrow_builders.specs.Shapes.{shape};
 ghost use Rattle.arrow_builders.specs.Tight.{IsTight};
@@ -13,14 +13,14 @@ ghost use Rattle.avro_decode.specs.Steps.{StepsFit};
 ghost use Rattle.avro_decode.specs.Suits.{AllSuit};
 
 use crate::fault::BlockFault;
-use crate::steps::{Step, decode_by_step, steps_of};
+use crate::steps::{MOST_STEPS, Step, decode_by_step, steps_of};
 use arrow_builders::MutableArray;
 use avro_reference::Ahead;
 use avro_schema::AvroField;
 
 /// Whether each field is kept.
 pub fn all_kept(projection: &[bool]) -> bool
-    ensures { IsTrue result → All (λ kept. kept ≡ true) projection.now }
+    ensures { IsTrue result ↔ All IsTrue projection.now }
 {
     for i in 0..projection.len() {
         if !projection[i] {
@@ -38,8 +38,8 @@ pub fn decode_kept_rows<C: Ahead>(
     projection: &[bool],
     builders: &mut [MutableArray],
 ) -> Result<(), BlockFault>
-    requires few { length avro_fields.now ≤ 64 }
-    requires all { All (λ kept. kept ≡ true) projection.now }
+    requires few { length avro_fields.now ≤ MOST_STEPS }
+    requires all { All IsTrue projection.now }
     requires lengths { length avro_fields.now ≡ length projection.now }
     requires suits { AllSuit (kept avro_fields.now projection.now) builders.old }
     requires tight { All IsTight builders.old }
@@ -75,7 +75,7 @@ fn decode_kept_row<C: Ahead>(
 ) -> Result<(), BlockFault>
     requires steps { StepsFit steps.now avro_fields.now }
     requires enough { length avro_fields.now ≤ length steps.now }
-    requires all { All (λ kept. kept ≡ true) projection.now }
+    requires all { All IsTrue projection.now }
     requires lengths { length avro_fields.now ≡ length projection.now }
     requires suits { AllSuit (kept avro_fields.now projection.now) builders.old }
     requires tight { All IsTight builders.old }

@@ -2,6 +2,7 @@
 #![tactic(auto)]
 
 mod blocks;
+mod carried;
 mod decode;
 mod decoder;
 mod fault;
@@ -17,6 +18,8 @@ mod rows;
 mod steps;
 
 pub use blocks::{deserialize, deserialize_into};
+pub use carried::check_carried;
 pub use decoder::Decoder;
+pub use kept::MOST_BYTES;
 pub use laws::{reserved_capacity_stays, valid_blocks_are_read};
 pub use prepare::make_builders;

@@ -1,29 +1,32 @@
 //! The builders of the columns of a block.
 
-ghost use Rattle.std.specs.Prelude.{◌≡◌, [], map, All, OnOk, IfOk, IfErr, MatchResult};
+ghost use Rattle.std.specs.Prelude.{◌≡◌, map, All, OnOk, IfOk, IfErr, MatchResult};
 ghost use Rattle.arrow_core.specs.Errors.{OnlyOutOfMemory};
 ghost use Rattle.arrow_builders.specs.Fits.{TypesFit};
-ghost use Rattle.arrow_builders.specs.MutableArrays.{builder_type, builder_slots, nodes};
+ghost use Rattle.arrow_builders.specs.MutableArrays.{builder_type};
 ghost use Rattle.arrow_builders.specs.Nodes.{IsEmpty};
 ghost use Rattle.arrow_builders.specs.Shapes.{shape};
 ghost use Rattle.arrow_builders.specs.Tight.{IsTight};
 ghost use Rattle.avro_grammar.specs.ValidBlock.{kept};
+ghost use Rattle.avro_decode.specs.Capacity.{AtNodes};
 ghost use Rattle.avro_decode.specs.Columns.{kept_types};
 ghost use Rattle.avro_decode.specs.Decoder.{projected, CanBeDecoded, ProjectionRefused};
 ghost use Rattle.avro_decode.specs.Making.{AreNewBuilders};
 ghost use Rattle.avro_decode.specs.Refusals.{BelongTogether, FieldsRefused};
 ghost use Rattle.avro_decode.specs.Suits.{AllSuit};
 
+use crate::carried::check_carried;
 use crate::kept::{keep_no_float, kept_enums_fit};
 use crate::make::make_builder;
 use arrow_builders::MutableArray;
 use arrow_core::{Error, Reason, Result};
 use arrow_types::Field;
-use avro_infer::{all_carried, all_fit};
+use avro_infer::all_fit;
 use avro_schema::AvroField;
 use std::alloc::Global;
 
-/// Whether fields, Avro fields and projection belong together, the symbols of kept enums aside.
+/// Ok where fields, Avro fields and projection belong together, the symbols of kept enums aside; else
+/// the first refusal.
 pub(crate) fn check_types(
     fields: &[Field],
     avro_fields: &[AvroField],
@@ -36,12 +39,7 @@ pub(crate) fn check_types(
     if fields.len() != avro_fields.len() || projection.len() != avro_fields.len() {
         return Err(Error::InvalidArgumentError(Reason::Lengths));
     }
-    if fields.is_empty() {
-        return Err(Error::NotYetImplemented(Reason::NoField));
-    }
-    if !all_carried(avro_fields) {
-        return Err(Error::NotYetImplemented(Reason::NotCarried));
-    }
+    check_carried(avro_fields)?;
     if !all_fit(fields, avro_fields) {
         return Err(Error::InvalidArgumentError(Reason::FieldType));
     }
@@ -51,7 +49,7 @@ pub(crate) fn check_types(
     Ok(())
 }
 
-/// Whether fields, Avro fields and projection belong together.
+/// Ok where fields, Avro fields and projection belong together; else the first refusal.
 fn check_fields(fields: &[Field], avro_fields: &[AvroField], projection: &[bool]) -> Result<()>
     ensures { MatchResult result
         (λ _. BelongTogether fields.now avro_fields.now projection.now)
@@ -87,8 +85,7 @@ pub fn make_builders(
         builders.items) }
     ensures data_types { IfOk result (λ builders. map builder_type builders.items
         ≡ kept_types fields.now projection.now) }
-    ensures empty { IfOk result (λ builders. All (λ b. builder_slots b ≡ []) builders.items) }
-    ensures nodes { IfOk result (λ builders. All (λ b. All IsEmpty (nodes b)) builders.items) }
+    ensures empty { IfOk result (λ builders. AtNodes IsEmpty builders.items) }
     ensures tight { IfOk result (λ builders. All IsTight builders.items) }
     ensures types_fit { IfOk result (λ builders. All (λ b. TypesFit (shape b)) builders.items) }
     ensures err { IfErr result (FieldsRefused fields.now avro_fields.now projection.now) }

@@ -48,8 +48,8 @@ pub enum Kind {
 pub enum Step {
     /// As values of a kind.
     Plain(Kind),
-    /// As a union of null, which is the first of its two members where this is so, and of a kind.
-    Nullable(bool, Kind),
+    /// As a union of null and a kind.
+    Nullable { null_first: bool, kind: Kind },
 }
 
 /// The kind of a schema's values.
@@ -82,15 +82,21 @@ fn step_of_union(members: &[AvroSchema]) -> Step
         return Step::Plain(Kind::Any);
     };
     if is_null(first) {
-        Step::Nullable(true, kind_of(second))
+        Step::Nullable {
+            null_first: true,
+            kind: kind_of(second),
+        }
     } else {
-        Step::Nullable(false, kind_of(first))
+        Step::Nullable {
+            null_first: false,
+            kind: kind_of(first),
+        }
     }
 }
 
 /// The steps of the fields, in order.
 pub(crate) fn steps_of(avro_fields: &[AvroField]) -> [Step; MOST_STEPS]
-    requires few { length avro_fields.now ≤ 64 }
+    requires few { length avro_fields.now ≤ MOST_STEPS }
     ensures { StepsFit result avro_fields.now }
 {
     let mut steps = [Step::Plain(Kind::Any); MOST_STEPS];
@@ -159,7 +165,7 @@ fn decode_step<C: Ahead>(
 {
     match step {
         Step::Plain(kind) => decode_kind(cursor, kind, schema, builder),
-        Step::Nullable(null_first, kind) => {
+        Step::Nullable { null_first, kind } => {
             let AvroSchema::Union(members) = schema else {
                 unreachable!()
             };
@@ -169,6 +175,7 @@ fn decode_step<C: Ahead>(
 }
 
 /// Reads a value of a kind.
+// The patterns on the schema can't fail; they tell the proof which value is read.
 #[inline(always)]
 #[tactic(auto, using(crate::proofs::Sets::kinds))]
 fn decode_kind<C: Ahead>(
