@@ -54,7 +54,7 @@ abbrev pub WritesAll : {A : Type 0} → (A → List ℕ → Type 0) → List A �
 WritesAll Writes [] bytes = bytes ≡ []
 WritesAll Writes (x ∷ xs) bytes = (first : List ℕ) × (more : List ℕ) × (bytes ≡ first ++ more) × Writes x first × WritesAll Writes xs more
 
--- so many items as one block (Avro 1.11, "Arrays")
+-- a list's items as one block (Avro 1.11, "Arrays")
 abbrev pub block : ℕ → List ℕ → List ℕ
 block zero items = shortest (pos 0)
 block (suc n) items = shortest (pos (suc n)) ++ (items ++ shortest (pos 0))
@@ -121,17 +121,17 @@ Adds Are old new = (bytes : List ℕ) × (new ≡ old ++ bytes) × Are bytes
 abbrev pub Reads : (Json → List ℕ → Type 0) → (List ℕ → Outcome Json) → List ℕ → List ℕ → List ℕ → List ℕ → Type 0
 Reads Writes read before after old new = (value : Json) × (read before ≡ found value after) × Adds (Writes value) old new
 
--- so many items were read up to the closing bracket
+-- `count` items were read up to the closing bracket
 abbrev pub ReadsItems : (Json → List ℕ → Type 0) → ℕ → ℕ → List ℕ → List ℕ → List ℕ → List ℕ → Type 0
 ReadsItems Item depth count before after old new =
     (items : List Json) × (array_at (value_at depth) before ≡ found (array items) after) × (length items ≡ count) × (count < 2 ^ 63) × Adds (WritesAll Item items) old new
 
--- the block of so many items, which stand after a zero at the index
+-- the block of `count` items, which stand after a zero at the index
 abbrev pub Blocks : ℕ → ℕ → List ℕ → List ℕ → Type 0
 Blocks start count old new =
     (before : List ℕ) (items : List ℕ) → length before ≡ start → old ≡ (before ++ 0 ∷ []) ++ items → (count ≡ 0 → items ≡ []) → new ≡ before ++ block count items
 
--- where the first fields stand before, null is appended for each of those up to another index
+-- nulls for the fields from one index to before another: behind what stands for those before the first, they make what stands for those before the other
 abbrev pub Fills : List Plan → ℕ → ℕ → List ℕ → List ℕ → Type 0
 Fills plans from to old new =
     (bytes : List ℕ) × (new ≡ old ++ bytes) × ((values : List Json) (before : List ℕ) → WritesFirst from plans values before → WritesFirst to plans values (before ++ bytes))

@@ -4,6 +4,7 @@ ghost use Rattle.line_encode.specs.Plans.{Fills};
 
 use crate::given_up::GivenUp;
 use crate::plan::{Plan, is_nullable};
+use crate::primitive::push_null;
 
 /// Appends null for each of the fields from `from` to before `to`. A field where null may not stand
 /// is given up.
@@ -19,17 +20,14 @@ pub(crate) fn push_nulls(
     ensures { OnOk result (Fills plans.now from to out.old.items out.new.items) }
 {
     for k in from..to {
-        if !is_nullable(&plans[k]) {
-            return Err(GivenUp);
-        }
-        out.push(0)?;
+        push_null(is_nullable(&plans[k]), out)?;
     }
     Ok(())
 }
 
 /// Appends null for each of the fields.
 #[inline(never)]
-pub(crate) fn push_no_fields(plans: &[Plan], out: &mut Vec<u8>) -> Result<(), GivenUp>
+pub(crate) fn push_all_null(plans: &[Plan], out: &mut Vec<u8>) -> Result<(), GivenUp>
     ensures { OnOk result (Fills plans.now 0 (length plans.now) out.old.items out.new.items) }
 {
     push_nulls(plans, 0, plans.len(), out)

@@ -71,10 +71,12 @@ pub struct LinePlan {
 }
 
 impl LinePlan {
-    /// The plan of rows of these fields under the record. `None` where lines of such rows are always
-    /// given up: where a struct has no field, or two of the same name, where a schema is none of
-    /// boolean, int, long, string, bytes, array, record, and a union of null and one of these, in this
-    /// order, or where the type of a field isn't read so; and where there is no memory.
+    /// The plan of rows of these fields under the record. `None` where there is no field, or two have
+    /// the same name, in a struct too; where a record has another number of fields; where a union
+    /// isn't null and then another schema; and where a type and its schema are no pair of these:
+    /// Boolean and boolean; Int32, Date32, Time32 and int; Int64, Date64, Time64, Timestamp and long;
+    /// Utf8, LargeUtf8 and string; Binary, LargeBinary and bytes without a logical type; List,
+    /// LargeList and array; Struct and record. Also where there is no memory.
     pub fn new(alloc: Global, fields: &[Field], root: &Record) -> Option<LinePlan>
         ensures { IfSome result (IsLinePlanOf fields.now root.now) }
     {
@@ -88,7 +90,10 @@ impl LinePlan {
     /// at once; a missing member is as null, and a member that no field names is passed over.
     ///
     /// `GivenUp` may come at any time, and `out` may then hold any bytes: at a line that is no such
-    /// row, at members in another order than the fields, and where there is no memory.
+    /// object; where fields' keys stand twice or in another order than the fields; at a null or a
+    /// missing member where the record requires a value; at a value of another kind than its type's
+    /// own, though it may mean a slot (a number under a string), or one that doesn't fit; at a list of
+    /// more than 2147483647 items; and where there is no memory.
     pub fn encode_lines(
         &self,
         alloc: Global,

@@ -53,10 +53,7 @@ fn primitive_of(data_type: &DataType, schema: &AvroSchema) -> Option<Primitive>
 fn make_primitive(nullable: bool, data_type: &DataType, schema: &AvroSchema) -> Option<Plan>
     ensures { IfSome result (IsHeldPlanOf nullable data_type.now schema.now) }
 {
-    match primitive_of(data_type, schema) {
-        Some(primitive) => Some(Plan::Primitive(nullable, primitive)),
-        None => None,
-    }
+    Some(Plan::Primitive(nullable, primitive_of(data_type, schema)?))
 }
 
 #[inline(always)]
@@ -74,10 +71,7 @@ pub(crate) fn make_names(alloc: Global, fields: &[Field]) -> Option<Names>
     if fields.is_empty() {
         return None;
     }
-    match names_of(alloc, fields) {
-        Ok(names) => Names::new(names),
-        Err(_) => None,
-    }
+    Names::new(names_of(alloc, fields).ok()?)
 }
 
 /// The names of fields. `OutOfMemory` alone.
@@ -213,9 +207,7 @@ pub(crate) fn make_plans(
     let mut plans = Vec::new(alloc);
     for i in 0..fields.len() {
         let plan = make_plan(alloc, &fields[i].data_type, &avro_fields[i].schema)?;
-        if plans.push(plan).is_err() {
-            return None;
-        }
+        plans.push(plan).ok()?;
     }
     Some(plans)
 }

@@ -1,9 +1,9 @@
 //! Values without others in them: booleans, numbers and strings.
-ghost use Rattle.std.specs.Prelude.{◌≡◌, ◌++◌, ◌∷◌, [], ◌≤◌, ◌<◌, ◌^◌, cond, true, length, pos, negsuc, OnOk, IfOk};
+ghost use Rattle.std.specs.Prelude.{◌≡◌, ◌++◌, ◌∷◌, [], ◌≤◌, ◌<◌, ◌^◌, true, length, OnOk};
 ghost use Rattle.json_tree.specs.Reading.{found, value_at};
 ghost use Rattle.json_tree.specs.Tree.{boolean, null, number, string};
 ghost use Rattle.json_lend.specs.Standing.{lent_value};
-ghost use Rattle.line_encode.specs.Plans.{index, Adds, OrNull, Reads, WritesBoolean, WritesBytes, WritesInteger, WritesPrimitive};
+ghost use Rattle.line_encode.specs.Plans.{index, Adds, OrNull, Reads, WritesBoolean, WritesBytes, WritesPrimitive};
 
 use crate::given_up::GivenUp;
 use crate::plan::Primitive;
@@ -25,9 +25,22 @@ pub(crate) fn push_index(nullable: bool, out: &mut Vec<u8>) -> Result<(), GivenU
     Ok(())
 }
 
-/// Reads `null` where it may stand, and appends its index in the union, which is 0.
+/// Appends the index of null in a union, which is 0. Where null may not stand it is given up.
+#[inline(always)]
+pub(crate) fn push_null(nullable: bool, out: &mut Vec<u8>) -> Result<(), GivenUp>
+    ensures nullable { OnOk result (nullable ≡ true) }
+    ensures ok { OnOk result (out.new.items ≡ out.old.items ++ 0 ∷ []) }
+{
+    if !nullable {
+        return Err(GivenUp);
+    }
+    out.push(0)?;
+    Ok(())
+}
+
+/// Reads `null` where it may stand, and appends it.
 #[inline(never)]
-pub(crate) fn push_null<'a>(
+pub(crate) fn read_null<'a>(
     reader: &mut Reader<'a>,
     depth: usize,
     nullable: bool,
@@ -38,15 +51,8 @@ pub(crate) fn push_null<'a>(
     ensures null { OnOk result (value_at depth reader.old ≡ found null reader.new) }
     ensures ok { OnOk result (out.new.items ≡ out.old.items ++ 0 ∷ []) }
 {
-    let lent = lend(reader, depth)?;
-    match lent {
-        Lent::Null => {
-            if !nullable {
-                return Err(GivenUp);
-            }
-            out.push(0)?;
-            Ok(())
-        }
+    match lend(reader, depth)? {
+        Lent::Null => push_null(nullable, out),
         _ => Err(GivenUp),
     }
 }
@@ -76,9 +82,8 @@ fn push_int(
     exponent: &str,
     out: &mut Vec<u8>,
 ) -> Result<(), GivenUp>
-    ensures { OnOk result (Adds
-        (OrNull nullable (WritesInteger (negsuc 2147483647) (pos 2147483647))
-        (number mantissa.now exponent.now))
+    ensures { OnOk result
+        (Adds (OrNull nullable (WritesPrimitive Primitive.Int) (number mantissa.now exponent.now))
         out.old.items out.new.items) }
 {
     let Some(value) = i32::from_parts(mantissa, exponent) else {
@@ -97,9 +102,9 @@ fn push_long(
     exponent: &str,
     out: &mut Vec<u8>,
 ) -> Result<(), GivenUp>
-    ensures { OnOk result (Adds
-        (OrNull nullable (WritesInteger (negsuc 9223372036854775807) (pos 9223372036854775807))
-        (number mantissa.now exponent.now)) out.old.items out.new.items) }
+    ensures { OnOk result
+        (Adds (OrNull nullable (WritesPrimitive Primitive.Long) (number mantissa.now exponent.now))
+        out.old.items out.new.items) }
 {
     let Some(value) = i64::from_parts(mantissa, exponent) else {
         return Err(GivenUp);
@@ -136,10 +141,8 @@ fn push_escaped<'a>(
     ensures { OnOk result (Adds (OrNull nullable WritesBytes (string escaped.now))
         out.old.items out.new.items) }
 {
-    match escaped.to_text(alloc) {
-        Ok(text) => push_text(nullable, text.as_str(), out),
-        Err(_) => Err(GivenUp),
-    }
+    let text = escaped.to_text(alloc)?;
+    push_text(nullable, text.as_str(), out)
 }
 
 /// Appends a value that was lent. One of another kind is given up.
@@ -164,22 +167,9 @@ fn push_lent<'a>(
             push_long(nullable, mantissa, exponent, out)
         }
         (Primitive::Boolean, Lent::Bool(value)) => push_boolean(nullable, *value, out),
-        (_, Lent::Null) => push_missing(nullable, out),
+        (_, Lent::Null) => push_null(nullable, out),
         _ => Err(GivenUp),
     }
-}
-
-/// Appends the index of null in a union, which is 0. Where null may not stand it is given up.
-#[inline(always)]
-fn push_missing(nullable: bool, out: &mut Vec<u8>) -> Result<(), GivenUp>
-    ensures nullable { OnOk result (nullable ≡ true) }
-    ensures ok { OnOk result (out.new.items ≡ out.old.items ++ 0 ∷ []) }
-{
-    if !nullable {
-        return Err(GivenUp);
-    }
-    out.push(0)?;
-    Ok(())
 }
 
 /// Reads a value without others in it, and appends it.

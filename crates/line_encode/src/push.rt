@@ -4,20 +4,21 @@ ghost use Rattle.json_tree.specs.Layout.{distinct};
 ghost use Rattle.json_tree.specs.Reading.{array_at, object_at, value_at};
 ghost use Rattle.line_encode.specs.Plans.{Blocks, OrNull, Reads, ReadsField, ReadsItems, Writes, WritesList, WritesRecord};
 
-use crate::fields::{push_no_fields, push_nulls};
+use crate::fields::{push_all_null, push_nulls};
 use crate::given_up::GivenUp;
 use crate::plan::Plan;
-use crate::primitive::{push_index, push_null, push_primitive};
+use crate::primitive::{push_index, push_primitive, read_null};
 use avro_encode::append_number;
 use json_lend::{Name, read_name, skip_value};
 use json_tree::grammar::{closes, goes_on};
 use json_tree::reader::Reader;
 use std::alloc::Global;
 
-/// So many items are counted in one byte.
+/// The greatest count whose encoding is one byte: zigzag makes it 126.
 const COUNTED_IN_A_BYTE: usize = 63;
 
-/// Lists of more items are given up.
+/// Lists of more items are given up; the bound keeps the count within 62 bits, so that it may be
+/// counted up and encoded.
 const MOST_ITEMS: usize = 0x7fff_ffff;
 
 // Whether one item more may be counted.
@@ -85,7 +86,7 @@ fn push_array<'a>(
         reader.old reader.new out.old.items out.new.items) }
 {
     if !opens(reader, b'[', depth) {
-        return push_null(reader, depth, nullable, out);
+        return read_null(reader, depth, nullable, out);
     }
     push_index(nullable, out)?;
     push_list(alloc, reader, depth - 1, item, out)
@@ -109,7 +110,7 @@ fn push_object<'a>(
         (value_at depth) reader.old reader.new out.old.items out.new.items) }
 {
     if !opens(reader, b'{', depth) {
-        return push_null(reader, depth, nullable, out);
+        return read_null(reader, depth, nullable, out);
     }
     push_index(nullable, out)?;
     push_record(alloc, reader, depth - 1, names, plans, out)
@@ -224,11 +225,12 @@ pub(crate) fn push_record<'a>(
     ensures ok { OnOk result (Reads (WritesRecord names.now plans.now) (object_at (value_at depth))
         reader.old reader.new out.old.items out.new.items) }
 {
+    // As many where they were made; no clause says it.
     if names.len() != plans.len() {
         return Err(GivenUp);
     }
     if closes(reader, b'}') {
-        return push_no_fields(plans, out);
+        return push_all_null(plans, out);
     }
     let mut next: usize = 0;
     loop {

@@ -10,7 +10,7 @@ loop-k-preserved c =
     let k = c.loop-k.k in
     let lt = c.loop-k-test.true in (
       omega (arith, lt),
-      fills_more c.args.plans.now c.args.from k c.index-plans-k.result c.is_nullable.result c.args.out.now.items c.loop-k.out.items c.push.new.self.items (omega (arith, lt, c.requires.within)) c.index-plans-k.is c.is_nullable.ensures c.if-not-is_nullable.false c.in_ok-push.ensures.items c.loop-k.invariant.1,
+      fills_more c.args.plans.now c.args.from k c.index-plans-k.result c.is_nullable.result c.args.out.now.items c.loop-k.out.items c.push_null.new.out.items (omega (arith, lt, c.requires.within)) c.index-plans-k.is c.is_nullable.ensures c.in_ok-push_null.ensures.nullable c.in_ok-push_null.ensures.ok c.loop-k.invariant.1,
     )
 
 pub returns : goal.returns

@@ -46,7 +46,7 @@ push_value-returns-in-Record-clause-ok t c =
 
 pub push_array-returns-then-not-opens-clause-ok : goal.push_array-returns-then-not-opens-clause-ok
 push_array-returns-then-not-opens-clause-ok t c =
-    let p = c.push_null in
+    let p = c.read_null in
     let same = c.if-not-opens.ensures in
     read_null p.result c.args.nullable (WritesList (Writes c.args.item.now)) (value_at c.args.depth) c.args.reader.now c.opens.new.reader p.new.reader c.args.out.now.items p.new.out.items same p.ensures.nullable p.ensures.null p.ensures.ok
 
@@ -104,7 +104,7 @@ push_items-loop-alloc-preserved t c =
 
 pub push_object-returns-then-not-opens-clause-ok : goal.push_object-returns-then-not-opens-clause-ok
 push_object-returns-then-not-opens-clause-ok t c =
-    let p = c.push_null in
+    let p = c.read_null in
     let same = c.if-not-opens.ensures in
     read_null p.result c.args.nullable (WritesRecord c.args.names.now c.args.plans.now) (value_at c.args.depth) c.args.reader.now c.opens.new.reader p.new.reader c.args.out.now.items p.new.out.items same p.ensures.nullable p.ensures.null p.ensures.ok
 
@@ -120,7 +120,7 @@ push_object-returns-clause-ok t c =
 pub push_record-returns-then-closes-clause-ok : goal.push_record-returns-then-closes-clause-ok
 push_record-returns-then-closes-clause-ok t c =
     let same : length c.args.names.now ≡ length c.args.plans.now = search rules in
-    let p = c.push_no_fields in
+    let p = c.push_all_null in
     no_members p.result c.args.depth c.args.names.now c.args.plans.now c.args.reader.now c.closes.new.reader c.args.out.now.items p.new.out.items same c.if-closes.ensures.found p.ensures
 
 pub push_record-loop-at-init : goal.push_record-loop-at-init
