@@ -23,14 +23,14 @@ NextRow old new before after false = ShowsRows 1 old new [] × (after ≡ before
 abbrev pub NoRow : State → State → Error → Type 0
 NoRow old new e = (e ≡ OutOfMemory) ⊎ NoRows 1 old new e
 
--- these rows were taken, n of them at most, and fewer only at the end of the source
+-- these rows were taken, n of them at most, and fewer only at the end of the source; each row took at least one byte of the limit
 pub record TakesSome (n : ℕ) (old new : State) (texts : List (List ℕ)) : Type 0 where
   pub takes : TakesRows old new texts
   pub most : length texts ≤ n
   pub fewer : length texts < n → IsAtEnd new.left
   pub few : length texts + new.limit ≤ old.limit
 
--- these rows were taken so far, n of them at most
+-- these rows were taken so far, n of them at most; each took at least one byte of the limit
 pub record BatchSoFar (n : ℕ) (old new : State) (texts : List (List ℕ)) : Type 0 where
   pub takes : TakesRows old new texts
   pub most : length texts ≤ n

@@ -39,8 +39,8 @@ pub record AreRows (row_type : DataType) (root : Schema) (texts : List (List ℕ
 
 -- Why these values aren't written as rows, the first reason that applies to all of them together: one is no object; a text
 -- stands under a timestamp; one doesn't fit its type, or there are more items or bytes than can be counted; a null stands
--- where the root requires a value, of which it isn't said that the items and bytes can be counted. Out of memory may come at
--- any time.
+-- where the root requires a value (which doesn't rule out that items or bytes are too many). Out of memory may come at any
+-- time.
 abbrev pub AreNotWritten : DataType → Schema → List Json → Error → Type 0
 AreNotWritten row_type root values (ExternalFormat reason.NotAnObject) = Any (λ value. is_object value ≡ false) values
 AreNotWritten row_type root values (NotYetImplemented reason.TextTimestamp) = All (λ value. is_object value ≡ true) values × Has text_timestamp (reading row_type) values

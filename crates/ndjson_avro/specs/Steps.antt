@@ -35,7 +35,8 @@ use Rattle.ndjson_avro.specs.declared.encoder.BlockEncoder.{BlockEncoder}
 
 -- ---- encoding
 
--- Values are read under the row type, whose rows pair with the root, and are intervals nowhere.
+-- JSON values are read under the row type, which names no field twice and pairs with the root, and no slot shows an interval that a
+-- duration can't hold.
 pub record IsRootOf (root : Schema) (row_type : DataType) : Type 0 where
   pub distinct : names_twice row_type ≡ false
   pub readable : has_reading row_type ≡ true
@@ -104,7 +105,7 @@ abbrev pub as_batch : List Slot → List (List Slot)
 as_batch [] = []
 as_batch (x ∷ slots) = (x ∷ slots) ∷ []
 
--- the next rows were taken, so many, and written as a block, if any
+-- the next rows were taken, `count` of them, and written as a block, if any
 pub record NextWritten (row_type : DataType) (root : Schema) (marker : List ℕ) (n : ℕ) (old new : State) (held held_after : Option (List ℕ)) (count : ℕ) : Type 0 where
   pub texts : List (List ℕ)
   pub takes : TakesSome n old new texts
@@ -113,14 +114,14 @@ pub record NextWritten (row_type : DataType) (root : Schema) (marker : List ℕ)
   pub written : Appends held held_after (canonical_blocks marker (rows_blocks root (as_batch slots)))
   pub counted : count ≡ length texts
 
--- whole batches of n rows were written so far, and of so many rows
+-- whole batches of n rows were written so far, `count` rows in all
 pub record WrittenSoFar (row_type : DataType) (root : Schema) (marker : List ℕ) (n : ℕ) (old new : State) (held held_after : Option (List ℕ)) (count : ℕ) : Type 0 where
   pub batches : List (List Slot)
   pub before : WritesBatches row_type root marker n old new held held_after batches
   pub counted : count ≡ length before.texts
   pub few : length before.texts + new.limit ≤ old.limit
 
--- all rows were taken, so many, and written
+-- all rows were taken, `count` of them, and written
 pub record AllWritten (row_type : DataType) (root : Schema) (marker : List ℕ) (n : ℕ) (old new : State) (held held_after : Option (List ℕ)) (count : ℕ) : Type 0 where
   pub texts : List (List ℕ)
   pub takes : TakesRows old new texts

@@ -5,7 +5,8 @@ use Rattle.arrow_core.specs.declared.error.Error.{Error}
 use Rattle.ndjson_read.specs.Lines.{lines, rows_of, EndsLine}
 use Rattle.ndjson_read.specs.Reading.{State, NoRows, Takes, n_more}
 
--- the bytes that were taken are whole lines in UTF-8, or reach the end of the source, and these are their rows
+-- the bytes that were taken are lines in UTF-8, whole ones or up to the end of the source; these are their rows, and the reader
+-- counted the lines
 pub record AreRowsOf (old new : State) (taken : List ℕ) (texts : List (List ℕ)) : Type 0 where
   pub rows : texts ≡ rows_of taken
   pub whole : EndsLine taken ⊎ IsAtEnd new.left

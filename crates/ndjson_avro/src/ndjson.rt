@@ -18,10 +18,11 @@ use std::alloc::Global;
 /// Container Files"): each line that `str::trim` leaves something of is a JSON object (RFC 8259)
 /// and becomes a row, whose columns are the members by the names of the schema's fields. A missing
 /// member is a null, and a member that no field names is passed over. The file's record is the one
-/// that `to_record` and `name_types` give; each block has `rows_per_block` rows, the last one as
-/// many as are left, and without rows there is no block. All is in its one canonical encoding.
-/// Answers how many rows were written. At most `byte_limit` bytes are taken, and one more where the
-/// answer is `LimitExceeded`. `rows_per_block` is at least 1.
+/// that `to_record` and `name_types` give, under the name `name`, and its sync marker is `marker`;
+/// each block has `rows_per_block` rows, the last one as many as are left, and without rows there is
+/// no block. All is in its one canonical encoding. Answers how many rows were written. At most
+/// `byte_limit` bytes are taken, and one more where the answer is `LimitExceeded`. `rows_per_block`
+/// is at least 1.
 ///
 /// The errors, in this order. Before anything is read or written:
 /// `InvalidArgumentError(DuplicateName)` where two fields, or two of a struct at any depth, have the

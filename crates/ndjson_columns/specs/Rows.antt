@@ -8,7 +8,7 @@ use Rattle.ndjson_infer.specs.GivenRows.{texts_of}
 use Rattle.ndjson_infer.specs.Inference.{NoValue}
 use Rattle.ndjson_infer.specs.Needed.{StandFor}
 
--- a row stands for no value by this error, and those before it stand for some; a row may also have been read without memory
+-- this row stands for no value, by the error, and those before it stand for some; or there was no memory for it
 pub record FailsAtRow (rows : List (List ℕ)) (e : Error) : Type 0 where
   pub before : List (List ℕ)
   pub row : List ℕ

@@ -125,7 +125,7 @@ fn encoded_all(alloc: Global, fields: &[Field], columns: &[Array]) -> Result<Vec
     Ok(made)
 }
 
-// Makes of a column that was read one of this type with the same slots.
+// Turns a column, as it was read, into one of this type with the same slots.
 fn encode_column(alloc: Global, data_type: &DataType, column: &mut Array) -> Result<(), GivenUp>
     ensures { OnOk result (IsMadeOf data_type.now column.old column.new) }
 {
@@ -137,7 +137,7 @@ fn encode_column(alloc: Global, data_type: &DataType, column: &mut Array) -> Res
     Ok(())
 }
 
-/// Makes of each column that was read one of its field's type with the same slots. The values of
+/// Turns each column, as it was read, into one of its field's type with the same slots. The values of
 /// each dictionary, at every depth, are its distinct slots but null, in order of first appearance.
 pub(crate) fn encode_columns(
     alloc: Global,

@@ -1,8 +1,8 @@
 //! Rows of JSON lines into a column, and lines into columns without trees.
 //!
-//! `LineColumns` reads lines straight into builders that are kept, dictionaries at every depth among
-//! them: one is read into a builder of its values' type, and made of the column that this gives.
-//! What is given up is to be read as trees, as `deserialize` does.
+//! `LineColumns` reads lines straight into builders that are kept. A column of a dictionary, at any
+//! depth, is read into a builder of the dictionary's value type, and the dictionary is made of it
+//! afterwards. What is given up is to be read as trees, as `deserialize` does.
 #![tactic(auto)]
 
 mod columns;
