@@ -1,6 +1,7 @@
 -- Rows of several lines, and the columns of them.
-use Rattle.std.proofs.Common.{◌≡◌, ◌≢◌, ◌∙◌, ℕ, zero, suc, ◌+◌, ◌<◌, ◌≤◌, ◌&&◌, Bool, true, false, List, [], ◌∷◌, ◌++◌, length, get_or, map, take, refl, sym, ap, subst, append_assoc, arith, All}
+use Rattle.std.proofs.Common.{◌≡◌, ◌≢◌, ◌∙◌, ℕ, zero, suc, ◌+◌, ◌<◌, ◌≤◌, ◌&&◌, Bool, true, false, List, [], ◌∷◌, ◌++◌, length, get_or, map, take, Vec, Global, refl, sym, ap, subst, append_assoc, arith, All}
 use Rattle.std.specs.List.{AllZip}
+use Rattle.std.specs.Prelude.{Result, Ok, Err, IfOk}
 use Rattle.std.proofs.lemmas.List.{append-nil, length-map, map-append, take_more}
 use Rattle.arrow_array.specs.Arrays.{array_slots, array_type}
 use Rattle.arrow_array.specs.declared.array.Array.{Array}
@@ -21,6 +22,7 @@ use Rattle.json_flat.specs.Meaning.{Layer, Meaning, slot_of}
 use Rattle.json_flat.specs.Reading.{reading}
 use Rattle.json_lend.specs.Fields.{value_named}
 use Rattle.json_line.specs.declared.field_names.FieldNames.{FieldNames}
+use Rattle.json_line.specs.declared.given_up.GivenUp.{GivenUp}
 use Rattle.json_line.specs.Builders.{line_shape, shape_reading, shapes_of, AllSuit, AreLineBuilders, ReadsInto, ReadsItems, Takes, TakesAll, TakesRow, TakesRows}
 use Rattle.json_line.specs.Lines.{are_line_fields, have_line_readings, names_of, values_named, AreColumnsOf, AreObjects, IsColumnOf}
 use Rattle.json_line.specs.Types.{has_line_reading}
@@ -177,13 +179,14 @@ columns-of rows (f ∷ fields) (b ∷ bs) (d ∷ ds) (a ∷ arrays) r shaped sam
 
 module _ (fields : List Field) (names : List (List ℕ)) (below : List FieldNames) (builders bs : List MutableArray) (are : AreLineBuilders fields names below builders) (shapes : map shape bs ≡ map shape builders) where
   -- the columns of the rows of lines
-  pub lines-read : (lines : List (List ℕ)) (ds : List MutableArray) (arrays : List Array) → All (λ b. builder_slots b ≡ []) bs → map shape ds ≡ map shape bs
-      → (rows : List (List (List ℕ × Json))) × AreObjects rows lines × TakesRows names rows bs ds → map array_type arrays ≡ map builder_type ds → map array_slots arrays ≡ map builder_slots ds → AreColumnsOf fields lines arrays
-  lines-read lines ds arrays none same (rows, objects, takes) types slots = record {
+  pub lines-read : (lines : List (List ℕ)) (ds : List MutableArray) (r : Result (Vec Array Global) GivenUp) → All (λ b. builder_slots b ≡ []) bs → map shape ds ≡ map shape bs
+      → (rows : List (List (List ℕ × Json))) × AreObjects rows lines × TakesRows names rows bs ds → IfOk r (λ arrays. map array_type arrays.items ≡ map builder_type ds) → IfOk r (λ arrays. map array_slots arrays.items ≡ map builder_slots ds) → IfOk r (λ columns. AreColumnsOf fields lines columns.items)
+  lines-read lines ds (Ok arrays) none same (rows, objects, takes) types slots = record {
     rows = rows;
     objects = objects;
-    members = columns-of rows fields bs ds arrays (are-readable fields are.fit) (shapes ∙ are.shapes_are) same none (subst (λ ns. TakesRows ns rows bs ds) are.names_are takes) types slots;
+    members = columns-of rows fields bs ds arrays.items (are-readable fields are.fit) (shapes ∙ are.shapes_are) same none (subst (λ ns. TakesRows ns rows bs ds) are.names_are takes) types slots;
   }
+  lines-read lines ds (Err g) none same takes types slots = tt
 
   -- what lines are pushed into
   pub names-distinct : distinct names ≡ true

@@ -10,7 +10,7 @@ use Rattle.arrow_types.specs.declared.physical.PhysicalType.TheVariants as physi
 use Rattle.arrow_types.specs.declared.types.DataType.{DataType}
 use Rattle.arrow_types.specs.declared.types.DataType.TheVariants as types
 use Rattle.arrow_types.specs.declared.types.Field.{Field}
-use Rattle.json_line.specs.Builders.{line_shape, shapes_of, HasNoFields}
+use Rattle.json_line.specs.Builders.{line_shape, shapes_of, IsNotNested}
 use Rattle.json_line.proofs.Shapes.{flat_shape, large_list_shape, list_shape, sized_list_shape, struct_shape}
 
 -- the builder has the shape
@@ -18,7 +18,7 @@ abbrev IsShaped : Result MutableArray Error → Shape → Type 0
 IsShaped r s = IfOk r (λ b. shape b ≡ s)
 
 module _ (r : Result MutableArray Error) (t : DataType) where
-  pub flat_built : HasNoFields t → IsShaped r (flat (physical_type t) t) → IsShaped r (line_shape t)
+  pub flat_built : IsNotNested t → IsShaped r (flat (physical_type t) t) → IsShaped r (line_shape t)
   flat_built h s = subst (IsShaped r) (sym (flat_shape t h)) s
 
   pub list_built : (f g : Field) (v : MutableArray) → t ≡ types.List f → g ≡ f → shape v ≡ line_shape g.data_type → IsShaped r (lists physical.List t (shape v)) → IsShaped r (line_shape t)

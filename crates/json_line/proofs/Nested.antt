@@ -1,5 +1,5 @@
 -- Lists and structs that builders take, by what their children took.
-use Rattle.std.proofs.Common.{◌≡◌, ◌∙◌, ℕ, suc, ◌+◌, true, List, [], ◌∷◌, ◌++◌, length, map, drop, Option, refl, sym, ap, subst, arith}
+use Rattle.std.proofs.Common.{◌≡◌, ◌∙◌, ℕ, suc, ◌+◌, Bool, true, false, List, [], ◌∷◌, ◌++◌, length, map, drop, Option, refl, sym, ap, subst, arith}
 use Rattle.std.specs.Prelude.{Result, Ok, Err, OnOk}
 use Rattle.std.proofs.lemmas.List.{length-append, length-map}
 use Rattle.arrow_array.specs.FixedLists.{list_size}
@@ -15,10 +15,13 @@ use Rattle.arrow_builders.specs.declared.array.MutableArray.{MutableArray, Struc
 use Rattle.arrow_builders.specs.declared.structs.DynMutableStructArray.{DynMutableStructArray}
 use Rattle.arrow_builders.proofs.Rows.{shape-record, slots-record, tight-record}
 use Rattle.arrow_builders.proofs.Staying.{drop_front, grown, lists_stay, record_last, records_stay, tight_long}
+use Rattle.arrow_types.specs.declared.physical.PhysicalType.{PhysicalType}
+use Rattle.arrow_types.specs.declared.physical.PhysicalType.TheVariants as physical
+use Rattle.arrow_types.specs.declared.physical.PrimitiveType.TheVariants as primitive
 use Rattle.arrow_types.specs.declared.slot.Slot.{Slot}
 use Rattle.arrow_types.specs.declared.slot.Slot.TheVariants as slot
 use Rattle.json_tree.specs.Reading.{Outcome, found}
-use Rattle.json_tree.specs.Tree.{Json, array, object}
+use Rattle.json_tree.specs.Tree.{Json, null, array, object}
 use Rattle.json_tree.specs.declared.value.Value.{out-Value}
 use Rattle.json_tree.specs.declared.value.Value.TheVariants as variant
 use Rattle.json_flat.specs.Columns.{means, AreSlotsOf, Pushes}
@@ -30,7 +33,7 @@ use Rattle.json_lend.specs.Fields.{value_named}
 use Rattle.json_lend.specs.Standing.{lent_value}
 use Rattle.json_line.specs.declared.field_names.FieldNames.{FieldNames}
 use Rattle.json_line.specs.declared.given_up.GivenUp.{GivenUp}
-use Rattle.json_line.specs.Builders.{shape_members, shape_reading, struct_names, IsOfLists, ReadsInto, SuitsFields, Takes, TakesRow}
+use Rattle.json_line.specs.Builders.{is_timestamp, kind_reading, shape_members, shape_reading, struct_names, IsOfLists, ReadsInto, SuitsFields, Takes, TakesRow}
 
 -- ---- several slots
 
@@ -101,6 +104,26 @@ null_for_list r l old new h other e = taken_as_null r (lent_value l) old new (li
 
 pub null_for_struct : (r : Result (Unit {0}) GivenUp) (own : List (List ℕ)) (below : List FieldNames) (l : Lent) (old new : MutableArray) → SuitsFields own below (shape old) → ((members : List (List ℕ × Json)) → l ≡ lent.Object members → ⊥) → OnOk r (builder_slots new ≡ builder_slots old ++ slot.Null ∷ []) → OnOk r (Takes (lent_value l) old new)
 null_for_struct r own below l old new h other e = taken_as_null r (lent_value l) old new (struct_shaped own below (shape old) l h other) e
+
+-- under each type null means null
+null_of_kind : (moment : Bool) (kind : PhysicalType) → means (kind_reading moment kind) null ≡ slot_of slot.Null
+unfolding out-Value denote.Hole.Carrier.out
+null_of_kind true (physical.Primitive primitive.Int64) = refl
+null_of_kind false (physical.Primitive primitive.Int64) = refl
+null_of_kind moment kind = refl
+
+null_of_shape : (s : Shape) → means (shape_reading s) null ≡ slot_of slot.Null
+unfolding out-Value denote.Hole.Carrier.out
+null_of_shape (flat kind t) = null_of_kind (is_timestamp t) kind
+null_of_shape (dictionary t items) = refl
+null_of_shape (lists kind t item) = refl
+null_of_shape (fixed_lists t item) = refl
+null_of_shape (records t more) = refl
+null_of_shape no_field = refl
+null_of_shape (field first more) = refl
+
+pub null_taken : (r : Result (Unit {0}) GivenUp) (old new : MutableArray) → OnOk r (builder_slots new ≡ builder_slots old ++ slot.Null ∷ []) → OnOk r (Takes null old new)
+null_taken r old new e = taken_as_null r null old new (null_of_shape (shape old)) e
 
 -- ---- lists
 

@@ -18,7 +18,7 @@ use Rattle.json_tree.specs.Tree.{Json}
 use Rattle.json_tree.specs.declared.value.Value.{out-Value}
 use Rattle.json_flat.specs.Reading.{has_field, item_meaning, list_in, member_meanings, or_null, reading, sized_list_in, struct_in}
 use Rattle.json_lend.specs.Fields.{or_null as or_null_lent}
-use Rattle.json_line.specs.Builders.{HasNoFields, item_shape, line_shape, row_shapes, shapes_of, shape_members, shape_reading, struct_names}
+use Rattle.json_line.specs.Builders.{IsNotNested, item_shape, line_shape, row_shapes, shapes_of, shape_members, shape_reading, struct_names}
 use Rattle.json_line.specs.Lines.{are_line_fields, are_sized_items, are_struct_fields, have_line_readings, names_of}
 use Rattle.json_line.specs.Types.{has_line_reading, row_has_readings, row_names}
 
@@ -32,7 +32,7 @@ and_second false b e = absurd cc
 
 -- ---- types
 
-pub flat_shape : (t : DataType) → HasNoFields t → line_shape t ≡ flat (physical_type t) t
+pub flat_shape : (t : DataType) → IsNotNested t → line_shape t ≡ flat (physical_type t) t
 flat_shape types.Null h = refl
 flat_shape types.Boolean h = refl
 flat_shape types.Int8 h = refl

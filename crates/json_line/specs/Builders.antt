@@ -1,4 +1,4 @@
--- The builders of columns, the names that are kept beside them, and what builders take. Contracts of private functions alone cite this file.
+-- The builders of columns, the names that are kept beside them, and what builders take. Contracts of private functions, and the model of `LineBuilders`, alone cite this file.
 use Rattle.std.specs.Prelude.{◌≡◌, ◌≢◌, ◌<◌, ◌⊎◌, ◌++◌, ◌∷◌, [], ℕ, pos, negsuc, Bool, true, false, cond, List, length, map, get_or, set, Option, MatchOption, Result, OnOk}
 use Rattle.arrow_array.specs.FixedLists.{list_size}
 use Rattle.arrow_builders.specs.Children.{fields_of}
@@ -19,7 +19,7 @@ use Rattle.json_tree.specs.Tree.{Json, null, array, object}
 use Rattle.json_tree.specs.declared.value.Value.{out-Value}
 use Rattle.json_flat.specs.Columns.{AreSlotsOf, Pushes}
 use Rattle.json_flat.specs.Meaning.{Layer, Meaning, null_in, boolean_in, whole_in, int64_in, moment_in, text_in, bytes_in}
-use Rattle.json_flat.specs.Reading.{list_in, sized_list_in, struct_in}
+use Rattle.json_flat.specs.Reading.{int32_in, list_in, sized_list_in, struct_in}
 use Rattle.json_lend.specs.Fields.{value_named, values_of}
 use Rattle.json_line.specs.declared.field_names.FieldNames.{FieldNames, Flat, Items', Sized', Fields', Row_of-FieldNames, end_of-FieldNames, more_of-FieldNames}
 use Rattle.json_line.specs.declared.given_up.GivenUp.{GivenUp}
@@ -37,7 +37,7 @@ abbrev pub kind_reading : Bool → PhysicalType → Layer → Meaning
 kind_reading of_timestamps physical.Boolean = boolean_in
 kind_reading of_timestamps (physical.Primitive primitive.Int8) = whole_in (negsuc 127) (pos 127)
 kind_reading of_timestamps (physical.Primitive primitive.Int16) = whole_in (negsuc 32767) (pos 32767)
-kind_reading of_timestamps (physical.Primitive primitive.Int32) = whole_in (negsuc 2147483647) (pos 2147483647)
+kind_reading of_timestamps (physical.Primitive primitive.Int32) = int32_in
 kind_reading of_timestamps (physical.Primitive primitive.Int64) = cond of_timestamps moment_in int64_in
 kind_reading of_timestamps (physical.Primitive primitive.UInt8) = whole_in (pos 0) (pos 255)
 kind_reading of_timestamps (physical.Primitive primitive.UInt16) = whole_in (pos 0) (pos 65535)
@@ -51,13 +51,13 @@ kind_reading of_timestamps _ = null_in
 
 -- ---- shapes of builders
 
--- a type with no types in it that lines are read into
-abbrev pub HasNoFields : DataType → Type 0
-HasNoFields (List' shape item) = ⊥
-HasNoFields (LargeList' shape item) = ⊥
-HasNoFields (FixedSizeList' shape item size) = ⊥
-HasNoFields (Struct' shape fields) = ⊥
-HasNoFields _ = Unit {0}
+-- none of List, LargeList, FixedSizeList and Struct
+abbrev pub IsNotNested : DataType → Type 0
+IsNotNested (List' shape item) = ⊥
+IsNotNested (LargeList' shape item) = ⊥
+IsNotNested (FixedSizeList' shape item size) = ⊥
+IsNotNested (Struct' shape fields) = ⊥
+IsNotNested _ = Unit {0}
 
 abbrev mutual
   -- the shape of the builder of a type's columns
@@ -119,7 +119,7 @@ abbrev pub SuitsItems : FieldNames → Shape → Type 0
 SuitsItems names (lists kind data_type s) = Suits names s
 SuitsItems names _ = ⊥
 
--- names beside a builder of lists of so many items
+-- names beside a builder of lists of `size` items
 abbrev pub SuitsSized : ℕ → FieldNames → Shape → Type 0
 SuitsSized size names (fixed_lists data_type s) = (size ≡ list_size data_type) × Suits names s
 SuitsSized size names _ = ⊥
@@ -189,7 +189,7 @@ ReadsInto read before after old new = (value : Json) × (read before ≡ found v
 abbrev pub ReadsItems : ℕ → List ℕ → List ℕ → MutableArray → MutableArray → Type 0
 ReadsItems depth before after old new = (items : List Json) × (array_at (value_at depth) before ≡ found (array items) after) × TakesAll items old new
 
--- the builder at the index had so many slots, and took the value; the others stay
+-- the builder at the index had `count` slots, and took the value; the others stay
 abbrev pub TakesAt : ℕ → Json → List MutableArray → List MutableArray → ℕ → Type 0
 TakesAt count value old new i =
     (b : MutableArray) × (new ≡ set old i b) × (length (builder_slots (get_or old i b)) ≡ count) × IsTight b × Takes value (get_or old i b) b
@@ -199,7 +199,7 @@ abbrev pub ReadsMember : ℕ → ℕ → Option ℕ → List ℕ → List ℕ �
 ReadsMember depth count at before after old new =
     (value : Json) × (value_at depth before ≡ found value after) × MatchOption at (new ≡ old) (TakesAt count value old new)
 
--- a builder took the value, or there is no value yet and it stays
+-- a builder took the value; or the value is null and the builder stays, to take null when the object ends
 abbrev pub TakesOrWaits : Json → MutableArray → MutableArray → Type 0
 TakesOrWaits value old new = (Takes value old new × IsTight new) ⊎ ((value ≡ null) × (new ≡ old))
 
@@ -214,7 +214,7 @@ abbrev pub ReadsObject : ℕ → List (List ℕ) → List ℕ → List ℕ → L
 ReadsObject depth names before after old new =
     (members : List (List ℕ × Json)) × (object_at (value_at depth) before ≡ found (object members) after) × AllTakeOrWait (values_of members names) old new
 
--- a builder that had so many slots took null, and another stays
+-- a builder that had `count` slots took null, and another stays
 abbrev pub Fills : ℕ → MutableArray → MutableArray → Type 0
 Fills count old new =
     ((length (builder_slots old) ≡ count) × Takes null old new × IsTight new) ⊎ ((length (builder_slots old) ≢ count) × (new ≡ old))

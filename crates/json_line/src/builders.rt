@@ -94,13 +94,15 @@ fn read_all(
 {
     clear_all(builders);
     push_lines(buffer, lines, names, below, builders)?;
-    let columns = box_all(alloc, builders)?;
-    Ok(columns)
+    box_all(alloc, builders)
 }
 
 impl LineBuilders {
     /// Builders of the columns of these fields. `None` exactly where two fields have the same name,
-    /// or lines aren't read into columns of one of the types. `OutOfMemory` alone.
+    /// or a type is none of Null, Boolean, integers of 8 to 64 bits, dates, times, timestamps,
+    /// durations, intervals of months, Utf8, Binary and their large forms, List and LargeList of
+    /// these, FixedSizeList of at least one item of these, and Struct of at least one field of these
+    /// with no name twice. `OutOfMemory` alone.
     pub fn new(alloc: Global, fields: Vec<Field>) -> Result<Option<LineBuilders>>
         ensures ok { IfOk result (λ made. MatchOption made (are_line_fields_of fields.items ≡ false)
             (λ builders. (builders ≡ fields.items) × (are_line_fields_of fields.items ≡ true))) }
@@ -122,10 +124,10 @@ impl LineBuilders {
         }))
     }
 
-    /// The columns of the lines' members, one for each field: each line is an object (RFC 8259), and
-    /// the slot of a column is the one that the member of the field's name means under its type, a
-    /// missing one as null, and the last one where several have the name. A member that no field
-    /// names is passed over.
+    /// The columns of the lines' members, one for each field: each line is an object (RFC 8259), in
+    /// which at most 128 brackets are open at once, and the slot of a column is the one that the
+    /// member of the field's name means under its type, a missing one as null, and the last one where
+    /// several have the name. A member that no field names is passed over.
     ///
     /// `GivenUp` may come at any time. The builders are then fit for other lines all the same.
     pub fn read_lines(&mut self, lines: &[Text]) -> std::result::Result<Vec<Array>, GivenUp>
@@ -135,14 +137,13 @@ impl LineBuilders {
     {
         let names = self.names.as_slice();
         let below = self.below.as_slice();
-        let columns = read_all(
+        read_all(
             self.alloc,
             &mut self.buffer,
             lines,
             names,
             below,
             &mut self.builders,
-        )?;
-        Ok(columns)
+        )
     }
 }

@@ -32,15 +32,13 @@ fn push_escaped<'a, O: Offset>(
     ensures ok { OnOk result
         (builder.new.slots ≡ builder.old.slots ++ StringSlot string.now ∷ []) }
 {
-    match string.read_into(buffer) {
-        Ok(()) => push_str(builder, buffer.as_str()),
-        Err(_) => Err(GivenUp),
-    }
+    string.read_into(buffer)?;
+    push_str(builder, buffer.as_str())
 }
 
 // A null.
 #[inline(always)]
-fn push_missing<C: Content, O: Offset>(
+fn push_null_content<C: Content, O: Offset>(
     builder: &mut MutableContentArray<C, O>,
 ) -> Result<(), GivenUp>
     ensures data_type { builder.new.data_type ≡ builder.old.data_type }
@@ -78,7 +76,7 @@ pub(crate) fn push_text<'a, O: Offset>(
             Err(GivenUp)
         }
         Lent::Bool(boolean) => push_str(builder, boolean_text(*boolean)),
-        _ => push_missing(builder),
+        _ => push_null_content(builder),
     }
 }
 
@@ -103,10 +101,8 @@ fn push_escaped_bytes<'a, O: Offset>(
     ensures ok { OnOk result
         (builder.new.slots ≡ builder.old.slots ++ BinarySlot string.now ∷ []) }
 {
-    match string.read_into(buffer) {
-        Ok(()) => push_slice(builder, buffer.as_str().as_bytes()),
-        Err(_) => Err(GivenUp),
-    }
+    string.read_into(buffer)?;
+    push_slice(builder, buffer.as_str().as_bytes())
 }
 
 /// Appends the bytes of a string, and a null for any other value.
@@ -123,6 +119,6 @@ pub(crate) fn push_bytes<'a, O: Offset>(
     match lent {
         Lent::String(text) => push_slice(builder, text.as_bytes()),
         Lent::Escaped(string) => push_escaped_bytes(buffer, builder, string),
-        _ => push_missing(builder),
+        _ => push_null_content(builder),
     }
 }

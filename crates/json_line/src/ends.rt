@@ -57,7 +57,7 @@ pub(crate) fn end_large_list(lists: &mut DynMutableLargeListArray) -> Result<(),
     Ok(())
 }
 
-/// The same where each list has so many items, and the child took as many.
+/// The same where each list has `size` items, and the child took as many.
 #[inline(always)]
 pub(crate) fn end_sized_list(lists: &mut MutableFixedSizeListArray) -> Result<(), GivenUp>
     requires { length (builder_slots lists.old.values.value)

@@ -73,7 +73,7 @@ fn item_names(alloc: Global, item: &Field) -> Result<FieldNames>
     Ok(FieldNames::Items(names))
 }
 
-/// The names beneath lists of so many items of this field.
+/// The names beneath lists of `size` items of this field.
 #[cycle(names)]
 fn sized_names(alloc: Global, item: &Field, size: usize) -> Result<FieldNames>
     requires { has_line_reading_of item.now.data_type ≡ true }

@@ -110,7 +110,7 @@ fn push_line(
         return Err(GivenUp);
     }
     read_columns(buffer, &mut reader, 127, names, below, builders, count)?;
-    fill_columns(buffer, below, builders, count)?;
+    fill_columns(builders, count)?;
     reader.skip_spaces();
     match reader.peek() {
         None => Ok(()),

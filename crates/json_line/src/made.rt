@@ -7,7 +7,7 @@ ghost use Rattle.arrow_builders.specs.Shapes.{shape, fixed_lists, flat, lists, r
 ghost use Rattle.arrow_core.specs.Errors.{OnlyOutOfMemory};
 ghost use Rattle.arrow_types.specs.Layouts.{physical_type};
 ghost use Rattle.arrow_types.specs.declared.physical.PhysicalType.TheVariants.{List as ListKind, LargeList as LargeListKind};
-ghost use Rattle.json_line.specs.Builders.{line_shape, shapes_of, HasNoFields};
+ghost use Rattle.json_line.specs.Builders.{line_shape, shapes_of, IsNotNested};
 ghost use Rattle.json_line.specs.Lines.{have_line_readings as have_line_readings_of};
 ghost use Rattle.json_line.specs.Types.{has_line_reading as has_line_reading_of};
 
@@ -32,7 +32,7 @@ fn primitive<T: NativeType>(alloc: Global, data_type: &DataType) -> Result<Mutab
 
 // An empty builder of a type with no types in it.
 fn make_flat(alloc: Global, data_type: &DataType) -> Result<MutableArray>
-    requires flat { HasNoFields data_type.now }
+    requires flat { IsNotNested data_type.now }
     requires readable { has_line_reading_of data_type.now ≡ true }
     ensures shape { IfOk result (λ b. shape b ≡ flat (physical_type data_type.now) data_type.now) }
     ensures memory { OnlyOutOfMemory result }

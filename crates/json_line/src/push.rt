@@ -14,7 +14,7 @@ use crate::ends::{end_large_list, end_list, end_sized_list, end_struct};
 use crate::field_names::FieldNames;
 use crate::fill::fill_fields;
 use crate::given_up::GivenUp;
-use crate::single::{push_no_list, push_no_struct, push_single};
+use crate::single::{push_null_list, push_null_struct, push_single};
 use arrow_builders::{
     DynMutableLargeListArray, DynMutableListArray, DynMutableStructArray, MutableArray,
     MutableFixedSizeListArray,
@@ -62,20 +62,20 @@ fn push_value<'a>(
             if opens(reader, b'[', depth) {
                 return push_array(buffer, reader, depth - 1, item, builder);
             }
-            push_no_list(reader, depth, builder)
+            push_null_list(reader, depth, builder)
         }
         FieldNames::Sized(size, item) => {
             if opens(reader, b'[', depth) {
                 return push_sized_array(buffer, reader, depth - 1, *size, item, builder);
             }
-            push_no_list(reader, depth, builder)
+            push_null_list(reader, depth, builder)
         }
         FieldNames::Fields(own, below) => {
             if opens(reader, b'{', depth) {
                 let (own, below) = (own.as_slice(), below.as_slice());
                 return push_object(buffer, reader, depth - 1, own, below, builder);
             }
-            push_no_struct(reader, depth, builder)
+            push_null_struct(reader, depth, builder)
         }
     }
 }
@@ -227,7 +227,7 @@ fn push_sized_list<'a>(
     end_sized_list(lists)
 }
 
-// Whether there are so many more after than before.
+// Whether `after` is `before` and `size`.
 #[inline(always)]
 fn are_more_by(size: usize, before: usize, after: usize) -> bool
     ensures { result ≡ true → after ≡ before + size }
@@ -343,11 +343,12 @@ fn push_struct<'a>(
     ensures ok { OnOk result (ReadsInto (object_at (value_at depth)) reader.old reader.new
         (Struct structs.old) (Struct structs.new)) }
 {
+    // As many where they were made; no clause says it.
     if own.len() != below.len() {
         return Err(GivenUp);
     }
     read_fields(buffer, reader, depth, own, below, structs, count)?;
-    fill_fields(buffer, below, structs, count)?;
+    fill_fields(structs, below.len(), count)?;
     end_struct(structs)
 }
 

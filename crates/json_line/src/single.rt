@@ -33,7 +33,7 @@ pub(crate) fn push_single<'a>(
 
 /// Reads a value, to a builder of lists, which takes a null. An array is given up.
 #[inline(never)]
-pub(crate) fn push_no_list<'a>(
+pub(crate) fn push_null_list<'a>(
     reader: &mut Reader<'a>,
     depth: usize,
     builder: &mut MutableArray,
@@ -55,7 +55,7 @@ pub(crate) fn push_no_list<'a>(
 
 /// Reads a value, to a builder of structs, which takes a null. An object is given up.
 #[inline(never)]
-pub(crate) fn push_no_struct<'a>(
+pub(crate) fn push_null_struct<'a>(
     reader: &mut Reader<'a>,
     depth: usize,
     builder: &mut MutableArray,

@@ -18,5 +18,5 @@ returns-in-Escaped-clause-ok g c =
 
 pub returns-in_default-clause-ok : goal.returns-in_default-clause-ok
 returns-in_default-clause-ok g c =
-    let p = c.push_missing in
+    let p = c.push_null_content in
     pushed p.result bytes_in (lent_value c.args.lent.now) Null c.args.builder.now.slots p.new.builder.slots (no-string c.args.lent.now c.in_default.not-String c.in_default.not-Escaped) p.ensures.ok

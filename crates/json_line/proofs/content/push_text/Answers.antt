@@ -30,6 +30,6 @@ returns-in-Bool-clause-ok g c =
 
 pub returns-in_default-clause-ok : goal.returns-in_default-clause-ok
 returns-in_default-clause-ok g c =
-    let p = c.push_missing in
+    let p = c.push_null_content in
     let d = c.in_default in
     pushed p.result text_in (lent_value c.args.lent.now) Null c.args.builder.now.slots p.new.builder.slots (no-text c.args.lent.now (other c.args.lent.now d.not-Bool d.not-Number d.not-String d.not-Escaped)) p.ensures.ok

@@ -1,37 +1,21 @@
-use Rattle.std.proofs.Common.{◌∙◌, get_or, refl, sym, ap, subst, arith}
+use Rattle.std.proofs.Common.{◌∙◌, refl, sym, ap, subst, arith}
 use Rattle.arrow_builders.specs.Shapes.{shape}
 use Rattle.arrow_builders.specs.Tight.{IsTight}
 use Rattle.arrow_builders.proofs.Upto.{Upto-next, Upto-start, Upto-step}
-use Rattle.json_line.specs.Builders.{Fills, Suits}
+use Rattle.json_line.specs.Builders.{Fills}
 use Rattle.json_line.proofs.Rows.{as-many-shapes, fills-all, shapes-step, tight-at}
-use Rattle.json_line.proofs.Suited.{suits_at, suits_length, suits_same}
 use Rattle.json_line.proofs.fill.fill_columns.Goals as goal
 
 pub loop-i-init : goal.loop-i-init
 loop-i-init c = record { shapes = refl; each = Upto-start (Fills c.args.count) c.args.builders.now }
 
-pub bounds-below-i : goal.bounds-below-i
-bounds-below-i c =
-    let n = as-many-shapes _ _ c.loop-i.invariant.shapes in
-    let s = suits_length c.args.below.now c.args.builders.now c.requires.suits in
-    omega (arith, s, n, c.loop-i-test.true)
-
-pub fill-requires-clause-suits : goal.fill-requires-clause-suits
-fill-requires-clause-suits c =
-    let bs = c.loop-i.builders in
-    let us = suits_same c.args.below.now c.args.builders.now bs c.loop-i.invariant.shapes c.requires.suits in
-    let n = as-many-shapes _ _ c.loop-i.invariant.shapes in
-    let s = suits_length c.args.below.now c.args.builders.now c.requires.suits in
-    let b = get_or bs c.loop-i.i c.index-builders-i.result in
-    subst (λ names. Suits names (shape b)) (sym c.index-below-i.is) (suits_at c.args.below.now bs c.loop-i.i c.index-below-i.result c.index-builders-i.result (omega (arith, s, n, c.loop-i-test.true)) us)
-
-pub fill-requires-clause-tight : goal.fill-requires-clause-tight
-fill-requires-clause-tight c =
+pub fill-requires : goal.fill-requires
+fill-requires c =
     let old = c.args.builders.now in
     let b = c.index-builders-i.result in
     let n = as-many-shapes _ _ c.loop-i.invariant.shapes in
     let same = Upto-next (Fills c.args.count) c.loop-i.i old c.loop-i.builders b c.loop-i.invariant.each in
-    subst IsTight (sym same) (tight-at old c.loop-i.i b (omega (arith, n, c.loop-i-test.true)) c.requires.tight)
+    subst IsTight (sym same) (tight-at old c.loop-i.i b (omega (arith, n, c.loop-i-test.true)) c.requires)
 
 pub loop-i-preserved : goal.loop-i-preserved
 loop-i-preserved c =

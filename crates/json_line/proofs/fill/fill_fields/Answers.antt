@@ -1,11 +1,9 @@
-use Rattle.std.proofs.Common.{◌∙◌, get_or, refl, sym, subst, arith}
-use Rattle.arrow_builders.specs.Shapes.{shape}
+use Rattle.std.proofs.Common.{◌∙◌, refl, sym, subst, arith}
 use Rattle.arrow_builders.specs.Tight.{IsTight}
 use Rattle.arrow_builders.specs.declared.array.MutableArray.{MutableArray}
 use Rattle.arrow_builders.proofs.Upto.{Upto-next, Upto-start, Upto-step}
-use Rattle.json_line.specs.Builders.{Fills, Suits}
+use Rattle.json_line.specs.Builders.{Fills}
 use Rattle.json_line.proofs.Rows.{as-many-shapes, fills-all, shapes-step, tight-at}
-use Rattle.json_line.proofs.Suited.{suits_at, suits_length, suits_same}
 use Rattle.json_line.proofs.fill.fill_fields.Goals as goal
 
 pub loop-i-init : goal.loop-i-init
@@ -14,28 +12,16 @@ loop-i-init c = record { marks = refl; shapes = refl; each = Upto-start (Fills c
 pub mut_values-requires : goal.mut_values-requires
 mut_values-requires c =
     let n = as-many-shapes _ _ c.loop-i.invariant.shapes in
-    let s = suits_length c.args.below.now c.args.structs.now.values.items c.requires.suits in
     let v = c.loop-i.structs.values.ok in
-    omega (arith, s, n, v.0, c.loop-i-test.true)
+    omega (arith, c.requires.fields, n, v.0, c.loop-i-test.true)
 
-pub fill-requires-clause-suits : goal.fill-requires-clause-suits
-fill-requires-clause-suits c =
-    let i = c.loop-i.i in
-    let ns = c.args.below.now in
-    let bs = c.loop-i.structs.values.items in
-    let names = c.index-below-i.result in
-    let b = c.mut_values.result.now in
-    let us = suits_same ns c.args.structs.now.values.items bs c.loop-i.invariant.shapes c.requires.suits in
-    subst (λ n. Suits n (shape b)) (sym c.index-below-i.is) (subst (λ (x : MutableArray). Suits (get_or ns i names) (shape x)) (sym c.mut_values.ensures.value) (suits_at ns bs i names b c.loop-i-test.true us))
-
-pub fill-requires-clause-tight : goal.fill-requires-clause-tight
-fill-requires-clause-tight c =
+pub fill-requires : goal.fill-requires
+fill-requires c =
     let i = c.loop-i.i in
     let b = c.mut_values.result.now in
     let old = c.args.structs.now.values.items in
-    let s = suits_length c.args.below.now old c.requires.suits in
     let same = c.mut_values.ensures.value ∙ Upto-next (Fills c.args.count) i old c.loop-i.structs.values.items b c.loop-i.invariant.each in
-    subst IsTight (sym same) (tight-at old i b (omega (arith, s, c.loop-i-test.true)) c.requires.tight)
+    subst IsTight (sym same) (tight-at old i b (omega (arith, c.requires.fields, c.loop-i-test.true)) c.requires.tight)
 
 pub loop-i-preserved : goal.loop-i-preserved
 loop-i-preserved c =
@@ -46,12 +32,11 @@ loop-i-preserved c =
     let x = c.fill.new.builder in
     let e = c.in_ok-fill.ensures in
     let n = as-many-shapes _ _ inv.shapes in
-    let s = suits_length c.args.below.now c.args.structs.now.values.items c.requires.suits in
     let took = subst (λ (y : MutableArray). Fills c.args.count y x) c.mut_values.ensures.value e.ok in
     record {
       marks = inv.marks;
       shapes = shapes-step bs i b x _ c.mut_values.ensures.value e.same_shape inv.shapes;
-      each = Upto-step (Fills c.args.count) i _ c.args.structs.now.values.items bs b x (omega arith) (omega (arith, s, n, c.loop-i-test.true)) took inv.each;
+      each = Upto-step (Fills c.args.count) i _ c.args.structs.now.values.items bs b x (omega arith) (omega (arith, c.requires.fields, n, c.loop-i-test.true)) took inv.each;
     }
 
 pub returns-in_err-fill-clause-shapes : goal.returns-in_err-fill-clause-shapes
@@ -59,6 +44,5 @@ returns-in_err-fill-clause-shapes c = shapes-step c.loop-i.structs.values.items 
 
 pub returns-clause-ok : goal.returns-clause-ok
 returns-clause-ok c =
-    let s = suits_length c.args.below.now c.args.structs.now.values.items c.requires.suits in
     let n = as-many-shapes _ _ c.loop-i.invariant.shapes in
-    fills-all c.args.count c.loop-i.i c.args.structs.now.values.items c.loop-i.structs.values.items (omega (arith, s, n, c.loop-i-test.false)) c.loop-i.invariant.each
+    fills-all c.args.count c.loop-i.i c.args.structs.now.values.items c.loop-i.structs.values.items (omega (arith, c.requires.fields, n, c.loop-i-test.false)) c.loop-i.invariant.each

@@ -4,14 +4,10 @@ use Rattle.json_tree.specs.Tree.{object}
 use Rattle.json_tree.proofs.TextLaws.{json-found}
 use Rattle.json_lend.proofs.RowLaws.{object-ends}
 use Rattle.json_line.proofs.Rows.{row-filled, tight-so_far}
-use Rattle.json_line.proofs.Suited.{suits_same}
 use Rattle.json_line.proofs.line.push_line.Goals as goal
 
-pub fill_columns-requires-clause-suits : goal.fill_columns-requires-clause-suits
-fill_columns-requires-clause-suits c = suits_same c.args.below.now c.args.builders.now c.read_columns.new.builders c.read_columns.ensures.shapes c.requires.suits
-
-pub fill_columns-requires-clause-tight : goal.fill_columns-requires-clause-tight
-fill_columns-requires-clause-tight c = tight-so_far c.args.count _ c.args.builders.now c.read_columns.new.builders c.requires.tight c.in_ok-read_columns.ensures.ok.2
+pub fill_columns-requires : goal.fill_columns-requires
+fill_columns-requires c = tight-so_far c.args.count _ c.args.builders.now c.read_columns.new.builders c.requires.tight c.in_ok-read_columns.ensures.ok.2
 
 pub returns-in_err-fill_columns-clause-shapes : goal.returns-in_err-fill_columns-clause-shapes
 returns-in_err-fill_columns-clause-shapes c = c.fill_columns.ensures.shapes ∙ c.read_columns.ensures.shapes

@@ -3,7 +3,7 @@ use Rattle.std.proofs.Common.{ap, ◌∙◌, arith, rules}
 use Rattle.arrow_types.proofs.types.DataType.TheLaws.{the_size}
 use Rattle.arrow_types.proofs.types.Field.TheLaws.{the_size as field_size}
 use Rattle.arrow_types.specs.declared.types.DataType.TheViews.{the_lemmas}
-use Rattle.json_line.specs.Builders.{shapes_of, HasNoFields}
+use Rattle.json_line.specs.Builders.{shapes_of, IsNotNested}
 use Rattle.json_line.proofs.Making.{made-more, readable-at, taken-all}
 use Rattle.json_line.proofs.MadeLaws.{flat_built, large_list_built, list_built, sized_list_built, struct_built}
 use Rattle.json_line.proofs.Shapes.{are_readable, large_list_item_readable, list_item_readable, size_is, sized_item_readable, struct_fields_readable}
@@ -50,7 +50,7 @@ make_builder-returns-in_default-clause-shape t c =
     let m = c.in_default.not-LargeList in
     let n = c.in_default.not-Struct in
     let o = c.in_default.not-FixedSizeList in
-    let flat : HasNoFields c.args.data_type.now = first_of (search (rules, the_lemmas), grind (arith, the_lemmas)) in
+    let flat : IsNotNested c.args.data_type.now = first_of (search (rules, the_lemmas), grind (arith, the_lemmas)) in
     flat_built c.make_flat.result c.args.data_type.now flat c.make_flat.ensures.shape
 
 pub make_builders-make_builder-requires : goal.make_builders-make_builder-requires

@@ -128,15 +128,15 @@ push_value-push_object-requires t c =
     let below = c.as_slice-below.ensures.value in
     ((let d = c.decreases in let e = ap the_size c.in-Fields.is in let a = below in search (rules, the_lemmas)), (fields_suit c.args.names.now c.in-Fields.own c.in-Fields.below c.as_slice-own.result.now c.as_slice-below.result.now (shape c.args.builder.now) c.in-Fields.is own below c.requires.suits, c.requires.tight))
 
-pub push_value-push_no_list-requires-clause-lists : goal.push_value-push_no_list-requires-clause-lists
-push_value-push_no_list-requires-clause-lists t c = items_of_lists c.in-Items.item.value _ (lists_suit c.args.names.now c.in-Items.item.value c.in-Items.item (shape c.args.builder.now) c.in-Items.is refl c.requires.suits)
+pub push_value-push_null_list-requires-clause-lists : goal.push_value-push_null_list-requires-clause-lists
+push_value-push_null_list-requires-clause-lists t c = items_of_lists c.in-Items.item.value _ (lists_suit c.args.names.now c.in-Items.item.value c.in-Items.item (shape c.args.builder.now) c.in-Items.is refl c.requires.suits)
 
-pub push_value-push_no_list-requires-in-Sized-clause-lists : goal.push_value-push_no_list-requires-in-Sized-clause-lists
-push_value-push_no_list-requires-in-Sized-clause-lists t c =
+pub push_value-push_null_list-requires-in-Sized-clause-lists : goal.push_value-push_null_list-requires-in-Sized-clause-lists
+push_value-push_null_list-requires-in-Sized-clause-lists t c =
     sized_of_lists c.in-Sized.size c.in-Sized.item.value _ (sized_suit c.args.names.now c.in-Sized.item.value c.in-Sized.size c.in-Sized.item (shape c.args.builder.now) c.in-Sized.is refl c.requires.suits)
 
-pub push_value-push_no_struct-requires-clause-suits : goal.push_value-push_no_struct-requires-clause-suits
-push_value-push_no_struct-requires-clause-suits t c = (c.in-Fields.own.items, c.in-Fields.below.items, fields_suit c.args.names.now c.in-Fields.own c.in-Fields.below c.in-Fields.own.items c.in-Fields.below.items (shape c.args.builder.now) c.in-Fields.is refl refl c.requires.suits)
+pub push_value-push_null_struct-requires-clause-suits : goal.push_value-push_null_struct-requires-clause-suits
+push_value-push_null_struct-requires-clause-suits t c = (c.in-Fields.own.items, c.in-Fields.below.items, fields_suit c.args.names.now c.in-Fields.own c.in-Fields.below c.in-Fields.own.items c.in-Fields.below.items (shape c.args.builder.now) c.in-Fields.is refl refl c.requires.suits)
 
 pub push_value-returns-then-opens-clause-ok : goal.push_value-returns-then-opens-clause-ok
 push_value-returns-then-opens-clause-ok t c =
@@ -177,8 +177,11 @@ push_struct-read_fields-requires t c =
     let d = c.decreases in
     (omega arith, (c.requires.distinct, (c.requires.suits, (rw c.requires.count at (children_tight c.args.structs.now c.requires.tight), search rules))))
 
-pub push_struct-fill_fields-requires-clause-suits : goal.push_struct-fill_fields-requires-clause-suits
-push_struct-fill_fields-requires-clause-suits t c = suits_same c.args.below.now c.args.structs.now.values.items c.read_fields.new.structs.values.items c.read_fields.ensures.shapes c.requires.suits
+pub push_struct-fill_fields-requires-clause-fields : goal.push_struct-fill_fields-requires-clause-fields
+push_struct-fill_fields-requires-clause-fields t c =
+    let s = suits_length c.args.below.now c.args.structs.now.values.items c.requires.suits in
+    let n = as-many-shapes _ _ c.read_fields.ensures.shapes in
+    omega (arith, s, n)
 
 pub push_struct-fill_fields-requires-clause-tight : goal.push_struct-fill_fields-requires-clause-tight
 push_struct-fill_fields-requires-clause-tight t c =

@@ -11,4 +11,4 @@ pub returns-clause-ok : goal.returns-clause-ok
 returns-clause-ok c =
     let b = c.self.inside in
     let same = c.deref_mut.ensures.value in
-    rw (← c.self.view_is) (c.in_ok-columns.ensures.ok b.fields.items (moved-builders b.fields.items b.names.items c.as_slice-names.result.now b.below.items c.as_slice-below.result.now b.builders.items c.deref_mut.result.now c.self.invariant c.as_slice-names.ensures.value c.as_slice-below.ensures.value same))
+    rw (← c.self.view_is) (c.read_all.ensures.ok b.fields.items (moved-builders b.fields.items b.names.items c.as_slice-names.result.now b.below.items c.as_slice-below.result.now b.builders.items c.deref_mut.result.now c.self.invariant c.as_slice-names.ensures.value c.as_slice-below.ensures.value same))
