@@ -20,7 +20,7 @@ IsOfKind kind.Long s = (logical : Option LongLogical) × (s ≡ Long logical)
 IsOfKind kind.String s = (logical : Option StringLogical) × (s ≡ String logical)
 IsOfKind kind.Any s = Unit {0}
 
--- the first member is null exactly where null_first, and the member beside null is of the kind
+-- where null_first, the first member is null and the second of the kind; else the first isn't null and is of the kind
 abbrev pub AreOfKind : Bool → Kind → Schema → Schema → Type 0
 AreOfKind true k a b = IsNull a × IsOfKind k b
 AreOfKind false k a b = (IsNull a → ⊥) × IsOfKind k a

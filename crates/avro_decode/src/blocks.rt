@@ -123,9 +123,9 @@ pub(crate) fn decode_into(
 /// has lost capacity; the cursor has only moved forward, and was called at most 2n + 1 times. Of
 /// content bytes those of fixed-size binary values to which nulls come (a union's member, or a
 /// field of records in one, but not items of an array) are left out: these are as many as their
-/// slots times their size, as at each node of fixed-size binary values. With spare capacity for n
-/// slots and n content bytes at each node, and no values that are left out, there is no
-/// `OutOfMemory`. After an Err the builders' slots aren't told; `clear` makes them usable again.
+/// slots times the width of their type, as at each node of fixed-size binary values. With spare
+/// capacity for n slots and n content bytes at each node, and no values that are left out, there is
+/// no `OutOfMemory`. After an Err the builders' slots aren't told; `clear` makes them usable again.
 ///
 /// On Ok no more bytes were shown than those of kept fields, those that tell how long the others
 /// are, and one for each skipped boolean: what isn't kept is skipped. Bytes and calls are told as
@@ -189,7 +189,8 @@ pub fn deserialize_into<'a, C: Cursor<'a>>(
     }
 }
 
-/// The error that tells a fault.
+/// The error of a block's fault: `ExternalFormat(BlockBytes)`, `OutOfSpec(NegativeSize)` or
+/// `OutOfMemory`.
 fn error_of(fault: BlockFault) -> Error
     ensures { result ≡ fault_error fault }
 {
@@ -235,6 +236,7 @@ fn decode_lent<'a, C: Cursor<'a>>(
         of: &PhantomData,
     };
     let read = decode_block(&mut lent, rows, avro_fields, projection, builders);
+    // For the clause `fixed_content` alone: it looks at each node once for a block.
     all_content_is_whole(builders);
     read
 }

@@ -18,8 +18,7 @@ use avro_schema::{AvroField, Block};
 use std::alloc::Global;
 use std::marker::Model;
 
-/// Decodes block after block of one schema: what `deserialize` answers of each. It keeps its builders
-/// from block to block, but for after a refused one; no clause says so.
+/// Decodes block after block of one schema: what `deserialize` answers of each.
 #[derive(Drop)]
 pub struct Decoder {
     alloc: Global,

@@ -7,7 +7,8 @@ use arrow_types::Field;
 use avro_infer::{enums_fit, has_float, is_small};
 use avro_schema::AvroField;
 
-/// The most bytes of a block of which a column has offsets of 32 bits.
+/// The most bytes that a block may have where a kept field's type holds offsets of 32 bits:
+/// 2^31 - 1, the greatest such offset.
 pub const MOST_BYTES: usize = 2_147_483_647;
 
 /// Whether no `float` and no `double` stands in the schema of a kept field, at any depth.

@@ -40,9 +40,17 @@ pub static MAP: &[u8] =
 pub static FLOAT: &[u8] =
     b"Obj\x01\x02\x16avro.schema\xba\x01{\"type\":\"record\",\"name\":\"t\",\"fields\":[{\"name\":\"a\",\"type\":\"float\"},{\"name\":\"b\",\"type\":\"int\"}]}\x00\x01\x01\x01\x01\x01\x01\x01\x01\x01\x01\x01\x01\x01\x01\x01\x01";
 
+/// A block of one row of these, 0 and 3.
+pub static FLOAT_BLOCK: &[u8] =
+    b"\x02\x0a\x00\x00\x00\x00\x06\x01\x01\x01\x01\x01\x01\x01\x01\x01\x01\x01\x01\x01\x01\x01\x01";
+
 /// Bytes, and an int.
 pub static BINARY: &[u8] =
     b"Obj\x01\x02\x16avro.schema\xba\x01{\"type\":\"record\",\"name\":\"t\",\"fields\":[{\"name\":\"a\",\"type\":\"bytes\"},{\"name\":\"b\",\"type\":\"int\"}]}\x00\x01\x01\x01\x01\x01\x01\x01\x01\x01\x01\x01\x01\x01\x01\x01\x01";
+
+/// A block of one row of these, no bytes and 3.
+pub static BINARY_BLOCK: &[u8] =
+    b"\x02\x04\x00\x06\x01\x01\x01\x01\x01\x01\x01\x01\x01\x01\x01\x01\x01\x01\x01\x01";
 
 /// One int, 3, under a name with characters that are escaped.
 pub static NAMES: &[u8] =

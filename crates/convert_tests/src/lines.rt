@@ -1,8 +1,8 @@
 //! Avro files into JSON lines.
 
 use crate::files::{
-    BINARY, BLOCK, DATES, DATES_HEADER, EVENTS, FALSE_COUNT, FLOAT, HEADER, MAP, NAMES, NAMES_LINE,
-    NANOSECONDS, NESTED, NESTED_BLOCK, NESTED_SIZED, NO_FIELD,
+    BINARY, BINARY_BLOCK, BLOCK, DATES, DATES_HEADER, EVENTS, FALSE_COUNT, FLOAT, FLOAT_BLOCK,
+    HEADER, MAP, NAMES, NAMES_LINE, NANOSECONDS, NESTED, NESTED_BLOCK, NESTED_SIZED, NO_FIELD,
 };
 use crate::written::{WRITTEN, WRITTEN_LINES};
 use arrow_base::{Bytes, Error, Items, MemorySink, MemorySource, Reason, Result};
@@ -212,8 +212,20 @@ fn fields_that_cannot_be_shown_are_refused(rt: HostRuntime) {
 #[test]
 fn fields_beside_those_are_shown(rt: HostRuntime) {
     let alloc = rt.alloc();
-    assert!(rt; gives(&rt, alloc, &[FLOAT], Some(&[1]), PLAIN, Ok(0), b""));
-    assert!(rt; gives(&rt, alloc, &[BINARY], Some(&[1]), PLAIN, Ok(0), b""));
+    let float = [FLOAT, FLOAT_BLOCK];
+    assert!(rt; gives(&rt, alloc, &float, Some(&[1]), PLAIN, Ok(1), b"{\"b\":3}\n"));
+    let binary = [BINARY, BINARY_BLOCK];
+    assert!(rt;
+        gives(
+            &rt,
+            alloc,
+            &binary,
+            Some(&[1]),
+            PLAIN,
+            Ok(1),
+            b"{\"b\":3}\n"
+        )
+    );
 }
 
 #[test]

@@ -36,8 +36,8 @@ fn push_integer<T: WholeNumber>(builder: &mut MutablePrimitiveArray<T>, value: &
 /// true, 0 for false, and null for any other value. The type is one whose values lie in memory as
 /// those of `T` do.
 ///
-/// `Overflow` only where a number has no whole value of this type. `OutOfMemory` may come in place
-/// of any answer.
+/// `Overflow` exactly where a number has no whole value of this type. `OutOfMemory` may come in
+/// place of any answer.
 pub fn read_integers<T: WholeNumber>(
     alloc: Global,
     values: &[&Value],

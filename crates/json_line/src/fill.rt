@@ -9,8 +9,8 @@ use crate::ends::push_null;
 use crate::given_up::GivenUp;
 use arrow_builders::{DynMutableStructArray, MutableArray};
 
-// Appends null, which null means under each type, where the builder has `count` slots. Where it has
-// others, it stays.
+// Appends a null to the builder where it has `count` slots: JSON's null means that under each type.
+// Where it has another number of slots, it stays.
 #[inline(always)]
 fn fill(builder: &mut MutableArray, count: usize) -> Result<(), GivenUp>
     requires { IsTight builder.old }

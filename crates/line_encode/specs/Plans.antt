@@ -131,7 +131,7 @@ abbrev pub Blocks : ℕ → ℕ → List ℕ → List ℕ → Type 0
 Blocks start count old new =
     (before : List ℕ) (items : List ℕ) → length before ≡ start → old ≡ (before ++ 0 ∷ []) ++ items → (count ≡ 0 → items ≡ []) → new ≡ before ++ block count items
 
--- nulls for the fields from one index to before another: behind what stands for those before the first, they make what stands for those before the other
+-- null was appended for each field from `from` to before `to`: after the encodings of the fields before `from` these bytes give the encodings of the fields before `to`
 abbrev pub Fills : List Plan → ℕ → ℕ → List ℕ → List ℕ → Type 0
 Fills plans from to old new =
     (bytes : List ℕ) × (new ≡ old ++ bytes) × ((values : List Json) (before : List ℕ) → WritesFirst from plans values before → WritesFirst to plans values (before ++ bytes))

@@ -17,8 +17,8 @@ use std::alloc::Global;
 /// The greatest count whose encoding is one byte: zigzag makes it 126.
 const COUNTED_IN_A_BYTE: usize = 63;
 
-/// Lists of more items are given up; the bound keeps the count within 62 bits, so that it may be
-/// counted up and encoded.
+/// Lists of more items are given up. Below 2^62 a count may be counted up and encoded; this is well
+/// within that.
 const MOST_ITEMS: usize = 0x7fff_ffff;
 
 // Whether one item more may be counted.
