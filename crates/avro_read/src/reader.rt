@@ -56,13 +56,13 @@ impl<S: Source + Drop> Reader<S> {
     /// `Decoder::new`; `OutOfMemory`. What was given is then dropped.
     pub fn new(
         alloc: Global,
-        reader: S,
+        source: S,
         metadata: FileMetadata,
         fields: Vec<Field>,
         projection: Option<Vec<bool>>,
         byte_limit: u64,
     ) -> Result<Reader<S>>
-        ensures source { IfOk result (λ r. source_of r ≡ reader) }
+        ensures source { IfOk result (λ r. source_of r ≡ source) }
         ensures marker { IfOk result (λ r. marker_of r ≡ metadata.marker) }
         ensures limit { IfOk result (λ r. limit_of r ≡ byte_limit) }
         ensures open { IfOk result IsOpen }
@@ -88,7 +88,7 @@ impl<S: Source + Drop> Reader<S> {
         let projection = projection_or_all(alloc, projection, avro_fields.as_slice().len())?;
         let decoder = Decoder::new(alloc, fields, avro_fields, projection)?;
         Ok(Reader {
-            blocks: BlockReader::new(alloc, reader, marker, byte_limit),
+            blocks: BlockReader::new(alloc, source, marker, byte_limit),
             block: Block {
                 number_of_rows: 0,
                 bytes: Bytes::new(alloc),
