@@ -17,9 +17,9 @@ use Rattle.avro_grammar.specs.ValidBlock.{kept, KeptEnumsFit}
 use Rattle.avro_container.specs.File.{FileBlock, the_block}
 use Rattle.avro_blocks.specs.Written.{AppendsBlock}
 use Rattle.avro_decode.specs.Columns.{AreColumns, kept_types}
-use Rattle.avro_decode.specs.Decoder.{Projected}
+use Rattle.avro_decode.specs.Decoder.{Projected, HasTable}
 use Rattle.avro_decode.specs.Refusals.{AreCounted}
-use Rattle.avro_ndjson.specs.Shown.{table_lines, dates_in_range, HasTable, ShowsBlock}
+use Rattle.avro_ndjson.specs.Shown.{table_lines, dates_in_range, ShowsBlock}
 use Rattle.avro_ndjson.specs.Taken.{BlockIsWrong}
 use Rattle.avro_ndjson.proofs.Dates.{row_in_range, columns_in_range, refused_late, rows_in_range, tables_by_fields}
 use Rattle.avro_ndjson.proofs.Numbers.{number_itself}
@@ -84,7 +84,7 @@ module _ (p : Projected) (fs : List Field) (chunk : List Array) (n : ℕ) (bytes
       same : ◌≡◌ {A = Option Error} (Some e) (Some (InvalidArgumentError DateRange)) → e ≡ InvalidArgumentError DateRange
       same q = cc
 
-  has_table : HasTable p (the_block n bytes) cols.0
+  has_table : HasTable p n bytes cols.0
   has_table = record { rows = cols.1; counted = counted; symbols = symbols }
 
   pub appends_block : (old new : List ℕ) → new ≡ old ++ flat_map (λ row. row ++ codes "\n") (objects (names_of fs) chunk) → chunk_refusal fs chunk ≡ None → AppendsBlock (ShowsBlock p) (the_block n bytes) old new

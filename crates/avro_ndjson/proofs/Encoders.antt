@@ -1,7 +1,8 @@
 -- Why no encoder of a file's blocks is made, and what it is where it is made.
-use Rattle.std.proofs.Common.{◌≡◌, ◌≢◌, ◌∙◌, ℕ, ◌+◌, ◌<◌, Bool, true, false, List, [], ◌∷◌, length, get_or, All, Option, Some, None, refl, sym, ap, subst, arith}
-use Rattle.std.specs.Prelude.{◌||◌, IfSome}
+use Rattle.std.proofs.Common.{◌≡◌, ◌≢◌, ◌∙◌, ◌↔◌, ℕ, ◌+◌, ◌<◌, Bool, true, false, List, [], ◌∷◌, length, get_or, All, Option, Some, None, refl, sym, ap, subst, arith}
+use Rattle.std.specs.Prelude.{◌||◌, IfSome, IsTrue}
 use Rattle.std.specs.List.{AllZip, range_with_len}
+use Rattle.std.proofs.lemmas.Bool.{false≢true}
 use Rattle.std.proofs.lemmas.List.{get_or-map}
 use Rattle.std.proofs.lemmas.List.FromFn.{length-range_with_len, get_or-range_with_len}
 use Rattle.arrow_base.specs.Outside.{is_among}
@@ -16,12 +17,13 @@ use Rattle.avro_grammar.specs.Types.{Fits}
 use Rattle.avro_grammar.specs.ValidBlock.{kept, KeepNoFloat}
 use Rattle.avro_grammar.proofs.KeptLemmas.{kept_by_index}
 use Rattle.avro_decode.specs.Decoder.{CanBeDecoded, Projected, projected, ProjectionRefused}
+use Rattle.avro_decode.specs.Refusals.{AreCarried, AreNotCarried}
 use Rattle.avro_line.proofs.Types.{HaveTypes, columns_typed}
 use Rattle.avro_ndjson.specs.Encoder.{IsEncoder}
 use Rattle.avro_ndjson.specs.declared.lines.BlockEncoder.{BlockEncoder}
 use Rattle.avro_ndjson.specs.Plan.{IsPlan}
 use Rattle.avro_ndjson.specs.Keep.{is_kept, projection_of, NamesFields}
-use Rattle.avro_ndjson.specs.Refusals.{AreCarried, AreChosen, CannotBeShown}
+use Rattle.avro_ndjson.specs.Refusals.{AreChosen, CannotBeShown}
 use Rattle.avro_ndjson.specs.Shown.{kept_of}
 use Rattle.avro_ndjson.proofs.Decoders.{columns_are_fit, as_many, projection_length}
 use Rattle.avro_ndjson.proofs.Numbers.{number_itself}
@@ -106,6 +108,15 @@ module _ (keep : Option (List ℕ)) (xs : List AvroField) (fs : List Field) (pro
     typed = subst (λ (p : Projected). HaveTypes (kept p.avro_fields p.projection) encoder.lines.fields) (sym d) (subst (HaveTypes (kept xs projection)) (sym k) kept_typed);
     plan = subst (λ (p : Projected). IfSome encoder.plan (IsPlan p.avro_fields p.projection encoder.lines.fields)) (sym d) (subst (λ (gs : List Field). IfSome encoder.plan (IsPlan xs projection gs)) (sym k) plan);
   }
+
+pub not_carried : (keep : Option (List ℕ)) (xs : List AvroField) (e : Error) → AreNotCarried xs e → CannotBeShown keep xs e
+not_carried keep xs (NotYetImplemented reason.NoField) h = h
+not_carried keep xs (NotYetImplemented reason.NotCarried) h = h
+not_carried keep xs _ h = absurd h
+
+-- something is kept, where the test for nothing was false
+pub some_given : (keep : Option (List ℕ)) → IsTrue false ↔ (keep ≡ Some []) → keep ≢ Some []
+some_given keep h = λ none. false≢true (h.1 none)
 
 -- the numbers are those of fields, and some
 pub chosen_from : (keep : Option (List ℕ)) (xs first second : List AvroField) → first ≡ xs → second ≡ xs → AreCarried first → NamesFields keep (length second) → keep ≢ Some [] → AreChosen keep xs

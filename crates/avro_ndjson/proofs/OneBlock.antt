@@ -7,10 +7,9 @@ use Rattle.arrow_types.specs.declared.slot.Slot.{Slot}
 use Rattle.avro_grammar.specs.ValidBlock.{KeptEnumsFit, ValidBlock}
 use Rattle.avro_container.specs.File.{FileBlock}
 use Rattle.avro_blocks.proofs.OneBlock.{AreOne}
-use Rattle.avro_decode.specs.Decoder.{Projected, CanBeDecoded}
+use Rattle.avro_decode.specs.Decoder.{Projected, CanBeDecoded, HasTable}
 use Rattle.avro_decode.specs.Refusals.{BelongTogether, FieldsRefused, BytesRefused, BlockRefused}
 use Rattle.avro_decode.proofs.Valid.{valid_blocks}
-use Rattle.avro_ndjson.specs.Shown.{HasTable}
 use Rattle.avro_ndjson.specs.Taken.{BlockIsWrong}
 
 module _ (p : Projected) (can : CanBeDecoded p) where
@@ -72,14 +71,14 @@ module _ (p : Projected) (can : CanBeDecoded p) where
     one_refusal e d (inr h) (inl k) = inr (inr (together_or_symbols d (only_symbols d k) h.0))
     one_refusal e d (inr h) (inr k) = one_of_bytes e d h.1 k.1
 
-    table_is_valid : (table : List (List Slot)) → HasTable p b table → ValidBlock b.rows b.bytes p.fields p.avro_fields p.projection
+    table_is_valid : (table : List (List Slot)) → HasTable p b.rows b.bytes table → ValidBlock b.rows b.bytes p.fields p.avro_fields p.projection
     table_is_valid table has = record {
       columns = record { lengths = can.lengths; some = can.some; carried = can.carried; fits = can.fits; no_float = can.no_float; offsets = has.counted.0; symbols = has.symbols };
       table = table;
       rows = has.rows;
     }
 
-    table_or_refused : (table : List (List Slot)) → HasTable p b table → (e : Error) → Refused e → e ≡ OutOfMemory
+    table_or_refused : (table : List (List Slot)) → HasTable p b.rows b.bytes table → (e : Error) → Refused e → e ≡ OutOfMemory
     table_or_refused table has e h = valid_blocks p.fields b.rows p.avro_fields p.projection b.bytes e (table_is_valid table has) h
 
     pub one_wrong : (e d : Error) → BlockIsWrong p b e → BlockIsWrong p b d → AreOne e d

@@ -27,7 +27,7 @@ pub plan_of : (encoder : BlockEncoder) (plan : RowPlan) → IsEncoder encoder �
 plan_of encoder plan e is = subst (λ (o : Option RowPlan). IfSome o (IsPlan encoder.decoder.avro_fields encoder.decoder.projection encoder.lines.fields)) is e.plan
 
 module _ (encoder : BlockEncoder) (plan : RowPlan) (e : IsEncoder encoder) (p : IsPlan encoder.decoder.avro_fields encoder.decoder.projection encoder.lines.fields plan) (n : ℕ) (bytes old new : List ℕ)
-    (shows : ShowsRowsOf n plan.avro_fields.items plan.projection.items plan.columns.items bytes old new) where
+    (shows : ShowsRowsOf n encoder.decoder.avro_fields encoder.decoder.projection plan.columns.items bytes old new) where
   abbrev decoder : Projected
   decoder = encoder.decoder
 
@@ -35,7 +35,7 @@ module _ (encoder : BlockEncoder) (plan : RowPlan) (e : IsEncoder encoder) (p : 
   fields = encoder.lines.fields
 
   shown : ShowsRows n decoder.avro_fields decoder.projection fields bytes old new
-  shown = (rw (p.same_fields, p.same_projection) at shows) fields (record { typed = e.typed; named = p.columns })
+  shown = shows fields (record { typed = e.typed; named = p.columns })
 
   pub few_rows : n ≤ length bytes
   few_rows = rows_have n decoder.avro_fields decoder.projection bytes shown.table (omega (arith, e.possible.some, e.possible.lengths.0)) e.possible.carried shown.rows

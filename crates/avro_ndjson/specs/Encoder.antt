@@ -8,8 +8,8 @@ use Rattle.avro_decode.specs.Decoder.{CanBeDecoded}
 use Rattle.avro_ndjson.specs.declared.lines.BlockEncoder.{BlockEncoder}
 use Rattle.avro_ndjson.specs.Plan.{IsPlan}
 
--- Its fields are the kept ones, of which there is one, of the types of their schemas, and each of their types has a JSON
--- text and the offsets of zones. Rows are shown without columns by the same fields.
+-- Its fields are the kept ones, at least one; each has the type of its schema, a JSON text, and the offsets of zones.
+-- Rows are shown without columns by the same fields.
 pub record IsEncoder (encoder : BlockEncoder) : Type 0 where
   pub typed : AllZip (λ a f. inferred a.schema ≡ Some f.data_type) (kept encoder.decoder.avro_fields encoder.decoder.projection) encoder.lines.fields
   pub kept : encoder.lines.fields ≡ kept encoder.decoder.fields encoder.decoder.projection

@@ -13,6 +13,7 @@ use Rattle.avro_grammar.specs.Inferred.{inferred_columns}
 use Rattle.avro_grammar.specs.ValidBlock.{KeepNoFloat}
 use Rattle.avro_container.specs.Taking.{state}
 use Rattle.avro_blocks.specs.Changes.{Change, header_of}
+use Rattle.avro_decode.specs.Refusals.{AreCarried}
 use Rattle.avro_file.specs.Metadata.{ReadsMetadata, MetadataFails}
 use Rattle.avro_ndjson.specs.Keep.{NamesFields}
 use Rattle.avro_ndjson.specs.Shown.{kept_of, HaveTexts, CanBeShown, projected_of, ShowsFile}
@@ -20,11 +21,8 @@ use Rattle.avro_ndjson.specs.Taken.{StopsAtBlock}
 
 -- ---- the fields of a file's record
 
--- there is a field, and all are carried
-abbrev pub AreCarried : List AvroField → Type 0
-AreCarried avro_fields = (0 < length avro_fields) × CarriedList avro_fields
-
--- and the numbers are theirs and some
+-- there is a field, all are carried, each number given is a field's, each once, and there is at least one where any
+-- are given
 abbrev pub AreChosen : Option (List ℕ) → List AvroField → Type 0
 AreChosen keep avro_fields = AreCarried avro_fields × NamesFields keep (length avro_fields) × (keep ≢ Some [])
 

@@ -9,13 +9,11 @@ use Rattle.avro_schema.specs.declared.schema.AvroField.{AvroField}
 use Rattle.avro_schema.specs.declared.schema.Record.{Record, out-Record}
 use Rattle.avro_grammar.specs.Carried.{CarriedList}
 use Rattle.avro_grammar.specs.Inferred.{inferred_columns}
-use Rattle.avro_grammar.specs.Rows.{Rows}
-use Rattle.avro_grammar.specs.ValidBlock.{kept, KeepNoFloat, KeptEnumsFit}
+use Rattle.avro_grammar.specs.ValidBlock.{kept, KeepNoFloat}
 use Rattle.avro_container.specs.File.{FileBlock}
 use Rattle.avro_file.specs.File.{AvroFile}
 use Rattle.avro_decode.specs.Columns.{kept_types}
-use Rattle.avro_decode.specs.Decoder.{Projected, projected}
-use Rattle.avro_decode.specs.Refusals.{AreCounted}
+use Rattle.avro_decode.specs.Decoder.{Projected, projected, HasTable}
 use Rattle.avro_ndjson.specs.Keep.{projection_of, NamesFields}
 
 -- ---- the fields of a record
@@ -28,8 +26,9 @@ kept_of keep avro_fields = projection_of keep (length avro_fields)
 abbrev pub HaveTexts : List Field → List Bool → Type 0
 HaveTexts fields projection = All (λ f. has_text f.data_type ≡ true) (kept fields projection)
 
--- The rows of these Avro fields can be shown under these fields: there is one, all are carried, the numbers are
--- theirs and some, and what is kept holds no float and has a JSON text.
+-- The rows of these Avro fields can be shown under these fields: there is a field, all are carried, each number given
+-- is a field's, each once, and there is at least one where any are given, and what is kept holds no float and has a
+-- JSON text.
 pub record CanBeShown (keep : Option (List ℕ)) (avro_fields : List AvroField) (fields : List Field) : Type 0 where
   pub some : 0 < length avro_fields
   pub carried : CarriedList avro_fields
@@ -53,17 +52,10 @@ table_lines p = lines (names_of (kept p.fields p.projection)) (kept_types p.fiel
 abbrev pub dates_in_range : Projected → List (List Slot) → Bool
 dates_in_range p = list_all (all_in_range (kept p.fields p.projection))
 
--- The block's bytes are its rows, whose kept slots are the table. Offsets can count its bytes, and dictionaries the
--- symbols of kept enums.
-pub record HasTable (p : Projected) (block : FileBlock) (table : List (List Slot)) : Type 0 where
-  pub rows : Rows block.rows p.avro_fields p.projection block.bytes table
-  pub counted : AreCounted block.rows p.fields p.projection block.bytes
-  pub symbols : KeptEnumsFit p.avro_fields p.projection
-
 -- the text is the lines of the block's rows
 pub record ShowsBlock (p : Projected) (block : FileBlock) (text : List ℕ) : Type 0 where
   pub table : List (List Slot)
-  pub is : HasTable p block table
+  pub is : HasTable p block.rows block.bytes table
   pub in_range : dates_in_range p table ≡ true
   pub lines : text ≡ table_lines p table
 

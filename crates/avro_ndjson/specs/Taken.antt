@@ -8,9 +8,9 @@ use Rattle.avro_container.specs.File.{FileBlock}
 use Rattle.avro_container.specs.Taking.{State}
 use Rattle.avro_blocks.specs.Changes.{Change}
 use Rattle.avro_blocks.specs.Written as written
-use Rattle.avro_decode.specs.Decoder.{Projected}
+use Rattle.avro_decode.specs.Decoder.{Projected, HasTable}
 use Rattle.avro_decode.specs.Refusals.{BlockRefused}
-use Rattle.avro_ndjson.specs.Shown.{dates_in_range, HasTable, ShowsBlock}
+use Rattle.avro_ndjson.specs.Shown.{dates_in_range, ShowsBlock}
 
 -- one block after another was taken, and the lines of their rows, so many in all, were written
 abbrev pub WritesBlocks : Projected → List ℕ → State → State → Option (List ℕ) → Option (List ℕ) → ℕ → Type 0
@@ -21,7 +21,7 @@ abbrev pub BlockIsWrong : Projected → FileBlock → Error → Type 0
 BlockIsWrong p block e =
     BlockRefused p.fields block.rows p.avro_fields p.projection block.bytes e
     ⊎ ((e ≡ InvalidArgumentError DateRange)
-    × ((table : List (List Slot)) × HasTable p block table × (dates_in_range p table ≡ false)))
+    × ((table : List (List Slot)) × HasTable p block.rows block.bytes table × (dates_in_range p table ≡ false)))
 
 -- whole blocks were shown, and the next one was not: there is none, or it is wrong, or the sink failed within its lines
 abbrev pub StopsAtBlock : Projected → List ℕ → State → State → Change → Error → Type 0

@@ -40,10 +40,7 @@ fn projection_of_numbers(alloc: Global, numbers: &[usize], count: usize) -> Resu
     let mut projection = vec![in alloc; false; count]?;
     for i in 0..numbers.len() {
         let number = numbers[i];
-        if number >= count {
-            return Err(Error::InvalidArgumentError(Reason::KeepNumber));
-        }
-        if projection[number] {
+        if number >= count || projection[number] {
             return Err(Error::InvalidArgumentError(Reason::KeepNumber));
         }
         projection[number] = true;

@@ -3,9 +3,9 @@ ghost use Rattle.avro_ndjson.specs.Laws.{FilesAreConverted, FieldsAreRefused, Re
 
 /// What `avro_to_ndjson` answers, where the source tells its bytes and doesn't fail. A file of no
 /// more bytes than the limit whose rows can be shown is converted. Where the fields of a header's
-/// record can't be shown, the error says why, and is never Ok. Of any bytes one error comes at
-/// most, and none where they are converted. Each time `OutOfMemory` may come instead, and, after a
-/// header whose fields can be shown, `WriteFault` where the sink failed.
+/// record can't be shown, the answer is the error that says why, and never Ok. Of any bytes one
+/// error comes at most, and none where they are converted. Each time `OutOfMemory` may come instead,
+/// and, after a header whose fields can be shown, `WriteFault` where the sink failed.
 pub fn conversion_answers()
     ensures converted { FilesAreConverted }
     ensures refused { FieldsAreRefused }

@@ -1,6 +1,6 @@
 //! The blocks of a file as lines.
 
-ghost use Rattle.std.specs.Prelude.{◌≡◌, ◌≢◌, ◌≤◌, [], length, Some, IsTrue, IsFalse, OnOk, IfOk, IfErr};
+ghost use Rattle.std.specs.Prelude.{◌≡◌, ◌≤◌, ◌↔◌, [], length, Some, IsTrue, IsFalse, OnOk, IfOk, IfErr};
 ghost use Rattle.std.specs.Option.{option_copied};
 ghost use Rattle.avro_schema.specs.declared.schema.Record.{out-Record};
 ghost use Rattle.avro_container.specs.File.{the_block};
@@ -10,12 +10,12 @@ ghost use Rattle.avro_ndjson.specs.Refusals.{CannotBeShown};
 ghost use Rattle.avro_ndjson.specs.Shown.{CanBeShown, projected_of, ShowsBlock};
 ghost use Rattle.avro_ndjson.specs.Taken.{BlockIsWrong};
 
-use crate::fields::{check_carried, check_texts, kept_fields};
+use crate::fields::{check_texts, kept_fields};
 use crate::keep::projection_of;
 use crate::plan::{RowPlan, plan_rows};
 use arrow_base::{Error, Reason, Result};
 use avro_blocks::EncodesBlocks;
-use avro_decode::Decoder;
+use avro_decode::{Decoder, check_carried};
 use avro_infer::infer_schema;
 use avro_schema::{Block, Record};
 use json_write::LineEncoder;
@@ -33,8 +33,7 @@ pub(crate) struct BlockEncoder {
 
 /// Whether numbers are given, and none of them.
 fn keeps_nothing(keep: Option<&[usize]>) -> bool
-    ensures yes { IsTrue result → option_copied keep.entry ≡ Some [] }
-    ensures no { IsFalse result → option_copied keep.entry ≢ Some [] }
+    ensures { IsTrue result ↔ (option_copied keep.entry ≡ Some []) }
 {
     match keep {
         Some(numbers) => numbers.is_empty(),
@@ -119,7 +118,7 @@ impl BlockEncoder {
         if !out.is_empty() {
             return false;
         }
-        if plan.push_block(out, block).is_ok() {
+        if plan.push_block(out, &self.decoder, block).is_ok() {
             return true;
         }
         out.clear();

@@ -5,39 +5,38 @@ ghost use Rattle.arrow_core.specs.Errors.{OnlyOutOfMemory};
 ghost use Rattle.avro_grammar.specs.ValidBlock.{small_limit};
 ghost use Rattle.avro_line.specs.Rows.{ShowsRowsOf};
 ghost use Rattle.json_text.specs.Columns.{AreFields};
-ghost use Rattle.avro_ndjson.specs.Plan.{IsPlan, IsReady};
+ghost use Rattle.avro_decode.specs.Decoder.{CanBeDecoded};
+ghost use Rattle.avro_ndjson.specs.Plan.{IsPlan};
 
 use arrow_base::{Field, Result};
+use avro_decode::{Decoder, MOST_BYTES};
 use avro_line::{GivenUp, are_known, push_rows};
 use avro_schema::{AvroField, Block};
 use json_text::{Column, push_column};
 use std::alloc::Global;
 
-/// The most bytes of a block that offsets of 32 bits can count.
-const MOST_BYTES: usize = 2_147_483_647;
-
 /// What rows are shown by.
 #[derive(Drop)]
 pub(crate) struct RowPlan {
-    avro_fields: Vec<AvroField>,
-    projection: Vec<bool>,
     // Of the fields that are kept.
     columns: Vec<Column>,
 }
 
 impl RowPlan {
-    /// Appends the lines of a block's rows, of no more bytes than offsets of 32 bits can count.
+    /// Appends the lines of the rows of a block that this decoder takes, of no more bytes than offsets
+    /// of 32 bits can count.
     ///
     /// `GivenUp` may come at any time, and then anything may have been appended.
     pub(crate) fn push_block(
         &self,
         out: &mut Vec<u8>,
+        decoder: &Decoder,
         block: &Block,
     ) -> std::result::Result<(), GivenUp>
-        requires { IsReady self.now }
+        requires { CanBeDecoded decoder.now }
         ensures small { OnOk result (length block.now.bytes ≤ small_limit) }
         ensures shown { OnOk result (ShowsRowsOf block.now.number_of_rows
-            self.now.avro_fields.items self.now.projection.items self.now.columns.items
+            decoder.now.avro_fields decoder.now.projection self.now.columns.items
             block.now.bytes out.old.items out.new.items) }
     {
         let bytes = block.bytes.as_slice();
@@ -47,8 +46,8 @@ impl RowPlan {
         push_rows(
             out,
             bytes,
-            &self.avro_fields,
-            &self.projection,
+            decoder.avro_fields(),
+            decoder.projection(),
             &self.columns,
             block.number_of_rows,
         )
@@ -65,18 +64,6 @@ fn columns_of(alloc: Global, fields: &[Field]) -> Result<Vec<Column>>
         push_column(alloc, &mut columns, field.name.as_str(), &field.data_type)?;
     }
     Ok(columns)
-}
-
-fn copies_of(alloc: Global, avro_fields: &[AvroField]) -> Result<Vec<AvroField>>
-    ensures ok { IfOk result (λ copies. copies.items ≡ avro_fields.now) }
-    ensures memory { OnlyOutOfMemory result }
-{
-    let mut copies = Vec::new(alloc);
-    for field in avro_fields {
-        let copy = field.try_clone(alloc)?;
-        copies.push(copy)?;
-    }
-    Ok(copies)
 }
 
 /// How rows of these fields are shown, of which `kept` are those that the projection keeps; None
@@ -96,11 +83,5 @@ pub(crate) fn plan_rows(
         return Ok(None);
     }
     let columns = columns_of(alloc, kept)?;
-    let avro_fields = copies_of(alloc, avro_fields)?;
-    let projection = projection.to_vec(alloc)?;
-    Ok(Some(RowPlan {
-        avro_fields,
-        projection,
-        columns,
-    }))
+    Ok(Some(RowPlan { columns }))
 }

@@ -1,4 +1,4 @@
-use Rattle.std.proofs.Common.{◌≡◌, ◌∙◌, ℕ, Bool, true, List, length, All, Option, Some, Err, refl, sym, ap, subst, rules}
+use Rattle.std.proofs.Common.{◌≡◌, ◌∙◌, ℕ, Bool, true, List, length, All, Option, Some, Err, sym, ap, subst, rules}
 use Rattle.std.specs.Option.{option_copied}
 use Rattle.std.specs.Prelude.{IfSome}
 use Rattle.arrow_types.specs.declared.types.Field.{Field}
@@ -11,7 +11,7 @@ use Rattle.avro_decode.specs.Decoder.{CanBeDecoded, projected, ProjectionRefused
 use Rattle.avro_ndjson.specs.Plan.{IsPlan}
 use Rattle.avro_ndjson.specs.Refusals.{AreChosen, CannotBeShown}
 use Rattle.avro_ndjson.specs.Shown.{kept_of}
-use Rattle.avro_ndjson.proofs.Encoders.{chosen_from, flags, lengths, decoder_refused, made_encoder}
+use Rattle.avro_ndjson.proofs.Encoders.{chosen_from, some_given, not_carried, flags, lengths, decoder_refused, made_encoder}
 use Rattle.avro_blocks.proofs.Results.{err_then}
 use Rattle.avro_ndjson.proofs.lines.BlockEncoder.new.Goals as goal
 
@@ -19,7 +19,7 @@ pub returns-in_err-check_carried-clause-err : goal.returns-in_err-check_carried-
 returns-in_err-check_carried-clause-err c =
     let is : c.from_residual.result ≡ Err c.in_err-check_carried.field-0.0 = search rules in
     err_then (CannotBeShown (option_copied c.args.keep) (out-Record c.args.root).fields) c.from_residual.result c.in_err-check_carried.field-0.0 is
-    (subst (λ (xs : List AvroField). CannotBeShown (option_copied c.args.keep) xs c.in_err-check_carried.field-0.0) c.as_slice.ensures (c.in_err-check_carried.ensures (option_copied c.args.keep)))
+    (subst (λ (xs : List AvroField). CannotBeShown (option_copied c.args.keep) xs c.in_err-check_carried.field-0.0) c.as_slice.ensures (not_carried (option_copied c.args.keep) _ c.in_err-check_carried.field-0.0 c.in_err-check_carried.ensures))
 
 pub kept_fields-requires : goal.kept_fields-requires
 kept_fields-requires c =
@@ -27,7 +27,7 @@ kept_fields-requires c =
     let xs : List AvroField = (out-Record c.args.root).fields in
     let fs : List Field = c.in_ok-schema.schema.fields in
     let bs : List Bool = c.in_ok-projection.projection.items in
-    let chosen : AreChosen keep xs = chosen_from keep xs _ _ c.as_slice.ensures c.as_slice-2.ensures c.in_ok-check_carried.ensures c.in_ok-projection.ensures.fields (c.if-keeps_nothing.ensures.no refl) in
+    let chosen : AreChosen keep xs = chosen_from keep xs _ _ c.as_slice.ensures c.as_slice-2.ensures c.in_ok-check_carried.ensures c.in_ok-projection.ensures.fields (some_given keep c.if-keeps_nothing.ensures) in
     let columns : inferred_columns xs ≡ Some fs = c.in_ok-schema.ensures.fields in
     let same : bs ≡ kept_of keep xs = c.in_ok-projection.ensures.ok ∙ ap (λ (ys : List AvroField). kept_of keep ys) c.as_slice-2.ensures in
     let same_length : length fs ≡ length bs = flags keep xs fs bs chosen columns same in
@@ -39,7 +39,7 @@ plan_rows-requires c =
     let xs : List AvroField = (out-Record c.args.root).fields in
     let fs : List Field = c.in_ok-schema.schema.fields in
     let bs : List Bool = c.in_ok-projection.projection.items in
-    let chosen : AreChosen keep xs = chosen_from keep xs _ _ c.as_slice.ensures c.as_slice-2.ensures c.in_ok-check_carried.ensures c.in_ok-projection.ensures.fields (c.if-keeps_nothing.ensures.no refl) in
+    let chosen : AreChosen keep xs = chosen_from keep xs _ _ c.as_slice.ensures c.as_slice-2.ensures c.in_ok-check_carried.ensures c.in_ok-projection.ensures.fields (some_given keep c.if-keeps_nothing.ensures) in
     let columns : inferred_columns xs ≡ Some fs = c.in_ok-schema.ensures.fields in
     let same : bs ≡ kept_of keep xs = c.in_ok-projection.ensures.ok ∙ ap (λ (ys : List AvroField). kept_of keep ys) c.as_slice-2.ensures in
     ap length c.as_slice-4.ensures ∙ sym (lengths keep xs fs bs chosen columns same) ∙ flags keep xs fs bs chosen columns same ∙ sym (ap length c.deref-2.ensures.value)
@@ -50,7 +50,7 @@ returns-in_err-decoder-clause-err c =
     let xs : List AvroField = (out-Record c.args.root).fields in
     let fs : List Field = c.in_ok-schema.schema.fields in
     let bs : List Bool = c.in_ok-projection.projection.items in
-    let chosen : AreChosen keep xs = chosen_from keep xs _ _ c.as_slice.ensures c.as_slice-2.ensures c.in_ok-check_carried.ensures c.in_ok-projection.ensures.fields (c.if-keeps_nothing.ensures.no refl) in
+    let chosen : AreChosen keep xs = chosen_from keep xs _ _ c.as_slice.ensures c.as_slice-2.ensures c.in_ok-check_carried.ensures c.in_ok-projection.ensures.fields (some_given keep c.if-keeps_nothing.ensures) in
     let columns : inferred_columns xs ≡ Some fs = c.in_ok-schema.ensures.fields in
     let same : bs ≡ kept_of keep xs = c.in_ok-projection.ensures.ok ∙ ap (λ (ys : List AvroField). kept_of keep ys) c.as_slice-2.ensures in
     let is : c.from_residual-in_err-decoder.result ≡ Err c.in_err-decoder.field-0.0 = search rules in
@@ -64,7 +64,7 @@ returns-clause-encoder c =
     let xs : List AvroField = (out-Record c.args.root).fields in
     let fs : List Field = c.in_ok-schema.schema.fields in
     let bs : List Bool = c.in_ok-projection.projection.items in
-    let chosen : AreChosen keep xs = chosen_from keep xs _ _ c.as_slice.ensures c.as_slice-2.ensures c.in_ok-check_carried.ensures c.in_ok-projection.ensures.fields (c.if-keeps_nothing.ensures.no refl) in
+    let chosen : AreChosen keep xs = chosen_from keep xs _ _ c.as_slice.ensures c.as_slice-2.ensures c.in_ok-check_carried.ensures c.in_ok-projection.ensures.fields (some_given keep c.if-keeps_nothing.ensures) in
     let columns : inferred_columns xs ≡ Some fs = c.in_ok-schema.ensures.fields in
     let same : bs ≡ kept_of keep xs = c.in_ok-projection.ensures.ok ∙ ap (λ (ys : List AvroField). kept_of keep ys) c.as_slice-2.ensures in
     let made : c.in_ok-decoder.decoder ≡ projected fs xs bs = c.in_ok-decoder.ensures.made ∙ ap (λ (gs : List Field). projected gs xs bs) c.into_vec.ensures in
@@ -83,7 +83,7 @@ returns-in_err-check_texts-clause-err c =
     let xs : List AvroField = (out-Record c.args.root).fields in
     let fs : List Field = c.in_ok-schema.schema.fields in
     let bs : List Bool = c.in_ok-projection.projection.items in
-    let chosen : AreChosen keep xs = chosen_from keep xs _ _ c.as_slice.ensures c.as_slice-2.ensures c.in_ok-check_carried.ensures c.in_ok-projection.ensures.fields (c.if-keeps_nothing.ensures.no refl) in
+    let chosen : AreChosen keep xs = chosen_from keep xs _ _ c.as_slice.ensures c.as_slice-2.ensures c.in_ok-check_carried.ensures c.in_ok-projection.ensures.fields (some_given keep c.if-keeps_nothing.ensures) in
     let columns : inferred_columns xs ≡ Some fs = c.in_ok-schema.ensures.fields in
     let same : bs ≡ kept_of keep xs = c.in_ok-projection.ensures.ok ∙ ap (λ (ys : List AvroField). kept_of keep ys) c.as_slice-2.ensures in
     let is : c.from_residual-in_err-check_texts.result ≡ Err c.in_err-check_texts.field-0.0 = search rules in
