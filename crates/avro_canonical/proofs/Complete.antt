@@ -26,12 +26,12 @@ use Rattle.avro_file.specs.Laws.{IsMetadata}
 use Rattle.avro_file.specs.Metadata.{WriteFails}
 use Rattle.avro_file.proofs.Complete.{metadata_is_read, metadata_is_right}
 use Rattle.avro_file.proofs.Roots.{one_root}
-use Rattle.avro_decode.specs.Decoder.{CanBeDecoded, Projected, projected}
+use Rattle.avro_decode.specs.Decoder.{CanBeDecoded, Projected, projected, HasTable}
 use Rattle.avro_decode.specs.Refusals.{BlockRefused}
 use Rattle.avro_decode.proofs.Valid.{valid_blocks}
 use Rattle.avro_write.specs.Laws.{all_kept}
 use Rattle.avro_canonical.specs.Answers.{IsHeaderDue}
-use Rattle.avro_canonical.specs.Canonical.{BlockIsRefused, CanBeRewritten, CannotBeRewritten, HasTable, RewritesBlock, Rewriting}
+use Rattle.avro_canonical.specs.Canonical.{BlockIsRefused, CanBeRewritten, CannotBeRewritten, RewritesBlock, Rewriting}
 use Rattle.avro_canonical.specs.Rewritten.{HasCanonicalForm, BlockNotRewritten, Rewrites, RewritingFails, rewriting_of}
 use Rattle.avro_canonical.proofs.Making.{can_be_decoded}
 use Rattle.avro_canonical.proofs.Reasons.{rewritten_or_not, one_reason}
@@ -39,10 +39,10 @@ use Rattle.avro_canonical.proofs.Reasons.{rewritten_or_not, one_reason}
 -- ---- a block that has a canonical form
 
 abbrev HasRows : Projected → FileBlock → Type 0
-HasRows p b = (table : List (List Slot)) × HasTable p b table
+HasRows p b = (table : List (List Slot)) × HasTable p b.rows b.bytes table
 
 module _ (p : Projected) (can : CanBeDecoded p) where
-  rows_are_valid : (b : FileBlock) (table : List (List Slot)) → HasTable p b table → ValidBlock b.rows b.bytes p.fields p.avro_fields p.projection
+  rows_are_valid : (b : FileBlock) (table : List (List Slot)) → HasTable p b.rows b.bytes table → ValidBlock b.rows b.bytes p.fields p.avro_fields p.projection
   rows_are_valid b table has = record {
     columns = record { lengths = can.lengths; some = can.some; carried = can.carried; fits = can.fits; no_float = can.no_float; offsets = has.counted.0; symbols = has.symbols };
     table = table;
@@ -53,7 +53,7 @@ module _ (p : Projected) (can : CanBeDecoded p) where
   good_block : (b : FileBlock) (e : Error) → HasRows p b → BlockRefused p.fields b.rows p.avro_fields p.projection b.bytes e → e ≡ OutOfMemory
   good_block b e good h = valid_blocks p.fields b.rows p.avro_fields p.projection b.bytes e (rows_are_valid b good.0 good.1) h
 
-all_have : (p : Projected) (blocks : List FileBlock) (tables : List (List (List Slot))) → AllZip (HasTable p) blocks tables → All (HasRows p) blocks
+all_have : (p : Projected) (blocks : List FileBlock) (tables : List (List (List Slot))) → AllZip (λ (b : FileBlock). HasTable p b.rows b.bytes) blocks tables → All (HasRows p) blocks
 all_have p [] tables h k d lt = absurd (omega (arith, lt))
 all_have p (b ∷ blocks) [] h k d lt = absurd h
 all_have p (b ∷ blocks) (t ∷ tables) h zero d lt = (t, h.0)

@@ -41,9 +41,9 @@ copied_slice w is alike n bytes slice fields e d rows few small some =
     subst (λ (bs : List ℕ). RewritesBlock w (the_block n bs) (canonical_block w.marker (the_block n bs))) e
     (copied w is alike n slice (subst (λ (fs : List AvroField). AreCanonicalRows n fs slice) d rows) few small some)
 
--- the fields that are read are those of the root, and so is their copy
-pub made_rewriter : (t : Bool) (w : Rewriting) (root sources targets : List AvroField) → IsRewriting w → w.decoder.avro_fields ≡ root → sources ≡ root → targets ≡ w.fields → (IsTrue t → AreAlike sources targets) → IsRewriter t w
-made_rewriter t w root sources targets is e x y alike = record {
+-- the fields that were compared are those that it reads and those that it writes
+pub made_rewriter : (t : Bool) (w : Rewriting) (sources targets : List AvroField) → IsRewriting w → sources ≡ w.decoder.avro_fields → targets ≡ w.fields → (IsTrue t → AreAlike sources targets) → IsRewriter t w
+made_rewriter t w sources targets is x y alike = record {
   rewriting = is;
-  alike = λ told. subst (λ (fs : List AvroField). AreAlike fs w.fields) (x ∙ sym e) (subst (AreAlike sources) y (alike told));
+  alike = λ told. subst (λ (fs : List AvroField). AreAlike fs w.fields) x (subst (AreAlike sources) y (alike told));
 }

@@ -16,9 +16,10 @@ use Rattle.avro_blocks.specs.Changes.{Change, change_of, header_of}
 use Rattle.avro_blocks.specs.Written.{AllWritten, StopsAtBlock}
 use Rattle.avro_file.specs.File.{metadata_bytes}
 use Rattle.avro_file.specs.Metadata.{ReadsMetadata}
-use Rattle.avro_canonical.specs.Canonical.{BlockIsRefused, HasEncodings, HasTable, RewritesBlock, Rewriting, rewriting, table_block}
+use Rattle.avro_decode.specs.Decoder.{HasTable}
+use Rattle.avro_canonical.specs.Canonical.{BlockIsRefused, HasEncodings, RewritesBlock, Rewriting, rewriting, table_block}
 use Rattle.avro_canonical.specs.Targets.{AreMade}
-use Rattle.avro_canonical.specs.Rewritten.{HasTarget, Rewrites, RewritingFails, table_blocks}
+use Rattle.avro_canonical.specs.Rewritten.{Rewrites, RewritingFails, table_blocks}
 
 first_block : (marker : List ℕ) (fields : List AvroField) (table : List (List Slot)) (tables : List (List (List Slot))) → table_block marker fields table ++ canonical_blocks marker (table_blocks fields tables) ≡ canonical_blocks marker (table_blocks fields (table ∷ tables))
 first_block marker fields [] tables = refl
@@ -27,7 +28,7 @@ first_block marker fields (row ∷ table) tables = refl
 -- the tables of rewritten blocks, and what they are together
 record HaveTables (w : Rewriting) (blocks : List FileBlock) (texts : List (List ℕ)) : Type 0 where
   tables : List (List (List Slot))
-  rows : AllZip (HasTable w.decoder) blocks tables
+  rows : AllZip (λ b. HasTable w.decoder b.rows b.bytes) blocks tables
   encoded : AllByRecursion (HasEncodings w.fields) tables
   joined : concat texts ≡ canonical_blocks w.marker (table_blocks w.fields tables)
 
@@ -54,9 +55,6 @@ module _ (name marker : List ℕ) (limit limit_after : ℕ) (source sink : Chang
   all_told : ◌≡◌ {A = Rewriting × List ℕ × State × State} (w, other, old, new) (v, source_marker, state left faults (limit - taken) None, state source.bytes_after source.faults_after limit_after None)
   all_told = λ i. (made.made i, same i, from i, to i)
 
-  has_target : HasTarget name root made.columns target
-  has_target = record { nameless = made.nameless; can = made.can; named = made.named }
-
   rewrites : (count : ℕ) → AllWritten (RewritesBlock v) source_marker (state left faults (limit - taken) None) (state source.bytes_after source.faults_after limit_after None) held sink.bytes_after count → Rewrites name marker limit source sink count
   rewrites count all =
       let b = all.writes in
@@ -77,13 +75,13 @@ module _ (name marker : List ℕ) (limit limit_after : ℕ) (source sink : Chang
             blocks = b.blocks;
             is_file = record { prefix = head.bytes; back = b.bytes; joined = refl; entries = head.entries; head = head.head; text = reads.text; schema = head.schema; means = reads.means; codec = head.codec; blocks = b.sequence };
             columns = made.columns;
-            nameless = made.nameless;
-            can = made.can;
+            nameless = made.has_target.nameless;
+            can = made.has_target.can;
             tables = t.tables;
             rows = t.rows;
           };
           target = target;
-          named = made.named;
+          named = made.has_target.named;
           encoded = t.encoded;
           is = ap (λ (z : List ℕ). metadata_bytes target marker ++ z) t.joined;
           counted = b.counted;
@@ -109,7 +107,7 @@ module _ (name marker : List ℕ) (limit limit_after : ℕ) (source sink : Chang
         reads = reads;
         columns = made.columns;
         target = target;
-        has_target = has_target;
+        has_target = made.has_target;
         held = held;
         sink_faults = sink_faults;
         sink_never_falls = sink_never_falls;

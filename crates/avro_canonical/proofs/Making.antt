@@ -18,12 +18,13 @@ use Rattle.avro_infer.specs.Columns.{AllTyped}
 use Rattle.avro_infer.proofs.ColumnTypes.{zip_length}
 use Rattle.avro_infer.proofs.RootColumns.{columns_fit}
 use Rattle.avro_decode.specs.Decoder.{CanBeDecoded, Projected, ProjectionRefused, projected}
+use Rattle.avro_decode.specs.Refusals.{AreCarried, AreNotCarried}
 use Rattle.avro_record.specs.Listed.{named_all}
 use Rattle.avro_record.specs.Named.{named_record, named_root}
 use Rattle.avro_record.specs.Schemas.{NoAvroTypeWhere, columns_fields, plain_record, record_of}
 use Rattle.avro_record.proofs.Renamed.{record_named}
 use Rattle.avro_write.specs.Laws.{all_kept}
-use Rattle.avro_canonical.specs.Canonical.{AreCarried, CanBeRewritten, CannotBeRewritten, HoldNoFloat, IsRewriting, target_fields}
+use Rattle.avro_canonical.specs.Canonical.{CanBeRewritten, CannotBeRewritten, HoldNoFloat, IsRewriting, target_fields}
 use Rattle.avro_canonical.specs.Targets.{AreMade}
 
 -- columns in small forms are columns in small or large forms
@@ -49,6 +50,11 @@ can_be_decoded xs fs r can =
       fits = fits;
       no_float = can.no_float;
     }
+
+pub not_carried : (xs : List AvroField) (e : Error) → AreNotCarried xs e → CannotBeRewritten xs e
+not_carried xs (NotYetImplemented reason.NoField) h = h
+not_carried xs (NotYetImplemented reason.NotCarried) h = h
+not_carried xs _ h = absurd h
 
 -- why no decoder is made
 pub decoder_refused : (xs : List AvroField) (fs : List Field) (projection : List Bool) (e : Error) → AreCarried xs → inferred_columns xs ≡ Some fs → projection ≡ all_kept xs → ProjectionRefused (projected fs xs projection) e → CannotBeRewritten xs e
@@ -106,8 +112,6 @@ pub are_made : (xs : List AvroField) (fs : List Field) (r : Record) (name marker
     → AreMade xs name marker (record { decoder = decoder; fields = fields; marker = marker }) target
 are_made xs fs r name marker target decoder fields carried floats columns recorded named d f = record {
   columns = fs;
-  nameless = r;
-  can = record { carried = carried; no_float = floats; inferred = columns; recorded = recorded };
-  named = named;
+  has_target = record { nameless = r; can = record { carried = carried; no_float = floats; inferred = columns; recorded = recorded }; named = named };
   made = λ i. record { decoder = d i; fields = f i; marker = marker };
 }

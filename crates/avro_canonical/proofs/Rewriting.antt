@@ -12,6 +12,7 @@ use Rattle.avro_grammar.specs.Parts.{Many}
 use Rattle.avro_grammar.specs.Rows.{Pieces, Row, Rows, column}
 use Rattle.avro_grammar.specs.ValidBlock.{KeepNoFloat, KeptEnumsFit, kept}
 use Rattle.avro_grammar.proofs.Basics.{bind_some}
+use Rattle.avro_blocks.specs.Written.{AppendsBlock}
 use Rattle.avro_container.specs.Canonical.{canonical_block}
 use Rattle.avro_container.specs.File.{the_block}
 use Rattle.avro_decode.specs.Columns.{AreColumns, columns, kept_types}
@@ -21,7 +22,7 @@ use Rattle.avro_record.specs.Listed.{named_all}
 use Rattle.avro_record.specs.Schemas.{columns_fields}
 use Rattle.avro_write.specs.Laws.{all_kept, plain_table}
 use Rattle.avro_write.specs.Rows.{rows}
-use Rattle.avro_canonical.specs.Canonical.{AppendsRewritten, HasEncodings, IsRewriting, RewritesBlock, Rewriting, table_block}
+use Rattle.avro_canonical.specs.Canonical.{HasEncodings, IsRewriting, RewritesBlock, Rewriting, table_block}
 use Rattle.avro_canonical.specs.Columns.{AreAccepted, HaveEncodings, encodings}
 use Rattle.avro_canonical.specs.Laws.{AreBytes}
 use Rattle.avro_canonical.proofs.Accepted.{accepted, clean_widths, fields_again, table_clean}
@@ -117,11 +118,11 @@ module _ (w : Rewriting) (is : IsRewriting w) (can : CanBeDecoded w.decoder) (n 
   rewritten : (text : List ℕ) → HasEncodings w.fields table → text ≡ table_block w.marker w.fields table → RewritesBlock w (the_block n bytes) text
   rewritten text encodings_are e = record { table = table; has = record { rows = cols.1; counted = counted; symbols = symbols }; encoded = encodings_are; is = e }
 
-  pub nothing_appended : (out : List ℕ) → n ≡ 0 → AppendsRewritten w (the_block n bytes) out out
+  pub nothing_appended : (out : List ℕ) → n ≡ 0 → AppendsBlock (RewritesBlock w) (the_block n bytes) out out
   nothing_appended out e = ([], rewritten [] (no_encodings w.fields table (count ∙ e)) (no_block w.marker w.fields table (count ∙ e)), sym (append-nil out))
 
   pub block_appended : (old new bytes_of number_bytes : List ℕ) (number : ℕ) → (n ≡ 0 → ⊥) → HaveEncodings w.fields arrays → number ≡ n → number_bytes ≡ rows number (encodings w.fields (map array_slots arrays)) → bytes_of ≡ canonical_block w.marker (the_block number number_bytes) → new ≡ old ++ bytes_of
-      → AppendsRewritten w (the_block n bytes) old new
+      → AppendsBlock (RewritesBlock w) (the_block n bytes) old new
   block_appended old new bytes_of number_bytes number some have same filled is_block appended =
       let full : number_bytes ≡ plain_table w.fields table = filled ∙ ap (λ k. rows k (encodings w.fields (map array_slots arrays))) same ∙ table_bytes in
       (bytes_of, rewritten bytes_of (rows_encoded w.fields arrays table both.1 have slots) (is_block ∙ (λ i. canonical_block w.marker (the_block (same i) (full i))) ∙ some_block w.marker w.fields table n count some), appended)

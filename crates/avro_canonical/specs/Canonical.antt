@@ -1,6 +1,6 @@
 -- The canonical form of a file's blocks: the same rows, under the record of their columns, each slot in its one
 -- canonical encoding and each number in its shortest (Avro 1.11, "Binary Encoding" and "Object Container Files").
-use Rattle.std.specs.Prelude.{◌≡◌, ℕ, ◌<◌, List, [], ◌∷◌, ◌++◌, length, Bool, true, Option, Some, None, IsTrue, refl}
+use Rattle.std.specs.Prelude.{◌≡◌, ℕ, ◌<◌, List, [], ◌∷◌, length, Bool, true, Option, Some, None, IsTrue, refl}
 use Rattle.std.specs.List.{AllByRecursion}
 use Rattle.std.specs.Coded.{Coded, code_by, coded×, coded_list, coded_ℕ}
 use Rattle.arrow_core.specs.declared.error.Error.{Error}
@@ -14,35 +14,38 @@ use Rattle.avro_schema.specs.declared.schema.Record.{Record, out-Record}
 use Rattle.avro_grammar.specs.AndThen.{◌>>=◌}
 use Rattle.avro_grammar.specs.Carried.{CarriedList}
 use Rattle.avro_grammar.specs.Inferred.{inferred_columns}
-use Rattle.avro_grammar.specs.Rows.{Rows}
-use Rattle.avro_grammar.specs.ValidBlock.{KeepNoFloat, KeptEnumsFit}
+use Rattle.avro_grammar.specs.ValidBlock.{KeepNoFloat}
 use Rattle.avro_container.specs.Canonical.{canonical_block}
 use Rattle.avro_container.specs.File.{FileBlock, the_block}
-use Rattle.avro_decode.specs.Decoder.{Projected, projected, projected_code}
-use Rattle.avro_decode.specs.Refusals.{AreCounted, BlockRefused}
+use Rattle.avro_decode.specs.Decoder.{Projected, projected, projected_code, HasTable}
+use Rattle.avro_decode.specs.Refusals.{AreCarried, BlockRefused}
 use Rattle.avro_encode.specs.Listed.{PairsFieldsOf}
 use Rattle.avro_record.specs.Listed.{named_all}
+use Rattle.avro_record.specs.Named.{named_root}
 use Rattle.avro_record.specs.Schemas.{columns_fields, record_of}
 use Rattle.avro_verbatim.specs.Alike.{AreAlike}
 use Rattle.avro_write.specs.Laws.{all_kept, plain_table}
 
 -- ---- the record
 
--- there is a field, and all are carried
-abbrev pub AreCarried : List AvroField → Type 0
-AreCarried avro_fields = (0 < length avro_fields) × CarriedList avro_fields
-
 -- no field holds a float
 abbrev pub HoldNoFloat : List AvroField → Type 0
 HoldNoFloat avro_fields = KeepNoFloat avro_fields (all_kept avro_fields)
 
--- The rows of these Avro fields can be rewritten: there is one, all are carried and hold no float, these are their
--- columns, and the columns have this record.
+-- The rows of these Avro fields can be rewritten: there is at least one field, all are carried and hold no float, these
+-- are their columns, and the columns have this record.
 pub record CanBeRewritten (avro_fields : List AvroField) (columns : List Field) (target : Record) : Type 0 where
   pub carried : AreCarried avro_fields
   pub no_float : HoldNoFloat avro_fields
   pub inferred : inferred_columns avro_fields ≡ Some columns
   pub recorded : record_of true columns ≡ Some target
+
+-- the rows of these Avro fields can be rewritten; these are their columns, and the target is the columns' record, which
+-- has this name
+pub record HasTarget (name : List ℕ) (avro_fields : List AvroField) (columns : List Field) (target : Record) : Type 0 where
+  pub nameless : Record
+  pub can : CanBeRewritten avro_fields columns nameless
+  pub named : target ≡ named_root name nameless
 
 -- no record has the columns: an enum's have a type that no Avro schema gives back
 abbrev pub HasNoRecord : List AvroField → Type 0
@@ -77,12 +80,6 @@ abbrev pub table_block : List ℕ → List AvroField → List (List Slot) → Li
 table_block marker fields [] = []
 table_block marker fields (row ∷ table) = canonical_block marker (the_block (length (row ∷ table)) (plain_table fields (row ∷ table)))
 
--- The block's bytes are the rows of the table. Offsets can count its bytes, and dictionaries the symbols of enums.
-pub record HasTable (p : Projected) (block : FileBlock) (table : List (List Slot)) : Type 0 where
-  pub rows : Rows block.rows p.avro_fields p.projection block.bytes table
-  pub counted : AreCounted block.rows p.fields p.projection block.bytes
-  pub symbols : KeptEnumsFit p.avro_fields p.projection
-
 -- each slot of the table has a canonical encoding under its field
 abbrev pub HasEncodings : List AvroField → List (List Slot) → Type 0
 HasEncodings fields = AllByRecursion (PairsFieldsOf fields)
@@ -90,13 +87,9 @@ HasEncodings fields = AllByRecursion (PairsFieldsOf fields)
 -- the text is the canonical form of the block, that of the table of its rows
 pub record RewritesBlock (w : Rewriting) (block : FileBlock) (text : List ℕ) : Type 0 where
   pub table : List (List Slot)
-  pub has : HasTable w.decoder block table
+  pub has : HasTable w.decoder block.rows block.bytes table
   pub encoded : HasEncodings w.fields table
   pub is : text ≡ table_block w.marker w.fields table
-
--- the canonical form of the block was appended
-abbrev pub AppendsRewritten : Rewriting → FileBlock → List ℕ → List ℕ → Type 0
-AppendsRewritten w block old new = (text : List ℕ) × RewritesBlock w block text × (new ≡ old ++ text)
 
 -- why it has none: it is refused as a block alone is
 abbrev pub BlockIsRefused : Rewriting → FileBlock → Error → Type 0

@@ -14,10 +14,10 @@ use Rattle.avro_blocks.specs.Changes.{Change, change_of, header_of}
 use Rattle.avro_blocks.specs.Written.{StopsAtBlock}
 use Rattle.avro_file.specs.File.{AvroFile, canonical_file, metadata_bytes}
 use Rattle.avro_file.specs.Metadata.{ReadsMetadata, MetadataFails, WriteFails}
-use Rattle.avro_decode.specs.Decoder.{projected}
+use Rattle.avro_decode.specs.Decoder.{projected, HasTable}
 use Rattle.avro_record.specs.Named.{named_root}
 use Rattle.avro_write.specs.Laws.{all_kept, plain_table}
-use Rattle.avro_canonical.specs.Canonical.{BlockIsRefused, CanBeRewritten, CannotBeRewritten, HasEncodings, HasTable, RewritesBlock, Rewriting, rewriting}
+use Rattle.avro_canonical.specs.Canonical.{BlockIsRefused, CanBeRewritten, CannotBeRewritten, HasEncodings, HasTarget, RewritesBlock, Rewriting, rewriting}
 
 -- ---- a file
 
@@ -26,13 +26,6 @@ abbrev pub table_blocks : List AvroField → List (List (List Slot)) → List Fi
 table_blocks fields [] = []
 table_blocks fields ([] ∷ tables) = table_blocks fields tables
 table_blocks fields ((row ∷ table) ∷ tables) = the_block (length (row ∷ table)) (plain_table fields (row ∷ table)) ∷ table_blocks fields tables
-
--- the rows of the record can be rewritten; these are their columns, and the target is the columns' record, which has
--- this name
-pub record HasTarget (name : List ℕ) (root : Record) (columns : List Field) (target : Record) : Type 0 where
-  pub nameless : Record
-  pub can : CanBeRewritten (out-Record root).fields columns nameless
-  pub named : target ≡ named_root name nameless
 
 -- what the record's blocks are rewritten by
 abbrev pub rewriting_of : Record → List Field → Record → List ℕ → Rewriting
@@ -48,7 +41,7 @@ pub record HasCanonicalForm (bytes : List ℕ) : Type 0 where
   pub nameless : Record
   pub can : CanBeRewritten (out-Record root).fields columns nameless
   pub tables : List (List (List Slot))
-  pub rows : AllZip (HasTable (projected columns (out-Record root).fields (all_kept (out-Record root).fields))) blocks tables
+  pub rows : AllZip (λ b. HasTable (projected columns (out-Record root).fields (all_kept (out-Record root).fields)) b.rows b.bytes) blocks tables
 
 -- The bytes are a file of so many rows, and the text is the canonical file of the same rows, in the same cut into
 -- blocks, those without rows left out, under the record of their columns, the given name and the given marker. Each
@@ -90,7 +83,7 @@ pub record HeaderNotWritten (name marker : List ℕ) (limit : ℕ) (source sink 
   pub reads : ReadsMetadata (header_of limit source source.bytes_after source.faults_after) root source_marker count
   pub columns : List Field
   pub target : Record
-  pub has_target : HasTarget name root columns target
+  pub has_target : HasTarget name (out-Record root).fields columns target
   pub fails : WriteFails sink.bytes sink.bytes_after sink.faults sink.faults_after (metadata_bytes target marker) e
 
 -- The new header was written; of the blocks after the file's header whole ones were rewritten, and the next one was
@@ -105,7 +98,7 @@ pub record BlockNotRewritten (name marker : List ℕ) (limit : ℕ) (source sink
   pub reads : ReadsMetadata (header_of limit source left faults) root source_marker count
   pub columns : List Field
   pub target : Record
-  pub has_target : HasTarget name root columns target
+  pub has_target : HasTarget name (out-Record root).fields columns target
   pub held : Option (List ℕ)
   pub sink_faults : ℕ
   pub sink_never_falls : sink.faults ≤ sink_faults

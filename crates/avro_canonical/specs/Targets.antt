@@ -3,13 +3,10 @@ use Rattle.std.specs.Prelude.{◌≡◌, ℕ, List}
 use Rattle.arrow_types.specs.declared.types.Field.{Field}
 use Rattle.avro_schema.specs.declared.schema.AvroField.{AvroField}
 use Rattle.avro_schema.specs.declared.schema.Record.{Record}
-use Rattle.avro_record.specs.Named.{named_root}
-use Rattle.avro_canonical.specs.Canonical.{CanBeRewritten, Rewriting, rewriting}
+use Rattle.avro_canonical.specs.Canonical.{HasTarget, Rewriting, rewriting}
 
 -- the rows of these Avro fields can be rewritten, under the record of their columns, which has this name
 pub record AreMade (avro_fields : List AvroField) (name marker : List ℕ) (rewriter : Rewriting) (target : Record) : Type 0 where
   pub columns : List Field
-  pub nameless : Record
-  pub can : CanBeRewritten avro_fields columns nameless
-  pub named : target ≡ named_root name nameless
+  pub has_target : HasTarget name avro_fields columns target
   pub made : rewriter ≡ rewriting avro_fields columns target marker

@@ -1,36 +1,34 @@
 //! Blocks into their canonical form, one after another.
-ghost use Rattle.std.specs.Prelude.{◌≡◌, ◌<◌, ◌≤◌, ◌^◌, ◌++◌, List, ℕ, Some, length, map, IfOk, OnOk, IfErr, IsTrue, MatchResult};
+ghost use Rattle.std.specs.Prelude.{◌≡◌, ◌<◌, ◌≤◌, ◌^◌, ◌++◌, List, ℕ, Some, length, map, IfOk, OnOk, IfErr, IsTrue};
 ghost use Rattle.arrow_core.specs.Errors.{OnlyOutOfMemory};
 ghost use Rattle.arrow_array.specs.Arrays.{array_slots, array_type};
 ghost use Rattle.avro_schema.specs.declared.schema.Record.{out-Record};
 ghost use Rattle.avro_grammar.specs.Inferred.{inferred_columns};
 ghost use Rattle.avro_grammar.specs.ValidBlock.{KeptEnumsFit};
+ghost use Rattle.avro_blocks.specs.Written.{AppendsBlock};
 ghost use Rattle.avro_container.specs.Canonical.{canonical_block};
 ghost use Rattle.avro_container.specs.File.{the_block};
 ghost use Rattle.avro_decode.specs.Columns.{AreColumns, kept_types};
 ghost use Rattle.avro_decode.specs.Decoder.{CanBeDecoded, projected};
-ghost use Rattle.avro_decode.specs.Refusals.{AreCounted};
+ghost use Rattle.avro_decode.specs.Refusals.{AreCarried, AreCounted};
 ghost use Rattle.avro_write.specs.Laws.{all_kept};
-ghost use Rattle.avro_canonical.specs.Canonical.{AppendsRewritten, AreCarried, BlockIsRefused, CannotBeRewritten, HoldNoFloat, RewritesBlock};
+ghost use Rattle.avro_canonical.specs.Canonical.{BlockIsRefused, CannotBeRewritten, HoldNoFloat, RewritesBlock};
 ghost use Rattle.avro_canonical.specs.Laws.{AreBytes};
 ghost use Rattle.avro_canonical.specs.Targets.{AreMade};
 
 use crate::bytes::tell_bytes;
 use crate::columns::fill_block;
 use arrow_array::Array;
-use arrow_core::{Bytes, Error, Items, Reason, Result};
+use arrow_core::{Bytes, Error, Items, Result};
 use arrow_types::Field;
 use avro_container::write_block;
-use avro_decode::Decoder;
-use avro_infer::{all_carried, infer_schema};
+use avro_decode::{Decoder, MOST_BYTES, check_carried};
+use avro_infer::infer_schema;
 use avro_schema::{AvroField, Block, Record};
 use avro_verbatim::{are_alike, are_canonical_rows};
 use avro_write::{name_types, to_record};
 use std::alloc::Global;
 use std::marker::Model;
-
-/// The most bytes of a block that offsets of 32 bits can count.
-const MOST_BYTES: usize = 2_147_483_647;
 
 /// Rewrites the blocks of one file in their canonical form: the same rows, under the record of
 /// their columns.
@@ -57,20 +55,6 @@ impl Model for BlockRewriter {
     ghost view = { λ r. record { decoder = r.decoder; fields = r.fields; marker = r.marker } };
 
     ghost invariant = { λ r. IsRewriter r.may_copy (record { decoder = r.decoder; fields = r.fields; marker = r.marker }) };
-}
-
-/// `NoField` where there is no field, and then `NotCarried` where one isn't carried.
-fn check_carried(avro_fields: &[AvroField]) -> Result<()>
-    ensures { MatchResult result (λ _. AreCarried avro_fields.now)
-        (CannotBeRewritten avro_fields.now) }
-{
-    if avro_fields.is_empty() {
-        return Err(Error::NotYetImplemented(Reason::NoField));
-    }
-    if !all_carried(avro_fields) {
-        return Err(Error::NotYetImplemented(Reason::NotCarried));
-    }
-    Ok(())
 }
 
 /// A decoder of blocks of these Avro fields that keeps all of them.
@@ -105,8 +89,8 @@ fn append_block(out: &mut Vec<u8>, block: &Block, marker: [u8; 16]) -> Result<()
 }
 
 impl BlockRewriter {
-    /// Of blocks of the rows of `root`, into blocks that end with this marker; and the record that
-    /// these are of, the one that `to_record` and `name_types` give the columns of `root`.
+    /// A rewriter of blocks of the rows of `root`, into blocks that end with this marker; and the
+    /// record of their rows, the one that `to_record` and `name_types` give the columns of `root`.
     ///
     /// In this order: `NotYetImplemented(NoField)` where `root` has no field,
     /// `NotYetImplemented(NotCarried)` where one isn't carried, `NotYetImplemented(Float)` where one
@@ -126,10 +110,6 @@ impl BlockRewriter {
         let columns = infer_schema(alloc, &root)?;
         let nameless = to_record(alloc, &columns);
         let Record {
-            fields: sources,
-            ..
-        } = root.try_clone(alloc)?;
-        let Record {
             fields: avro_fields,
             ..
         } = root;
@@ -137,7 +117,7 @@ impl BlockRewriter {
         let decoder = make_decoder(alloc, columns.fields, avro_fields)?;
         let target = name_types(alloc, nameless?, name)?;
         let Record { fields, .. } = target.try_clone(alloc)?;
-        let may_copy = are_alike(sources.as_slice(), fields.as_slice());
+        let may_copy = are_alike(decoder.avro_fields(), fields.as_slice());
         let rewriter = BlockRewriter {
             alloc,
             decoder,
@@ -156,7 +136,7 @@ impl BlockRewriter {
     ///
     /// The errors are those of `Decoder::decode`.
     pub fn push_block(&mut self, out: &mut Vec<u8>, block: &Block) -> Result<()>
-        ensures ok { OnOk result (AppendsRewritten self.old
+        ensures ok { OnOk result (AppendsBlock (RewritesBlock self.old)
             (the_block block.now.number_of_rows block.now.bytes) out.old.items out.new.items) }
         ensures few { OnOk result (block.now.number_of_rows ≤ length block.now.bytes) }
         ensures err { IfErr result (BlockIsRefused self.old
@@ -204,7 +184,7 @@ impl BlockRewriter {
         requires counted { AreCounted number_of_rows self.old.decoder.fields
             self.old.decoder.projection bytes.now }
         requires symbols { KeptEnumsFit self.old.decoder.avro_fields self.old.decoder.projection }
-        ensures ok { OnOk result (AppendsRewritten self.old
+        ensures ok { OnOk result (AppendsBlock (RewritesBlock self.old)
             (the_block number_of_rows bytes.now) out.old.items out.new.items) }
         ensures memory { OnlyOutOfMemory result }
         ensures same { self.new ≡ self.old }

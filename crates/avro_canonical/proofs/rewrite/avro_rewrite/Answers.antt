@@ -41,7 +41,7 @@ returns-in_err-write_metadata-clause-err g c =
       reads = c.in_ok-metadata.ensures.ok;
       columns = made.columns;
       target = c.in_ok-rewriter.target;
-      has_target = record { nameless = made.nameless; can = made.can; named = made.named };
+      has_target = made.has_target;
       fails = c.in_err-write_metadata.ensures.err;
     })))
 
