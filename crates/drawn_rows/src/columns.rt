@@ -16,13 +16,12 @@ use std::alloc::Global;
 /// The id of row `i`.
 fn id_of(i: usize) -> i64
     requires { i < 2 ^ 63 }
-    ensures id { result ≡ pos i }
-    ensures small { i < 2 ^ 63 }
+    ensures { result ≡ pos i }
 {
     i as i64
 }
 
-/// Appends the ids of so many rows. `OutOfMemory` alone, also where they pass 64 bits.
+/// Appends the ids of so many rows. `OutOfMemory` alone, also where an index passes 63 bits.
 fn push_ids(column: &mut MutablePrimitiveArray<i64>, rows: usize) -> Result<()>
     ensures ok { OnOk result (column.new.slots ≡ column.old.slots ++ ids rows) }
     ensures memory { OnlyOutOfMemory result }

@@ -2,5 +2,5 @@ use Rattle.std.proofs.Common.{arith}
 use Rattle.std.proofs.lemmas.Int.{ints}
 use Rattle.drawn_rows.proofs.columns.id_of.Goals as goal
 
-pub returns-clause-id : goal.returns-clause-id
-returns-clause-id c = omega (arith, ints, c.requires)
+pub returns : goal.returns
+returns c = omega (arith, ints, c.requires)
