@@ -1,5 +1,5 @@
 -- The columns of the members of fields, one after another, and their faults.
-use Rattle.std.proofs.Common.{◌≡◌, ◌⊎◌, inl, inr, ℕ, zero, suc, ◌+◌, ◌<◌, ◌≤◌, Bool, true, false, ◌&&◌, List, [], ◌∷◌, ◌++◌, length, get_or, take, refl, sym, ap, ◌∙◌, subst, arith}
+use Rattle.std.proofs.Common.{◌≡◌, ◌⊎◌, inl, inr, ℕ, zero, suc, ◌+◌, ◌<◌, ◌≤◌, Bool, true, false, ◌&&◌, List, [], ◌∷◌, ◌++◌, length, get_or, take, refl, sym, ap, ◌∙◌, subst, arith, Result, Ok, Err, IfOk, IfErr}
 use Rattle.std.specs.List.{AllZip}
 use Rattle.std.proofs.lemmas.List.{length-map, take_more}
 use Rattle.arrow_array.specs.Arrays.{array_slots, array_type}
@@ -12,8 +12,8 @@ use Rattle.arrow_types.specs.declared.types.Field.{Field}
 use Rattle.json_tree.specs.Tree.{Json}
 use Rattle.json_tree.specs.declared.value.Value.{out-Value}
 use Rattle.json_flat.specs.Meaning.{slot_of, text_timestamp}
-use Rattle.json_flat.specs.Columns.{IsNoSlot, means}
-use Rattle.json_columns.specs.Faults.{AreMemberColumns, IsFieldsFault, IsMemberColumn, IsMemberFault, IsStructFault, TooManyFields}
+use Rattle.json_flat.specs.Columns.{AreSlotsOf, IsNoSlot, means}
+use Rattle.json_columns.specs.Faults.{AreMemberColumns, IsFault, IsFieldsFault, IsMemberColumn, IsMemberFault, IsStructFault, TooManyFields}
 use Rattle.json_columns.specs.Gathered.{all_have_reading, are_objects, field_meanings, is_object, member_in, members_named, struct_has_reading}
 use Rattle.json_flat.specs.Reading.{has_reading, reading, struct_in}
 use Rattle.json_columns.proofs.Anywhere.{AnyOf, from_any, to_any}
@@ -32,6 +32,14 @@ zip_length R [] [] h = refl
 zip_length R [] (b ∷ ys) h = absurd h
 zip_length R (a ∷ xs) [] h = absurd h
 zip_length R (a ∷ xs) (b ∷ ys) h = ap suc (zip_length R xs ys h.1)
+
+-- the column of a field's members, and why there is none
+pub member_column : (f : Field) (vs ws : List Json) (r : Result Array Error) → ws ≡ members_named f.name vs → IfOk r (λ a. array_type a ≡ f.data_type) → IfOk r (λ a. AreSlotsOf (reading f.data_type) ws (array_slots a)) → IfOk r (λ a. IsMemberColumn f vs (array_type a) (array_slots a))
+member_column f vs ws (Ok a) e t s = (sym t, subst (λ l. AreSlotsOf (reading f.data_type) l (array_slots a)) e s)
+member_column f vs ws (Err x) e t s = tt
+
+pub member_fault : (f : Field) (vs ws : List Json) (r : Result Array Error) → ws ≡ members_named f.name vs → IfErr r (IsFault f.data_type ws) → IfErr r (IsMemberFault f vs)
+member_fault f vs ws r e = subst (λ l. IfErr r (IsFault f.data_type l)) e
 
 -- the column of one field more
 pub one_column : (fs : List Field) (vs : List Json) (i : ℕ) (f : Field) (old new : List Array) (a : Array) → i < length fs → f ≡ get_or fs i f → AreMemberColumns (take i fs) vs old

@@ -1,5 +1,6 @@
 pub mod Anywhere
 pub mod ByFields
+pub mod Counting
 pub mod DictionaryColumns
 pub mod FieldColumns
 pub mod FirstValues

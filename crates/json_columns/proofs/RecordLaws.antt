@@ -1,5 +1,5 @@
 -- Rows, their columns, and what is refused.
-use Rattle.std.proofs.Common.{◌≡◌, inl, inr, ℕ, zero, suc, ◌<◌, Bool, true, false, ◌&&◌, not, cond, List, [], ◌∷◌, length, slice_index_or, Some, None, refl, sym, ap, ◌∙◌, subst, arith, Result, Ok, Err, IfOk, IfErr}
+use Rattle.std.proofs.Common.{◌≡◌, inl, inr, ℕ, zero, suc, ◌<◌, Bool, true, false, ◌&&◌, not, cond, List, [], ◌∷◌, length, slice_index_or, Some, None, refl, sym, ap, ◌∙◌, subst, arith, Result, Ok, Err, IfOk, IfErr, OnOk}
 use Rattle.std.proofs.lemmas.List.{length-map}
 use Rattle.arrow_array.specs.Arrays.{array_slots}
 use Rattle.arrow_array.specs.Chunks.{AreSameLength}
@@ -16,7 +16,7 @@ use Rattle.json_tree.specs.declared.value.Value.TheVariants as variant
 use Rattle.json_tree.specs.declared.value.Object.{Object}
 use Rattle.json_flat.specs.Meaning.{text_timestamp, slot_of}
 use Rattle.json_flat.specs.Columns.{Has, means}
-use Rattle.json_columns.specs.Faults.{AreMemberColumns, IsFieldsFault, IsStructFault}
+use Rattle.json_columns.specs.Faults.{AreMemberColumns, IsFieldsFault, IsStructFault, TooManyFields}
 use Rattle.json_columns.specs.Gathered.{all_have_reading, field_meanings, members_named, member_in}
 use Rattle.json_flat.specs.Reading.{has_reading, reading, struct_in}
 use Rattle.json_columns.specs.Records.{are_known, are_of_record, are_there, AreRecordFields, first_fault, holds_more, is_of_record, IsRecordsRefusal, IsRowsRefusal, IsTableOf, row_fault}
@@ -98,9 +98,9 @@ others fs vs e r (inr (inr h)) n = absurd (n h.0)
 -- ---- answers
 
 module _ (json : Json) (rows : List Json) (fs : List Field) (distinct_of : AreRecordFields fs) (e : json ≡ variant.Array rows) where
-  pub table : (r : Result (List Array) Error) → IfOk r (λ _. first_fault fs rows ≡ None) → IfOk r (AreMemberColumns fs rows) → IfOk r (IsTableOf json fs)
-  table (Ok a) f h = (distinct_of, (rows, e, f, h))
-  table (Err x) f h = tt
+  pub table : (r : Result (List Array) Error) → IfOk r (λ _. first_fault fs rows ≡ None) → IfOk r (AreMemberColumns fs rows) → OnOk r (TooManyFields fs rows → ⊥) → IfOk r (IsTableOf json fs)
+  table (Ok a) f h n = (distinct_of, (rows, e, f, h, n))
+  table (Err x) f h n = tt
 
   pub rows_refusal : (r : Result (List Array) Error) → IfErr r (IsRowsRefusal fs rows) → IfErr r (IsRecordsRefusal json fs)
   rows_refusal (Ok a) h = tt

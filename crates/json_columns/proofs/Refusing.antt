@@ -13,7 +13,7 @@ use Rattle.json_tree.specs.Tree.{Json, array}
 use Rattle.json_tree.specs.declared.value.Value.TheVariants as variant
 use Rattle.json_flat.specs.Meaning.{Meaning, Layer, slot_of, text_timestamp, unfit}
 use Rattle.json_flat.specs.Columns.{AreSlotsOf, Has, HasNoSlot, IsNoSlot, means}
-use Rattle.json_columns.specs.Faults.{IsFault}
+use Rattle.json_columns.specs.Faults.{IsFault, TooMany}
 use Rattle.json_columns.specs.Names.{names_twice}
 use Rattle.json_flat.specs.Reading.{has_reading, reading}
 use Rattle.json_columns.specs.Refusals.{IsColumnOf, IsListRefusal, IsRefusal}
@@ -47,12 +47,14 @@ others t vs e d r (inr (inr h)) n = absurd (n h.0)
 -- ---- lists
 
 module _ (items : List Json) (t : DataType) (f : Field) (r : Result Array Error) (k : (t ≡ types.List f) ⊎ (t ≡ types.LargeList f)) where
-  pub listed_column : OnOk r (names_twice f.data_type ≡ false) → OnOk r (has_reading f.data_type ≡ true) → IfOk r (λ a. array_type a ≡ f.data_type) → IfOk r (λ a. AreSlotsOf (reading f.data_type) items (array_slots a)) → IfOk r (λ a. IsColumnOf (array items) t (array_type a) (array_slots a))
-  listed_column d o h s = all r d o h s
+  pub listed_column : OnOk r (names_twice f.data_type ≡ false) → OnOk r (has_reading f.data_type ≡ true) → IfOk r (λ a. array_type a ≡ f.data_type) → IfOk r (λ a. AreSlotsOf (reading f.data_type) items (array_slots a)) → OnOk r (TooMany f.data_type items → ⊥)
+      → IfOk r (λ a. IsColumnOf (array items) t (array_type a) (array_slots a))
+  listed_column d o h s m = all r d o h s m
     where
-      all : (r : Result Array Error) → OnOk r (names_twice f.data_type ≡ false) → OnOk r (has_reading f.data_type ≡ true) → IfOk r (λ a. array_type a ≡ f.data_type) → IfOk r (λ a. AreSlotsOf (reading f.data_type) items (array_slots a)) → IfOk r (λ a. IsColumnOf (array items) t (array_type a) (array_slots a))
-      all (Ok a) d o h s = (items, f, (refl, k), d, o, h, s)
-      all (Err e) d o h s = tt
+      all : (r : Result Array Error) → OnOk r (names_twice f.data_type ≡ false) → OnOk r (has_reading f.data_type ≡ true) → IfOk r (λ a. array_type a ≡ f.data_type) → IfOk r (λ a. AreSlotsOf (reading f.data_type) items (array_slots a)) → OnOk r (TooMany f.data_type items → ⊥)
+          → IfOk r (λ a. IsColumnOf (array items) t (array_type a) (array_slots a))
+      all (Ok a) d o h s m = (items, f, (refl, k), d, o, h, s, m)
+      all (Err e) d o h s m = tt
 
   pub listed_refusal : IfErr r (IsRefusal f.data_type items) → IfErr r (IsListRefusal (array items) t)
   listed_refusal h = IfErr-weaker r (IsRefusal f.data_type items) (IsListRefusal (array items) t) (λ e p. inr (items, f, (refl, k), p)) h

@@ -75,11 +75,11 @@ first_fault fields (row ∷ rows) = or_else (row_fault fields (out-Value row)) (
 abbrev pub AreRecordFields : List Field → Type 0
 AreRecordFields fields = (struct_names_twice fields ≡ false) × (are_of_record fields ≡ true)
 
--- The chunk of an array of records: each row is an object of exactly the fields' names, and there is a column for each field, of its type, with
--- the slot for each row that the row's member of the field's name means.
+-- The chunk of an array of records: each row is an object of exactly the fields' names, there is a column for each field, of its type, with
+-- the slot for each row that the row's member of the field's name means, and nothing in these columns is more than can be counted.
 abbrev pub IsTableOf : Json → List Field → List Array → Type 0
 IsTableOf json fields columns =
-    AreRecordFields fields × ((rows : List Json) × (json ≡ array rows) × (first_fault fields rows ≡ None) × AreMemberColumns fields rows columns)
+    AreRecordFields fields × ((rows : List Json) × (json ≡ array rows) × (first_fault fields rows ≡ None) × AreMemberColumns fields rows columns × (TooManyFields fields rows → ⊥))
 
 -- Why rows have no columns, the first that applies: a row is faulty; a text stands under a timestamp; a value doesn't fit its type, or there
 -- are more items or bytes than can be counted. Out of memory may come in place of any of these.

@@ -31,12 +31,12 @@ IsRefusal t values _ = ⊥
 abbrev pub IsListed : Json → DataType → List Json → Field → Type 0
 IsListed json t items item = (json ≡ array items) × ((t ≡ types.List item) ⊎ (t ≡ types.LargeList item))
 
--- the column of an array's items under the item type of lists, which has a reading and names no field twice
+-- the column of an array's items under the item type of lists, which has a reading and names no field twice; nothing in it is more than can be counted
 abbrev pub IsColumnOf : Json → DataType → DataType → List Slot → Type 0
 IsColumnOf json t column_type slots =
     (items : List Json) × (item : Field) × IsListed json t items item
     × (names_twice item.data_type ≡ false) × (has_reading item.data_type ≡ true)
-    × (column_type ≡ item.data_type) × AreSlotsOf (reading item.data_type) items slots
+    × (column_type ≡ item.data_type) × AreSlotsOf (reading item.data_type) items slots × (TooMany item.data_type items → ⊥)
 
 -- Why there is no such column: the value is no array or the type not List or LargeList; else why there is no column of the items.
 abbrev pub IsListRefusal : Json → DataType → Error → Type 0

@@ -1,5 +1,5 @@
 //! Columns of dictionaries.
-ghost use Rattle.std.specs.Prelude.{◌≡◌, true, IfOk, IfErr};
+ghost use Rattle.std.specs.Prelude.{◌≡◌, true, IfOk, IfErr, OnOk};
 ghost use Rattle.arrow_array.specs.Arrays.{array_slots, array_type};
 ghost use Rattle.arrow_array.specs.Dictionaries.{IsDictionaryOf, keys_slots, keys_type};
 ghost use Rattle.arrow_array.specs.Parts.{IsPlain, utf8_type};
@@ -32,6 +32,8 @@ fn encode_integers<T: WholeNumber + Ord>(
     ensures data_type { IfOk result (λ p. p.1.data_type ≡ data_type.now) }
     ensures slots { IfOk result (λ p. AreEncoded (whole_in T.low T.high) (lent values.now)
         (keys_slots p.0) p.1.slots) }
+    ensures counted { OnOk result
+        (AreTooMany (whole_in T.low T.high) key (λ _. ⊥) ⊥ (lent values.now) → ⊥) }
     ensures err { IfErr result (IsColumnFault (whole_in T.low T.high)
         (AreTooMany (whole_in T.low T.high) key (λ _. ⊥) ⊥ (lent values.now)) (lent values.now)) }
 {
@@ -50,6 +52,9 @@ fn encode_texts<O: Offset>(
     ensures data_type { IfOk result (λ p. p.1.data_type ≡ utf8_type O.IS_LARGE) }
     ensures slots { IfOk result
         (λ p. AreEncoded text_in (lent values.now) (keys_slots p.0) p.1.slots) }
+    ensures counted { OnOk result
+        (AreTooMany text_in key (HasTooLongStrings (greatest_offset O.IS_LARGE))
+        (IsTooLong (greatest_offset true) text_in (lent values.now)) (lent values.now) → ⊥) }
     ensures err { IfErr result (IsColumnFault text_in
         (AreTooMany text_in key (HasTooLongStrings (greatest_offset O.IS_LARGE))
         (IsTooLong (greatest_offset true) text_in (lent values.now)) (lent values.now))
@@ -65,6 +70,7 @@ fn encode_utf8(alloc: Global, key: IntegerType, values: &[&Value]) -> Result<(Ke
     ensures data_type { IfOk result (λ p. array_type p.1 ≡ Utf8Type) }
     ensures slots { IfOk result
         (λ p. AreEncoded text_in (lent values.now) (keys_slots p.0) (array_slots p.1)) }
+    ensures counted { OnOk result (TooManyDistinct key Utf8Type (lent values.now) → ⊥) }
     ensures err { IfErr result (IsColumnFault text_in
         (TooManyDistinct key Utf8Type (lent values.now)) (lent values.now)) }
 {
@@ -78,6 +84,7 @@ fn encode_large_utf8(alloc: Global, key: IntegerType, values: &[&Value]) -> Resu
     ensures data_type { IfOk result (λ p. array_type p.1 ≡ LargeUtf8Type) }
     ensures slots { IfOk result
         (λ p. AreEncoded text_in (lent values.now) (keys_slots p.0) (array_slots p.1)) }
+    ensures counted { OnOk result (TooManyDistinct key LargeUtf8Type (lent values.now) → ⊥) }
     ensures err { IfErr result (IsColumnFault text_in
         (TooManyDistinct key LargeUtf8Type (lent values.now)) (lent values.now)) }
 {
@@ -97,6 +104,7 @@ fn encode_values(
     ensures data_type { IfOk result (λ p. array_type p.1 ≡ value_type.now) }
     ensures slots { IfOk result (λ p. AreEncoded (reading value_type.now) (lent values.now)
         (keys_slots p.0) (array_slots p.1)) }
+    ensures counted { OnOk result (TooManyDistinct key value_type.now (lent values.now) → ⊥) }
     ensures err { IfErr result (IsColumnFault (reading value_type.now)
         (TooManyDistinct key value_type.now (lent values.now)) (lent values.now)) }
 {
@@ -138,6 +146,7 @@ pub(crate) fn read_dictionary(
     ensures slots { IfOk result
         (λ a. AreSlotsOf (reading value_type.now) (lent values.now) (array_slots a)) }
     ensures dictionaries { IfOk result HasFirstValues }
+    ensures counted { OnOk result (TooManyDistinct key value_type.now (lent values.now) → ⊥) }
     ensures err { IfErr result (IsColumnFault (reading value_type.now)
         (TooManyDistinct key value_type.now (lent values.now)) (lent values.now)) }
 {

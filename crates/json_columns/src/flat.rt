@@ -1,11 +1,11 @@
 //! Columns of types with no type beneath them.
-ghost use Rattle.std.specs.Prelude.{◌≡◌, [], true, IfOk, IfErr};
+ghost use Rattle.std.specs.Prelude.{◌≡◌, [], true, IfOk, IfErr, OnOk};
 ghost use Rattle.arrow_array.specs.Arrays.{array_slots, array_type, dictionaries_of};
 ghost use Rattle.arrow_array.specs.Parts.{IsPlain};
 ghost use Rattle.arrow_types.specs.declared.physical.PrimitiveType.TheVariants.{Int32 as Int32Layout, Int64 as Int64Layout};
 ghost use Rattle.json_flat.specs.Columns.{AreSlotsOf, IsColumnFault, lent};
 ghost use Rattle.json_flat.specs.Meaning.{int64_in};
-ghost use Rattle.json_columns.specs.Faults.{IsFault};
+ghost use Rattle.json_columns.specs.Faults.{IsFault, TooMany};
 ghost use Rattle.json_columns.specs.Gathered.{HasNoFields};
 ghost use Rattle.json_flat.specs.Reading.{has_reading, int32_in, reading};
 
@@ -25,6 +25,7 @@ fn read_int32(alloc: Global, data_type: &DataType, values: &[&Value]) -> Result<
     ensures slots { IfOk result
         (λ a. AreSlotsOf int32_in (lent values.now) (array_slots a)) }
     ensures dictionaries { IfOk result (λ a. dictionaries_of a ≡ []) }
+    ensures counted { OnOk result (TooMany data_type.now (lent values.now) → ⊥) }
     ensures err { IfErr result (IsColumnFault int32_in ⊥ (lent values.now)) }
 {
     Ok(Array::Int32(read_integers(alloc, values, data_type)?))
@@ -37,6 +38,7 @@ fn read_int64(alloc: Global, data_type: &DataType, values: &[&Value]) -> Result<
     ensures slots { IfOk result
         (λ a. AreSlotsOf int64_in (lent values.now) (array_slots a)) }
     ensures dictionaries { IfOk result (λ a. dictionaries_of a ≡ []) }
+    ensures counted { OnOk result (TooMany data_type.now (lent values.now) → ⊥) }
     ensures err { IfErr result (IsColumnFault int64_in ⊥ (lent values.now)) }
 {
     Ok(Array::Int64(read_integers(alloc, values, data_type)?))
@@ -50,6 +52,7 @@ pub(crate) fn read_flat(alloc: Global, data_type: &DataType, values: &[&Value]) 
     ensures slots { IfOk result
         (λ a. AreSlotsOf (reading data_type.now) (lent values.now) (array_slots a)) }
     ensures dictionaries { IfOk result (λ a. dictionaries_of a ≡ []) }
+    ensures counted { OnOk result (TooMany data_type.now (lent values.now) → ⊥) }
     ensures err { IfErr result (IsFault data_type.now (lent values.now)) }
 {
     match data_type {

@@ -1,5 +1,5 @@
 //! Gathers the values beneath several values, and what they say of the slots above.
-ghost use Rattle.std.specs.Prelude.{◌≡◌, ◌++◌, ◌∷◌, [], ◌+◌, length, true, false, IfOk, IfErr, OnOk, MatchOption};
+ghost use Rattle.std.specs.Prelude.{◌≡◌, ◌≤◌, ◌++◌, ◌∷◌, [], ◌+◌, length, true, false, IfOk, IfErr, OnOk, MatchOption};
 ghost use Rattle.arrow_core.specs.Errors.{OnlyOutOfMemory};
 ghost use Rattle.arrow_flat.specs.Nested.{items_of};
 ghost use Rattle.arrow_types.specs.Numbers.{greatest_offset};
@@ -27,18 +27,21 @@ pub(crate) fn lend_all<'a>(lent_values: &mut Vec<&'a Value>, more: &'a [Value]) 
     Ok(())
 }
 
-/// Appends the items of an array, as one more list; any other value is a null.
+/// Appends the items of an array, as one more list; any other value is a null. `Overflow` exactly
+/// where there are then more items than the greatest offset.
 fn push_list<'a, O: Offset>(
     lists: &mut MutableLists<O>,
     items: &mut Vec<&'a Value>,
     value: &'a Value,
 ) -> Result<()>
     requires ends { items_of lists.old.lens ≡ length items.old.items }
+    requires counted { length items.old.items ≤ greatest_offset O.IS_LARGE }
     ensures data_type { lists.new.data_type ≡ lists.old.data_type }
     ensures lens { OnOk result
         (lists.new.lens ≡ lists.old.lens ++ len_in (out-Value value.now) ∷ []) }
     ensures items { OnOk result
         (lent items.new.items ≡ lent items.old.items ++ items_in (out-Value value.now)) }
+    ensures counted { OnOk result (length items.new.items ≤ greatest_offset O.IS_LARGE) }
     ensures err { IfErr result (IsCountFault (greatest_offset O.IS_LARGE)
         (length items.old.items + length (items_in (out-Value value.now)))) }
 {
@@ -52,8 +55,8 @@ fn push_list<'a, O: Offset>(
 }
 
 /// Appends the items of each array, and each value as a list: the items of an array, and any other
-/// value as a null. `Overflow` where there are more items than the greatest offset.
-pub(crate) fn fill_lists<'a, O: Offset>(
+/// value as a null. `Overflow` exactly where there are more items than the greatest offset.
+fn fill_lists<'a, O: Offset>(
     lists: &mut MutableLists<O>,
     items: &mut Vec<&'a Value>,
     values: &[&'a Value],
@@ -63,6 +66,8 @@ pub(crate) fn fill_lists<'a, O: Offset>(
     ensures data_type { lists.new.data_type ≡ lists.old.data_type }
     ensures lens { OnOk result (lists.new.lens ≡ list_lens (lent values.now)) }
     ensures items { OnOk result (lent items.new.items ≡ all_items (lent values.now)) }
+    ensures counted { OnOk result
+        (length (all_items (lent values.now)) ≤ greatest_offset O.IS_LARGE) }
     ensures err { IfErr result (IsCountFault (greatest_offset O.IS_LARGE)
         (length (all_items (lent values.now)))) }
 {
@@ -70,6 +75,28 @@ pub(crate) fn fill_lists<'a, O: Offset>(
         push_list(lists, items, value)?;
     }
     Ok(())
+}
+
+/// The items of each array, one after another. Each value is appended to `lists`: an array as the
+/// list of its items, and any other value as a null. `Overflow` exactly where there are more items
+/// than the greatest offset.
+pub(crate) fn list_items<'a, O: Offset>(
+    alloc: Global,
+    lists: &mut MutableLists<O>,
+    values: &[&'a Value],
+) -> Result<Vec<&'a Value>>
+    requires no_list { lists.old.lens ≡ [] }
+    ensures data_type { lists.new.data_type ≡ lists.old.data_type }
+    ensures lens { OnOk result (lists.new.lens ≡ list_lens (lent values.now)) }
+    ensures items { IfOk result (λ items. lent items.items ≡ all_items (lent values.now)) }
+    ensures counted { OnOk result
+        (length (all_items (lent values.now)) ≤ greatest_offset O.IS_LARGE) }
+    ensures err { IfErr result (IsCountFault (greatest_offset O.IS_LARGE)
+        (length (all_items (lent values.now)))) }
+{
+    let mut items = Vec::new(alloc);
+    fill_lists(lists, &mut items, values)?;
+    Ok(items)
 }
 
 /// Appends so many references to `null`.
@@ -138,7 +165,7 @@ fn push_sized<'a>(
 
 /// Appends the items of each array of so many, and each value as a list: such an array's items, and
 /// any other value as a null, with as many null items.
-pub(crate) fn fill_sized<'a>(
+fn fill_sized<'a>(
     marks: &mut MutableMarks,
     items: &mut Vec<&'a Value>,
     size: usize,
@@ -157,6 +184,27 @@ pub(crate) fn fill_sized<'a>(
         push_sized(marks, items, size, value, null)?;
     }
     Ok(())
+}
+
+/// The items of each array of so many, and as many nulls for any other value, one after another.
+/// Each value is appended to `marks`: such an array as a list, and any other value as a null.
+pub(crate) fn sized_list_items<'a>(
+    alloc: Global,
+    marks: &mut MutableMarks,
+    size: usize,
+    values: &[&'a Value],
+    null: &'a Value,
+) -> Result<Vec<&'a Value>>
+    requires null { null.now ≡ null_value }
+    requires no_list { marks.old.booleans ≡ [] }
+    ensures data_type { marks.new.data_type ≡ marks.old.data_type }
+    ensures booleans { OnOk result (marks.new.booleans ≡ are_sized size (lent values.now)) }
+    ensures items { IfOk result (λ items. lent items.items ≡ all_sized size (lent values.now)) }
+    ensures memory { OnlyOutOfMemory result }
+{
+    let mut items = Vec::new(alloc);
+    fill_sized(marks, &mut items, size, values, null)?;
+    Ok(items)
 }
 
 /// The member of this name, or `null` where there is none. It is looked for first at the index

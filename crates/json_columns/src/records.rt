@@ -2,7 +2,7 @@
 ghost use Rattle.std.specs.Prelude.{◌≡◌, true, false, IfOk, IfErr, OnOk};
 ghost use Rattle.arrow_core.specs.declared.error.Error.TheVariants.{Overflow};
 ghost use Rattle.json_tree.specs.declared.value.Value.{out-Value};
-ghost use Rattle.json_columns.specs.Faults.{AreMemberColumns, IsStructFault};
+ghost use Rattle.json_columns.specs.Faults.{AreMemberColumns, IsStructFault, TooManyFields};
 ghost use Rattle.json_columns.specs.Gathered.{all_have_reading};
 ghost use Rattle.json_columns.specs.Names.{struct_names_twice as struct_names_twice_of};
 ghost use Rattle.json_columns.specs.Records.{are_known, are_of_record as are_of_record_of, are_there, first_fault as first_fault_of, holds_more as holds_more_of, is_of_record as is_of_record_of, IsFieldsRefusal, IsRecordsRefusal, IsRowsRefusal, IsTableOf, row_fault as row_fault_of};
@@ -123,6 +123,7 @@ fn first_fault(fields: &[Field], rows: &[Value]) -> Option<Reason>
 fn read_columns(alloc: Global, fields: &[Field], rows: &[Value]) -> Result<Chunk>
     requires readable { all_have_reading fields.now ≡ true }
     ensures columns { IfOk result (AreMemberColumns fields.now rows.now) }
+    ensures counted { OnOk result (TooManyFields fields.now rows.now → ⊥) }
     ensures err { IfErr result (IsStructFault fields.now rows.now) }
 {
     let null = Value::Null;
@@ -162,6 +163,7 @@ fn read_rows(alloc: Global, fields: &[Field], rows: &[Value]) -> Result<Chunk>
     requires readable { are_of_record_of fields.now ≡ true }
     ensures rows { IfOk result (λ _. first_fault_of fields.now rows.now ≡ None) }
     ensures columns { IfOk result (AreMemberColumns fields.now rows.now) }
+    ensures counted { OnOk result (TooManyFields fields.now rows.now → ⊥) }
     ensures err { IfErr result (IsRowsRefusal fields.now rows.now) }
 {
     if let Some(fault) = first_fault(fields, rows) {

@@ -7,7 +7,7 @@ ghost use Rattle.json_columns.specs.Names.{names_twice as names_twice_of};
 ghost use Rattle.json_flat.specs.Reading.{has_reading, reading};
 ghost use Rattle.json_columns.specs.Refusals.{IsColumnOf, IsListRefusal, IsRefusal, IsTypeRefusal};
 ghost use Rattle.arrow_core.specs.declared.error.Error.TheVariants.{Overflow};
-ghost use Rattle.json_columns.specs.Faults.{IsFault};
+ghost use Rattle.json_columns.specs.Faults.{IsFault, TooMany};
 ghost use Rattle.json_tree.specs.Tree.{array};
 
 use crate::column::read_column;
@@ -43,6 +43,7 @@ fn read_all(alloc: Global, values: &[Value], data_type: &DataType) -> Result<Arr
     ensures slots { IfOk result
         (λ a. AreSlotsOf (reading data_type.now) values.now (array_slots a)) }
     ensures dictionaries { IfOk result HasFirstValues }
+    ensures counted { OnOk result (TooMany data_type.now values.now → ⊥) }
     ensures err { IfErr result (IsFault data_type.now values.now) }
 {
     let null = Value::Null;
@@ -55,13 +56,13 @@ fn read_all(alloc: Global, values: &[Value], data_type: &DataType) -> Result<Arr
 /// `docs/FORMATS.md` has them. The values of each dictionary, at every depth, are its distinct slots
 /// but null, in order of first appearance.
 ///
-/// The first of these that applies: `InvalidArgumentError(DuplicateName)` where a Struct at any
-/// depth names a field twice, `NotYetImplemented(NoJsonReading)` where a type has no reading,
-/// `NotYetImplemented(TextTimestamp)` where a string stands under a timestamp, and `Overflow` where
-/// a number doesn't fit its type, the items of lists or the bytes of strings or of binary values are
-/// more together than the greatest offset, 2^31 - 1 or 2^63 - 1, or the distinct slots of a
-/// dictionary are more than its keys have numbers from 0 on; of the strings of a dictionary each
-/// distinct one counts once. `OutOfMemory` may come in place of any answer.
+/// The first of these that applies, each exactly there: `InvalidArgumentError(DuplicateName)` where a
+/// Struct at any depth names a field twice, `NotYetImplemented(NoJsonReading)` where a type has no
+/// reading, `NotYetImplemented(TextTimestamp)` where a string stands under a timestamp, and
+/// `Overflow` where a number doesn't fit its type, the items of lists or the bytes of strings or of
+/// binary values are more together than the greatest offset, 2^31 - 1 or 2^63 - 1, or the distinct
+/// slots of a dictionary are more than its keys have numbers from 0 on; of the strings of a
+/// dictionary each distinct one counts once. `OutOfMemory` may come in place of any answer.
 pub fn read_values(alloc: Global, values: &[Value], data_type: &DataType) -> Result<Array>
     ensures data_type { IfOk result (λ a. array_type a ≡ data_type.now) }
     ensures slots { IfOk result
@@ -69,6 +70,7 @@ pub fn read_values(alloc: Global, values: &[Value], data_type: &DataType) -> Res
     ensures dictionaries { IfOk result HasFirstValues }
     ensures distinct { OnOk result (names_twice_of data_type.now ≡ false) }
     ensures readable { OnOk result (has_reading data_type.now ≡ true) }
+    ensures counted { OnOk result (TooMany data_type.now values.now → ⊥) }
     ensures err { IfErr result (IsRefusal data_type.now values.now) }
 {
     check_type(data_type)?;

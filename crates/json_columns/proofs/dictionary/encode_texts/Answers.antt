@@ -5,6 +5,7 @@ use Rattle.arrow_types.specs.Numbers.{greatest_offset}
 use Rattle.arrow_dictionaries.specs.Encoding.{HasTooLongStrings}
 use Rattle.json_flat.specs.Columns.{IsTooLong, lent}
 use Rattle.json_flat.specs.Meaning.{text_in}
+use Rattle.json_columns.proofs.Counting.{few_encoded}
 use Rattle.json_columns.proofs.DictionaryColumns.{encoded, long_fault, read_fault}
 use Rattle.json_columns.proofs.dictionary.encode_texts.Goals as goal
 
@@ -16,6 +17,11 @@ returns-in_err-array-clause-err g c =
 pub returns-clause-slots : goal.returns-clause-slots
 returns-clause-slots g c =
     encoded text_in (lent c.args.values.now) c.in_ok-array.array.slots (λ p. (keys_slots p.0, p.1.slots)) c.encode_strings.result c.in_ok-array.ensures.slots c.encode_strings.ensures.slots
+
+pub returns-clause-counted : goal.returns-clause-counted
+returns-clause-counted g c =
+    few_encoded text_in c.args.key (HasTooLongStrings (greatest_offset g.O.Offset.IS_LARGE)) (IsTooLong (greatest_offset true) text_in (lent c.args.values.now)) (lent c.args.values.now) c.in_ok-array.array.slots c.encode_strings.result c.in_ok-array.ensures.slots c.encode_strings.ensures.few
+    c.encode_strings.ensures.counted c.in_ok-array.ensures.counted
 
 pub returns-clause-err : goal.returns-clause-err
 returns-clause-err g c =

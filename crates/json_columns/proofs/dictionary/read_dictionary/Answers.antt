@@ -1,6 +1,7 @@
 use Rattle.std.proofs.Common.{◌∙◌}
 use Rattle.json_columns.specs.Dictionaries.{TooManyDistinct}
 use Rattle.json_flat.specs.Reading.{reading}
+use Rattle.json_columns.proofs.Counting.{always}
 use Rattle.json_columns.proofs.DictionaryColumns as columns
 use Rattle.json_columns.proofs.ListColumns.{memory_fault}
 use Rattle.json_flat.specs.Columns.{lent}
@@ -20,6 +21,9 @@ pub returns-clause-dictionaries : goal.returns-clause-dictionaries
 returns-clause-dictionaries c =
     let d = c.in_ok-keys in
     columns.first_values c.args.key c.args.value_type.now c.args.data_type.now (lent c.args.values.now) d.keys d.items d.ensures.key d.ensures.data_type d.ensures.slots c.dictionary_array.result c.dictionary_array.ensures.dictionaries
+
+pub returns-clause-counted : goal.returns-clause-counted
+returns-clause-counted c = always c.dictionary_array.result (TooManyDistinct c.args.key c.args.value_type.now (lent c.args.values.now) → ⊥) c.in_ok-keys.ensures.counted
 
 pub returns-clause-err : goal.returns-clause-err
 returns-clause-err c =
