@@ -14,7 +14,7 @@ use std::alloc::Global;
 /// The first and the third column of a block of rows of three fields; the second field is skipped.
 ///
 /// The errors are those of `infer_schema` and of `deserialize`, `InvalidArgumentError(Lengths)`
-/// where the record hasn't three fields.
+/// where the record hasn't three fields; no clause says so.
 pub fn first_and_third(alloc: Global, root: &Record, block: &Block) -> Result<Chunk>
     ensures columns { IfOk result (λ chunk. AreColumns block.now.number_of_rows
         (out-Record root.now).fields (true ∷ false ∷ true ∷ []) block.now.bytes

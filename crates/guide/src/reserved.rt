@@ -42,7 +42,8 @@ pub fn reserve(builders: &mut [MutableArray], bytes: usize) -> Result<()>
 /// Decodes one block after another into the builders, and answers how many rows they have. With
 /// capacity for the longest block there is no `OutOfMemory`.
 ///
-/// The errors are those of `deserialize_into`, and `Overflow` where the rows can't be counted.
+/// The errors are those of `deserialize_into`, and `Overflow` where the rows can't be counted; no
+/// clause says so.
 pub fn count_rows(
     blocks: &[Block],
     fields: &[Field],

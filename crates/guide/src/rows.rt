@@ -13,7 +13,7 @@ use std::alloc::Global;
 
 /// Writes the rows of a chunk as one JSON array of objects, whose names are those of the fields.
 ///
-/// The errors are those of `RecordSerializer::new` and of `write`.
+/// The errors are those of `RecordSerializer::new` and of `write`; no clause says so.
 pub fn write_rows<K: Sink>(alloc: Global, sink: &mut K, schema: Schema, chunk: &Chunk) -> Result<()>
     ensures written { OnOk result (Appends (K.held sink.old) (K.held sink.new)
         (array (objects (names_of schema.fields) chunk.now))) }
