@@ -17,19 +17,19 @@ use Rattle.avro_container.proofs.OneFile.{one_file, canonical_is_file}
 use Rattle.avro_text.specs.Writing.{schema_text_of}
 use Rattle.avro_file.specs.File.{StandsFor, canonical_file}
 use Rattle.avro_file.proofs.Roots.{one_root}
-use Rattle.avro_decode.specs.Decoder.{Projected, projected}
+use Rattle.avro_decode.specs.Decoder.{Projected, projected, HasTable}
 use Rattle.avro_record.specs.Named.{named_root}
 use Rattle.avro_record.specs.Schemas.{record_of}
 use Rattle.avro_write.specs.Laws.{all_kept, plain_table}
 use Rattle.avro_write.proofs.TableLaw.{table_tells}
-use Rattle.avro_canonical.specs.Canonical.{HasEncodings, HasTable}
+use Rattle.avro_canonical.specs.Canonical.{HasEncodings}
 use Rattle.avro_canonical.specs.Rewritten.{HasCanonicalForm, table_blocks}
 use Rattle.arrow_convert.specs.Laws.{CanBeStated, OneCanonicalForm, FilesTellRows, with_rows}
 
 -- ---- one canonical form
 
 -- blocks have one list of tables
-tables_are_one : (p : Projected) (blocks : List FileBlock) (ts us : List (List (List Slot))) → AllZip (HasTable p) blocks ts → AllZip (HasTable p) blocks us → ts ≡ us
+tables_are_one : (p : Projected) (blocks : List FileBlock) (ts us : List (List (List Slot))) → AllZip (λ (b : FileBlock). HasTable p b.rows b.bytes) blocks ts → AllZip (λ (b : FileBlock). HasTable p b.rows b.bytes) blocks us → ts ≡ us
 tables_are_one p [] [] [] h k = refl
 tables_are_one p [] [] (u ∷ us) h k = absurd k
 tables_are_one p [] (t ∷ ts) us h k = absurd h
@@ -55,8 +55,8 @@ are_one bytes h k =
     let same = one_file StandsFor one_root bytes h.root k.root h.source_marker k.source_marker h.blocks k.blocks h.is_file k.is_file in
     let inferred : inferred_columns (out-Record k.root).fields ≡ Some h.columns = subst (λ (r : Record). inferred_columns (out-Record r).fields ≡ Some h.columns) same.0 h.can.inferred in
     let columns : h.columns ≡ k.columns = same_Some h.columns k.columns (sym inferred ∙ k.can.inferred) in
-    let rows : AllZip (HasTable (decoder_of k.root k.columns)) k.blocks h.tables =
-    subst (λ (x : Record × List Field × List FileBlock). AllZip (HasTable (decoder_of x.0 x.1)) x.2 h.tables) (λ i. (same.0 i, columns i, same.2 i)) h.rows in
+    let rows : AllZip (λ (b : FileBlock). HasTable (decoder_of k.root k.columns) b.rows b.bytes) k.blocks h.tables =
+    subst (λ (x : Record × List Field × List FileBlock). AllZip (λ (b : FileBlock). HasTable (decoder_of x.0 x.1) b.rows b.bytes) x.2 h.tables) (λ i. (same.0 i, columns i, same.2 i)) h.rows in
     record {
       blocks = same.2;
       nameless = same_Some h.nameless k.nameless (sym h.can.recorded ∙ ap (record_of true) columns ∙ k.can.recorded);

@@ -19,13 +19,13 @@ use Rattle.avro_grammar.proofs.Basics.{bind_some}
 use Rattle.avro_grammar.proofs.RowLaws.{rows_have}
 use Rattle.avro_container.specs.File.{FileBlock, the_block}
 use Rattle.avro_file.specs.File.{AvroFile, canonical_file}
-use Rattle.avro_decode.specs.Decoder.{Projected, projected}
+use Rattle.avro_decode.specs.Decoder.{Projected, projected, HasTable}
 use Rattle.avro_record.specs.Back.{small_field}
 use Rattle.avro_record.specs.Listed.{can_serialize_all}
 use Rattle.avro_record.specs.Schemas.{can_serialize, column_schema, columns_fields, optional, plain_field, plain_record, schema_of, structs_in}
 use Rattle.avro_write.specs.Laws.{all_kept, plain_table}
 use Rattle.avro_write.proofs.TableLaw.{table_encodes}
-use Rattle.avro_canonical.specs.Canonical.{CanBeRewritten, HasEncodings, HasTable}
+use Rattle.avro_canonical.specs.Canonical.{CanBeRewritten, HasEncodings}
 use Rattle.avro_canonical.specs.Rewritten.{HasCanonicalForm, RewritesFile, table_blocks}
 use Rattle.avro_canonical.proofs.Again.{decoded_is_serializable}
 use Rattle.avro_canonical.proofs.Complete.{files_are_rewritten}
@@ -67,7 +67,7 @@ nothing_more : (n : ℕ) → 0 + n ≡ n
 nothing_more n = omega arith
 
 -- a file has as many rows as its canonical form
-count_rows : (p : Projected) (fields : List AvroField) (blocks : List FileBlock) (tables : List (List (List Slot))) → AllZip (HasTable p) blocks tables
+count_rows : (p : Projected) (fields : List AvroField) (blocks : List FileBlock) (tables : List (List (List Slot))) → AllZip (λ (b : FileBlock). HasTable p b.rows b.bytes) blocks tables
     → sum_by (λ (b : FileBlock). b.rows) blocks ≡ sum_by (λ (b : FileBlock). b.rows) (table_blocks fields tables)
 count_rows p fields [] [] h = refl
 count_rows p fields [] (t ∷ tables) h = absurd h
@@ -134,7 +134,7 @@ module _ (name marker bytes : List ℕ) (count : ℕ) (f : IsRewrittenFile name 
     recorded = record_same true r.form.columns ∙ source_can.recorded;
   }
 
-  have_tables : (tables : List (List (List Slot))) → AllByRecursion (HasEncodings gs) tables → AreShort (table_blocks gs tables) → AllZip (HasTable p) (table_blocks gs tables) (with_rows tables)
+  have_tables : (tables : List (List (List Slot))) → AllByRecursion (HasEncodings gs) tables → AreShort (table_blocks gs tables) → AllZip (λ (b : FileBlock). HasTable p b.rows b.bytes) (table_blocks gs tables) (with_rows tables)
   have_tables [] h short = tt
   have_tables ([] ∷ tables) h short = have_tables tables h.1 short
   have_tables ((row ∷ table) ∷ tables) h short = (

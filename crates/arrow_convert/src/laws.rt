@@ -1,4 +1,5 @@
 //! Laws of two calls: of files that were rewritten, and of files that were written and are read again.
+//! The functions do nothing: the contract of each is a law.
 ghost use Rattle.arrow_convert.specs.Laws.{FilesTellRows, OneCanonicalForm, OneErrorComes};
 ghost use Rattle.arrow_convert.specs.ReadAgain.{LinesAreFile, LinesComeBack, LinesDoNotFail, RecordsAreWritable, RewrittenDoesNotFail, RewrittenIsFile, RewrittenIsSame, RewrittenIsWritable};
 
@@ -6,8 +7,6 @@ ghost use Rattle.arrow_convert.specs.ReadAgain.{LinesAreFile, LinesComeBack, Lin
 /// marker. Under one record and one marker two canonical files are equal exactly where their rows
 /// are, block by block, blocks without rows left out; the length of the record's text, and counts
 /// and lengths of blocks, are below 2^63.
-///
-/// The function does nothing: its contract is the law.
 pub fn canonical_forms()
     ensures one { OneCanonicalForm }
     ensures rows { FilesTellRows }
@@ -21,8 +20,6 @@ pub fn canonical_forms()
 /// It does so, or answers `OutOfMemory`, or `WriteFault` where its sink failed, where each type has a
 /// JSON text, each date and timestamp is in a year from 0 to 9999, the file has no more bytes than the
 /// limit and each block at most 2147483647, and the source tells these bytes and doesn't fail.
-///
-/// The function does nothing: its contract is the law.
 pub fn lines_and_back()
     ensures file { LinesAreFile }
     ensures lines { LinesComeBack }
@@ -33,8 +30,6 @@ pub fn lines_and_back()
 /// What `avro_rewrite` wrote is an Avro file, where the record can be read back (`IsWritable`: its
 /// schema text is UTF-8, as it is where the names are, and nests at most 128 deep), the sync marker
 /// has sixteen bytes, and the file fewer than 2^63.
-///
-/// The function does nothing: its contract is the law.
 pub fn rewritten_file()
     ensures file { RewrittenIsFile }
     ensures writable { RewrittenIsWritable }
@@ -45,8 +40,6 @@ pub fn rewritten_file()
 ///
 /// It does so, or answers `OutOfMemory`, or `WriteFault` where its sink failed, where the file has no
 /// more bytes than the limit and the source tells them and doesn't fail.
-///
-/// The function does nothing: its contract is the law.
 pub fn rewritten_twice()
     ensures same { RewrittenIsSame }
     ensures no_error { RewrittenDoesNotFail }
@@ -55,8 +48,6 @@ pub fn rewritten_twice()
 /// Of any bytes `avro_rewrite` answers one error at most under one name, marker and limit, where the
 /// sources tell these bytes and don't fail: `OutOfMemory` may come instead, or `WriteFault` where the
 /// sink failed.
-///
-/// The function does nothing: its contract is the law.
 pub fn rewriting_error()
     ensures one_error { OneErrorComes }
 {}
