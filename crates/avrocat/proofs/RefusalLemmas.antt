@@ -47,8 +47,8 @@ module _ (block : BlockWords) (fields : List Field) (bytes : List ℕ)
   by_fields (NotYetImplemented reason.NoField) h = inr (none_left fields block.avro_fields each h.1)
   by_fields (NotYetImplemented reason.NotCarried) h = inr (omega (arith, h.1, each), h.2)
   by_fields (InvalidArgumentError reason.FieldType) h = absurd (h.1 fit)
-  by_fields (NotYetImplemented reason.Float) h = inr ((omega (arith, h.0.1, each), h.0.2), h.2)
-  by_fields Overflow h = inr ((omega (arith, h.0.1, each), h.0.2), h.2, h.3)
+  by_fields (NotYetImplemented reason.Float) h = inr (h.0.1, h.2)
+  by_fields Overflow h = inr (h.0.1, h.2, h.3)
   by_fields OutOfMemory h = inl refl
   by_fields _ h = absurd h
 

@@ -10,25 +10,23 @@ use Rattle.avro_grammar.specs.Carried.{CarriedList}
 use Rattle.avro_grammar.specs.NegativeSize.{NegativeSize as StatesNegativeSize}
 use Rattle.avro_grammar.specs.Rows.{Rows as AreRows}
 use Rattle.avro_grammar.specs.ValidBlock.{KeepNoFloat, KeptEnumsFit}
+use Rattle.avro_decode.specs.Refusals.{AreCarried}
 use Rattle.command_words.specs.declared.command.BlockWords.{BlockWords}
 use Rattle.avrocat.specs.Blocks.{IsValid, ShowsColumns}
 use Rattle.avro_blocks.specs.Changes.{Change, Failed}
 use Rattle.avrocat.specs.Input.{TakesAll, PassesLimit, Tells, TellsTooMany}
 
--- there is a field, and each schema is carried
-abbrev pub NamesCarriedFields : BlockWords → Type 0
-NamesCarriedFields block = (0 < length block.avro_fields) × CarriedList block.avro_fields
-
--- and the kept ones hold no float, and a dictionary can hold the symbols of each of their enums
+-- there is a field, all are carried, the kept ones hold no float, and a dictionary can hold the symbols of each of their
+-- enums
 abbrev pub CanBeRead : BlockWords → Type 0
-CanBeRead block = NamesCarriedFields block × KeepNoFloat block.avro_fields block.projection × KeptEnumsFit block.avro_fields block.projection
+CanBeRead block = AreCarried block.avro_fields × KeepNoFloat block.avro_fields block.projection × KeptEnumsFit block.avro_fields block.projection
 
 -- what is wrong with a block of these bytes; where nothing is, they are valid
 abbrev pub IsWrong : BlockWords → List ℕ → Error → Type 0
 IsWrong block bytes (NotYetImplemented NoField) = block.avro_fields ≡ []
 IsWrong block bytes (NotYetImplemented NotCarried) = (0 < length block.avro_fields) × (CarriedList block.avro_fields → ⊥)
-IsWrong block bytes (NotYetImplemented Float) = NamesCarriedFields block × (KeepNoFloat block.avro_fields block.projection → ⊥)
-IsWrong block bytes Overflow = NamesCarriedFields block × KeepNoFloat block.avro_fields block.projection × (KeptEnumsFit block.avro_fields block.projection → ⊥)
+IsWrong block bytes (NotYetImplemented Float) = AreCarried block.avro_fields × (KeepNoFloat block.avro_fields block.projection → ⊥)
+IsWrong block bytes Overflow = AreCarried block.avro_fields × KeepNoFloat block.avro_fields block.projection × (KeptEnumsFit block.avro_fields block.projection → ⊥)
 IsWrong block bytes (ExternalFormat Rows) = CanBeRead block × (length bytes < block.rows)
 IsWrong block bytes (ExternalFormat BlockBytes) =
     CanBeRead block × (block.rows ≤ length bytes) × ((table : List (List Slot)) → AreRows block.rows block.avro_fields block.projection bytes table → ⊥) × (StatesNegativeSize block.rows block.avro_fields block.projection bytes → ⊥)
