@@ -1,28 +1,43 @@
 #!/bin/sh
-# Refuses each allocation of two tests in turn, with the answers looked at.
+# Refuses each allocation of three tests in turn, with the answers looked at.
 #
 # Of a builder of lists `a_list_where_memory_may_be_refused` takes out of memory for an answer, and
-# looks at the builder afterwards; `a_list_where_memory_is_wanted` makes the same calls and doesn't.
-# So once the second passes, no allocation was left to refuse.
+# looks at the builder afterwards; `a_list_where_memory_is_wanted` makes the same calls and doesn't,
+# so it stops where an allocation of theirs is refused.
 #
 # `reserved_builders_take_rows_twice` ends with out of memory where it makes and reserves builders,
-# and where it makes arrays, but never where it reads rows. Once it passes, none was left to refuse.
+# and where it makes arrays, but never where it reads rows.
 #
-# Use: tools/refuse_allocations.sh, from anywhere. Its status is 0 where the answers were right.
+# A library that is loaded before the C library's refuses an allocation of the tests as they are
+# proved and built (`refuse.c`). Tests that aren't built yet are proved first, which takes long.
+#
+# Use: tools/refuse_allocations.sh, from anywhere; it needs a C compiler. Its status is 0 where the
+# answers were right.
 set -eu
-crates=$(cd "$(dirname "$0")/../crates" && pwd)
+tools=$(cd "$(dirname "$0")" && pwd)
+crates=$(cd "$tools/../crates" && pwd)
+room=$(mktemp -d)
+trap 'rm -rf "$room"' EXIT
+cc -O2 -shared -fPIC -o "$room/refuse.so" "$tools/refuse.c" -ldl
 
-# Runs the tests of a crate whose names hold a word, while the nth allocation is refused.
+# The tests of a crate as a program.
+program_of() {
+    [ -x "$crates/$1/out/$1_tests" ] || (cd "$crates/$1" && rt test) >&2
+    echo "$crates/$1/out/$1_tests"
+}
+
+# Runs a test while the nth allocation is refused. Its report stands in `report` then, and the number
+# of its allocations in `count`: 0 where it was stopped.
 try() {
-    report=$(cd "$crates/$1" && rt try --test --fail-alloc "$n" -- "$2" 2>&1) || true
-    case $report in
-    *"test result: "*) ;;
-    *)
-        printf '%s\n' "$report"
-        echo "$2 was not run"
-        exit 1
-        ;;
-    esac
+    rm -f "$room/count"
+    report=$(COUNT="$room/count" REFUSED=$n LD_PRELOAD="$room/refuse.so" "$program" "$1" 2>&1) || true
+    count=0
+    [ ! -f "$room/count" ] || count=$(cat "$room/count")
+}
+
+# Whether the test that was run last has passed.
+is_ok() {
+    case $report in *"test result: ok"*) true ;; *) false ;; esac
 }
 
 wrong() {
@@ -39,28 +54,28 @@ right() {
     echo "$1: each of $((n - 1)) allocations was refused, and each answer was right"
 }
 
+program=$(program_of builder_tests)
 n=1
 while :; do
-    try builder_tests a_list_where
-    case $report in
-    *"a_list_where_memory_may_be_refused ... ok"*) ;;
-    *) wrong ;;
-    esac
-    case $report in
-    *"a_list_where_memory_is_wanted ... ok"*) break ;;
-    esac
+    try memory::a_list_where_memory_is_wanted
+    if is_ok; then wanted=ok; else wanted=stopped; fi
+    try memory::a_list_where_memory_may_be_refused
+    is_ok || wrong
+    [ "$count" -ge "$n" ] || break
+    [ "$wanted" = stopped ] || wrong
     n=$((n + 1))
 done
 right "a builder of lists"
 
+program=$(program_of decode_tests)
 n=1
 while :; do
-    try decode_tests reserved_builders_take_rows_twice
-    case $report in
-    *"reserved_builders_take_rows_twice ... ok"*) break ;;
-    *"memory: OutOfMemory"*) ;;
-    *) wrong ;;
-    esac
+    try builders::reserved_builders_take_rows_twice
+    if is_ok; then
+        [ "$count" -ge "$n" ] || break
+    else
+        case $report in *"memory: OutOfMemory"*) ;; *) wrong ;; esac
+    fi
     n=$((n + 1))
 done
 right "builders that are reserved"
