@@ -92,7 +92,7 @@ column_made rows f g a b s c m = record {
   slots =
       subst (AreSlotsOf (reading f.data_type) (values_named rows f.name)) (sym m.slots)
       (subst (λ (n : List ℕ). AreSlotsOf (reading f.data_type) (values_named rows n) (array_slots a)) s.name
-      (subst (λ (r : Layer → Meaning). AreSlotsOf r (values_named rows g.name) (array_slots a)) s.meaning c.slots));
+      (subst (λ (r : Layer → Meaning). AreSlotsOf r (values_named rows g.name) (array_slots a)) s.data_type.meaning c.slots));
 }
 
 columns_made : (rows : List (List (List ℕ × Json))) (fs gs : List Field) (olds bs : List Array) → AreStoredFor fs gs → AllZip (IsColumnOf rows) gs olds → AreMadeOf fs olds bs → AllZip (IsColumnOf rows) fs bs

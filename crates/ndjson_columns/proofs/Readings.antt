@@ -31,7 +31,7 @@ module _ (t : DataType) where
   same_fields [] [] h ms = refl
   same_fields [] (g ∷ gs) h ms = absurd h
   same_fields (f ∷ fs) [] h ms = absurd h
-  same_fields (f ∷ fs) (g ∷ gs) h ms = λ i. means (h.0.meaning i) (or_null (value_of (h.0.name i) ms)) ∷ same_fields fs gs h.1 ms i
+  same_fields (f ∷ fs) (g ∷ gs) h ms = λ i. means (h.0.data_type.meaning i) (or_null (value_of (h.0.name i) ms)) ∷ same_fields fs gs h.1 ms i
 
   pub struct_meaning : (fs gs stored : List Field) → t ≡ types.Struct fs → gs ≡ fs → AreStoredFor gs stored → reading (types.Struct stored) ≡ reading t
   struct_meaning fs gs stored e s h =

@@ -29,7 +29,8 @@ use Rattle.json_columns.proofs.Rows.{structs_column}
 use Rattle.json_lend.specs.Fields.{value_named}
 use Rattle.json_line.specs.Lines.{values_named, AreColumnsOf, IsColumnOf}
 use Rattle.json_line.proofs.Shapes.{same_or_null}
-use Rattle.ndjson_columns.specs.LineColumns.{AreRowsOf}
+use Rattle.ndjson_columns.specs.LineColumns.{AreRowsOf, is_readable}
+use Rattle.ndjson_columns.proofs.StoredTypes.{readable_parts}
 
 -- ---- rows
 
@@ -98,22 +99,23 @@ first_of n [] (a ∷ columns) some h = absurd h
 first_of n (f ∷ fields) (a ∷ columns) some h = h.0.1
 
 -- the structs of columns that lines were read into
-pub rows_made : (t : DataType) (fields : List Field) (texts : List (List ℕ)) (columns : List Array) (a : Array) → t ≡ types.Struct fields → has_reading (types.Struct fields) ≡ true → names_twice (types.Struct fields) ≡ false → array_type a ≡ t
+pub rows_made : (t : DataType) (fields : List Field) (texts : List (List ℕ)) (columns : List Array) (a : Array) → t ≡ types.Struct fields → is_readable (types.Struct fields) ≡ true → array_type a ≡ t
     → AreColumnsOf fields texts columns → 0 < length columns → array_slots a ≡ slots_of (record_at (map array_slots columns)) None 0 (first_len columns) → AreRowsOf texts t (array_type a) (array_slots a)
-rows_made t fields texts columns a is readable distinct same c some slots =
+rows_made t fields texts columns a is readable same c some slots =
+    let r = readable_parts (types.Struct fields) readable in
     let rows = c.rows in
     let ms = member_columns rows fields columns c.members in
     let long : first_len columns ≡ length rows = first_of (length (objects_of rows)) fields columns some (children fields (objects_of rows) (length (objects_of rows)) columns refl ms) ∙ length_map object rows in
     let shown : array_slots a ≡ slots_where (are_objects (objects_of rows)) (record_at (map array_slots columns)) =
     slots ∙ (all_shown (record_at (map array_slots columns)) rows (first_len columns) long ∙ ap (λ (bs : List Bool). slots_where bs (record_at (map array_slots columns))) (sym (flags_of rows))) in
-    let r : Result Array Error = Ok a in
+    let made : Result Array Error = Ok a in
     record {
       rows = rows;
       objects = c.objects;
       column = record {
-        distinct = ap names_twice is ∙ distinct;
-        readable = ap has_reading is ∙ readable;
+        distinct = ap names_twice is ∙ r.1;
+        readable = ap has_reading is ∙ r.0;
         same_type = same;
-        meant = struct_ok t fields (objects_of rows) r is (structs_column fields (objects_of rows) columns (are_objects (objects_of rows)) r ms refl shown);
+        meant = struct_ok t fields (objects_of rows) made is (structs_column fields (objects_of rows) columns (are_objects (objects_of rows)) made ms refl shown);
       };
     }

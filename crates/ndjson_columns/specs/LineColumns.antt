@@ -1,5 +1,5 @@
 -- The columns that lines of JSON (RFC 8259) are read into, dictionaries among them.
-use Rattle.std.specs.Prelude.{◌≡◌, ◌∷◌, [], ℕ, List, map, true, false}
+use Rattle.std.specs.Prelude.{◌≡◌, ◌∷◌, ◌&&◌, not, [], ℕ, Bool, List, map, true}
 use Rattle.std.specs.List.{AllZip}
 use Rattle.arrow_array.specs.Arrays.{array_slots, array_type}
 use Rattle.arrow_array.specs.declared.array.Array.{Array}
@@ -11,8 +11,13 @@ use Rattle.arrow_types.specs.declared.types.Field.{Field}
 use Rattle.json_columns.specs.Names.{names_twice}
 use Rattle.json_flat.specs.Reading.{has_reading, reading}
 use Rattle.json_line.specs.Lines.{AreObjects}
+use Rattle.json_line.specs.Types.{has_line_reading}
 use Rattle.json_tree.specs.Tree.{Json, object}
 use Rattle.ndjson_columns.specs.Columns.{IsColumnOfValues}
+
+-- values are read under the type, and no Struct in it names a field twice
+abbrev pub is_readable : DataType → Bool
+is_readable t = has_reading t && not (names_twice t)
 
 -- the lines are objects, and this is the column of these under the type, which has a reading and names no field twice
 pub record AreRowsOf (lines : List (List ℕ)) (row_type column_type : DataType) (slots : List Slot) : Type 0 where
@@ -22,20 +27,24 @@ pub record AreRowsOf (lines : List (List ℕ)) (row_type column_type : DataType)
 
 -- ---- Contracts of private functions, and the model of `LineColumns`, alone cite what follows.
 
--- the field that a column is first read under: values mean under its type what they mean under the field's
+-- the type that a column is first read under: values mean there what they mean under the column's, and lines are read into it where that
+-- one is readable
+pub record IsStoredType (t stored : DataType) : Type 0 where
+  pub meaning : reading stored ≡ reading t
+  pub readable : is_readable t ≡ true → has_line_reading stored ≡ true
+
+-- the field that a column is first read under
 pub record IsStoredFor (field stored : Field) : Type 0 where
   pub name : stored.name ≡ field.name
-  pub meaning : reading stored.data_type ≡ reading field.data_type
+  pub data_type : IsStoredType field.data_type stored.data_type
 
 abbrev pub AreStoredFor : List Field → List Field → Type 0
 AreStoredFor fields stored = AllZip IsStoredFor fields stored
 
--- What is kept of the fields: those that their columns are first read under; and values are read under a Struct of the fields, which names
--- no field twice.
+-- what is kept of the fields: those that their columns are first read under; and a Struct of the fields is readable
 pub record AreKept (fields stored : List Field) : Type 0 where
   pub stored_for : AreStoredFor fields stored
-  pub readable : has_reading (types.Struct fields) ≡ true
-  pub distinct : names_twice (types.Struct fields) ≡ false
+  pub readable : is_readable (types.Struct fields) ≡ true
 
 -- A column of the type was made of another: it has the same slots, and the values of each dictionary, at every depth, are its distinct
 -- slots but null, in order of first appearance.

@@ -7,7 +7,7 @@ ghost use Rattle.arrow_types.specs.declared.types.DataType.{Struct};
 ghost use Rattle.ndjson_columns.specs.LineColumns.{AreRowsOf};
 ghost use Rattle.ndjson_columns.specs.Columns.{IsColumnOf, IsColumnOfAll, IsNoColumn, IsNoColumnOfAll, IsRefusalOf};
 
-use crate::line_columns::LineColumns;
+use crate::line_columns::{LineColumns, struct_fields};
 use crate::rows::{push_given, push_values};
 use arrow_array::Array;
 use arrow_core::{Error, Reason, Result, Text};
@@ -31,16 +31,6 @@ fn read_rows(
 {
     push_values(alloc, values, rows)?;
     read_values(alloc, values.as_slice(), data_type)
-}
-
-/// The fields of a Struct; `None` for any other type, and where there is no memory.
-fn fields_of(alloc: Global, data_type: &DataType) -> Option<Vec<Field>>
-    ensures { IfSome result (λ fields. data_type.now ≡ Struct fields.items) }
-{
-    match data_type.try_clone(alloc) {
-        Ok(DataType::Struct(fields)) => Some(fields.into_vec()),
-        _ => None,
-    }
 }
 
 /// The column of rows as structs of these fields, read without trees; `None` where `LineColumns` has
@@ -71,7 +61,10 @@ fn read_lines(alloc: Global, rows: &[Text], data_type: &DataType) -> Option<Arra
         (λ a. IsColumnOf rows.now data_type.now (array_type a) (array_slots a)) }
     ensures dictionaries { IfSome result HasFirstValues }
 {
-    match fields_of(alloc, data_type) {
+    let Ok(row_type) = data_type.try_clone(alloc) else {
+        return None;
+    };
+    match struct_fields(row_type) {
         Some(fields) => read_structs(alloc, rows, fields, data_type),
         None => None,
     }

@@ -1,13 +1,12 @@
 //! Builders of columns that are kept from lines to lines.
-ghost use Rattle.std.specs.Prelude.{◌≡◌, true, false, IfOk, IfSome, OnOk};
+ghost use Rattle.std.specs.Prelude.{◌≡◌, ◌≢◌, true, false, List, IfOk, MatchOption, OnOk};
 ghost use Rattle.arrow_array.specs.Arrays.{array_slots, array_type};
 ghost use Rattle.arrow_core.specs.Errors.{OnlyOutOfMemory};
 ghost use Rattle.arrow_dictionaries.specs.Encoding.{HasFirstValues, HaveFirstValues};
 ghost use Rattle.arrow_types.specs.declared.types.DataType.{Struct};
-ghost use Rattle.json_columns.specs.Names.{names_twice as names_twice_of};
-ghost use Rattle.json_flat.specs.Reading.{has_reading};
+ghost use Rattle.arrow_types.specs.declared.types.Field.{Field};
 ghost use Rattle.json_line.specs.Lines.{AreColumnsOf};
-ghost use Rattle.ndjson_columns.specs.LineColumns.{AreRowsOf};
+ghost use Rattle.ndjson_columns.specs.LineColumns.{AreRowsOf, is_readable as is_readable_type};
 
 use crate::encode::encode_columns;
 use crate::stored::stored_fields;
@@ -45,8 +44,9 @@ impl Model for LineColumns {
 }
 
 /// The fields of a Struct; `None` for another type.
-fn struct_fields(row_type: DataType) -> Option<Vec<Field>>
-    ensures { IfSome result (λ fields. row_type ≡ Struct fields.items) }
+pub(crate) fn struct_fields(row_type: DataType) -> Option<Vec<Field>>
+    ensures { MatchOption result ((fields : List Field) → row_type ≢ Struct fields)
+        (λ fields. row_type ≡ Struct fields.items) }
 {
     match row_type {
         DataType::Struct(fields) => Some(fields.into_vec()),
@@ -54,33 +54,35 @@ fn struct_fields(row_type: DataType) -> Option<Vec<Field>>
     }
 }
 
-/// The fields, where values are read under a Struct of them, which names no field twice.
+/// Whether values are read under the type, and no Struct in it names a field twice.
+fn is_readable(data_type: &DataType) -> bool
+    ensures { result ≡ is_readable_type data_type.now }
+{
+    has_json_reading(data_type) && !names_twice(data_type)
+}
+
+/// The fields, where values are read under a Struct of them, in which none names a field twice.
 fn readable_fields(fields: Vec<Field>) -> Option<Vec<Field>>
-    ensures same { IfSome result (λ kept. kept.items ≡ fields.items) }
-    ensures readable { IfSome result (λ _. has_reading (Struct fields.items) ≡ true) }
-    ensures distinct { IfSome result (λ _. names_twice_of (Struct fields.items) ≡ false) }
+    ensures { MatchOption result (is_readable_type (Struct fields.items) ≡ false)
+        (λ kept. (kept.items ≡ fields.items) × (is_readable_type (Struct fields.items) ≡ true)) }
 {
     let row_type = DataType::Struct(Items::from_vec(fields));
-    if names_twice(&row_type) {
-        return None;
-    }
-    if !has_json_reading(&row_type) {
+    if !is_readable(&row_type) {
         return None;
     }
     struct_fields(row_type)
 }
 
 impl LineColumns {
-    /// Builders of the columns of these fields. `None` where there is no field, where two fields, or
-    /// two of a Struct at any depth, have the same name, or where lines aren't read into columns of
-    /// one of the types: those that `json_line` reads, and dictionaries over strings or over integers
-    /// of 8 to 64 bits with a sign, at every depth. `OutOfMemory` alone.
+    /// Builders of the columns of these fields. `None` exactly where there is no field, where two
+    /// fields, or two of a Struct at any depth, have the same name, or where one of the types has
+    /// no reading. The types that `json_line` reads have one, and so have dictionaries over strings
+    /// or over integers of 8 to 64 bits with a sign, at every depth. `OutOfMemory` alone.
     pub fn new(alloc: Global, fields: Vec<Field>) -> Result<Option<LineColumns>>
-        ensures ok { IfOk result (λ made. IfSome made (λ columns. columns ≡ fields.items)) }
-        ensures readable { IfOk result
-            (λ made. IfSome made (λ _. has_reading (Struct fields.items) ≡ true)) }
-        ensures distinct { IfOk result
-            (λ made. IfSome made (λ _. names_twice_of (Struct fields.items) ≡ false)) }
+        ensures ok { IfOk result
+            (λ made. MatchOption made (is_readable_type (Struct fields.items) ≡ false)
+            (λ columns. (columns ≡ fields.items)
+            × (is_readable_type (Struct fields.items) ≡ true))) }
         ensures memory { OnlyOutOfMemory result }
     {
         let Some(fields) = readable_fields(fields) else {
@@ -93,6 +95,7 @@ impl LineColumns {
                 fields,
                 lines,
             })),
+            // Never: lines are read into the fields that are stored for these.
             None => Ok(None),
         }
     }
@@ -108,8 +111,7 @@ impl LineColumns {
         ensures ok { IfOk result
             (λ columns. AreColumnsOf self.old lines.now columns.items) }
         ensures dictionaries { IfOk result (λ columns. HaveFirstValues columns.items) }
-        ensures readable { OnOk result (has_reading (Struct self.old) ≡ true) }
-        ensures distinct { OnOk result (names_twice_of (Struct self.old) ≡ false) }
+        ensures readable { OnOk result (is_readable_type (Struct self.old) ≡ true) }
         ensures same { self.new ≡ self.old }
     {
         let mut columns = self.lines.read_lines(lines)?;

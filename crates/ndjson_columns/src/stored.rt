@@ -1,42 +1,16 @@
 //! The fields that columns are read under before dictionaries are made of them.
-ghost use Rattle.std.specs.Prelude.{◌≡◌, IfOk};
+ghost use Rattle.std.specs.Prelude.{IfOk};
 ghost use Rattle.arrow_core.specs.Errors.{OnlyOutOfMemory};
-ghost use Rattle.json_flat.specs.Reading.{reading};
-ghost use Rattle.ndjson_columns.specs.LineColumns.{AreStoredFor, IsStoredFor};
+ghost use Rattle.ndjson_columns.specs.LineColumns.{AreStoredFor, IsStoredFor, IsStoredType};
 
 use arrow_core::{Box, Items, Result};
 use arrow_types::{DataType, Field};
 use std::alloc::Global;
 
-// Whether values are read under a dictionary over this type.
-fn is_value_type(data_type: &DataType) -> bool {
-    matches!(
-        data_type,
-        DataType::Utf8
-            | DataType::LargeUtf8
-            | DataType::Int8
-            | DataType::Int16
-            | DataType::Int32
-            | DataType::Int64
-    )
-}
-
-// The type of a dictionary's values, where values are read under it; else the dictionary's.
-fn value_type_or(alloc: Global, value: &DataType, dictionary: &DataType) -> Result<DataType>
-    requires { reading dictionary.now ≡ reading value.now }
-    ensures meaning { IfOk result (λ t. reading t ≡ reading dictionary.now) }
-    ensures memory { OnlyOutOfMemory result }
-{
-    if is_value_type(value) {
-        return value.try_clone(alloc);
-    }
-    dictionary.try_clone(alloc)
-}
-
-// The type that a column is first read under.
+// The type that a column is first read under: of a dictionary that of its values.
 #[cycle(stored)]
 fn stored_type(alloc: Global, data_type: &DataType) -> Result<DataType>
-    ensures meaning { IfOk result (λ t. reading t ≡ reading data_type.now) }
+    ensures stored { IfOk result (λ stored. IsStoredType data_type.now stored) }
     ensures memory { OnlyOutOfMemory result }
 {
     match data_type {
@@ -56,7 +30,7 @@ fn stored_type(alloc: Global, data_type: &DataType) -> Result<DataType>
             let fields = stored_fields(alloc, fields.as_slice())?;
             Ok(DataType::Struct(Items::from_vec(fields)))
         }
-        DataType::Dictionary(_, value, _) => value_type_or(alloc, value.get(), data_type),
+        DataType::Dictionary(_, value, _) => value.get().try_clone(alloc),
         _ => data_type.try_clone(alloc),
     }
 }
