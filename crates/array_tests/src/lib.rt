@@ -10,3 +10,5 @@ mod flat;
 mod nested;
 #[cfg(test)]
 mod samples;
+#[cfg(test)]
+mod values;

@@ -47,7 +47,7 @@ fn columns(
 }
 
 /// Whether these are 1 and -2.
-fn are_numbers(numbers: &PrimitiveArray<i32>) -> bool {
+pub(crate) fn are_numbers(numbers: &PrimitiveArray<i32>) -> bool {
     numbers.len() == 2
         && (numbers.is_valid(0) && numbers.value(0) == 1)
         && (numbers.is_valid(1) && numbers.value(1) == -2)

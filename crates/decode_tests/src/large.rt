@@ -1,5 +1,6 @@
 //! Columns of large forms.
 
+use crate::blocks::{ROWS, are_numbers, avro_fields};
 use crate::samples::{avro_field, block, or_null, record, text};
 use arrow_array::{Array, Chunk, LargeListArray, Utf8Array};
 use arrow_core::{Box, Error, Reason};
@@ -39,6 +40,36 @@ fn is_large_column(chunk: &Chunk) -> bool {
 fn strings_become_a_large_column(rt: HostRuntime) {
     let chunk = strings(&rt, rt.alloc(), DataType::LargeUtf8).expect(&rt, "two rows");
     assert!(rt; is_large_column(&chunk));
+}
+
+/// The columns of the rows 1 and "hi", and -2 and null, the second of them large.
+fn rows(rt: &impl Abort, alloc: Global) -> Result<Chunk, Error> {
+    let a = Field::new(alloc, text(rt, alloc, "a"), DataType::Int32, false);
+    let b = Field::new(alloc, text(rt, alloc, "b"), DataType::LargeUtf8, true);
+    let avro_fields = avro_fields(rt, alloc);
+    let block = block(rt, alloc, 2, ROWS);
+    deserialize(
+        alloc,
+        &block,
+        &[a, b],
+        avro_fields.as_slice(),
+        &[true, true],
+    )
+}
+
+fn are_rows(chunk: &Chunk) -> bool {
+    match chunk.arrays() {
+        [Array::Int32(numbers), Array::LargeUtf8(strings)] => {
+            are_numbers(numbers) && are_strings(strings)
+        }
+        _ => false,
+    }
+}
+
+#[test]
+fn rows_fill_a_large_column_beside_another(rt: HostRuntime) {
+    let chunk = rows(&rt, rt.alloc()).expect(&rt, "two rows");
+    assert!(rt; are_rows(&chunk));
 }
 
 #[test]

@@ -23,6 +23,22 @@ fn a_null_item_plays_no_part(rt: HostRuntime) -> Result<(), Fail> {
     Ok(())
 }
 
+/// How many brackets a text may have open at once.
+const MOST_OPEN: usize = 128;
+
+#[test]
+fn lists_nest_as_deep_as_texts(rt: HostRuntime) -> Result<(), Fail> {
+    let alloc = rt.alloc();
+    let mut wanted = DataType::Int64;
+    let mut text = String::from_str(alloc, "1")?;
+    for _ in 0..MOST_OPEN {
+        wanted = list(alloc, wanted)?;
+        text = format!(in alloc; "[{text}]")?;
+    }
+    assert!(rt; is_inferred(alloc, text.as_str().as_bytes(), &wanted));
+    Ok(())
+}
+
 #[test]
 fn an_array_of_nulls_is_null(rt: HostRuntime) {
     assert!(rt; is_inferred(rt.alloc(), b"[null]", &DataType::Null));

@@ -31,10 +31,10 @@ fn members_are_read_by_name(rt: HostRuntime) {
         &rt,
         alloc,
         &mut kept,
-        "{}",
+        "{\"b\":false}",
         "{\"a\":false,\"b\":1,\"c\":\"\\t\"}",
     );
-    let wanted: [&[u8]; 3] = [b"null,false", b"null,1", b"null,\"\\t\""];
+    let wanted: [&[u8]; 3] = [b"null,false", b"0,1", b"null,\"\\t\""];
     assert!(rt; has_texts(&rt, alloc, columns, wanted));
 }
 

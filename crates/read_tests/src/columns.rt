@@ -1,6 +1,6 @@
 //! Columns of JSON values. What is expected is the table of types, worked by hand, and is compared
 //! as the JSON text of the column.
-use crate::types::{field, list, one_field, sized_list, two_fields};
+use crate::types::{field, large_list, list, one_field, sized_list, two_fields};
 use arrow_array::Array;
 use arrow_core::Result;
 use arrow_types::{DataType, TimeUnit};
@@ -83,6 +83,64 @@ fn only_an_array_is_a_list(rt: HostRuntime) {
             b"[[1,\"x\"],[],7]",
             list(alloc, DataType::Int8),
             b"[1,null],[],null"
+        )
+    );
+}
+
+/// How many brackets a text may have open at once.
+const MOST_OPEN: usize = 128;
+
+#[test]
+fn lists_nest_as_deep_as_texts(rt: HostRuntime) -> std::result::Result<(), Fail> {
+    let alloc = rt.alloc();
+    let mut item = DataType::Int64;
+    let mut wanted = String::from_str(alloc, "1")?;
+    for _ in 1..MOST_OPEN {
+        item = list(alloc, item)?;
+        wanted = format!(in alloc; "[{wanted}]")?;
+    }
+    let text = format!(in alloc; "[{wanted}]")?;
+    let column = column(alloc, text.as_str().as_bytes(), item);
+    assert!(rt; has_text(&rt, alloc, column, wanted.as_str().as_bytes()));
+    Ok(())
+}
+
+#[test]
+fn large_lists_are_lists(rt: HostRuntime) -> std::result::Result<(), Fail> {
+    let alloc = rt.alloc();
+    let lists = large_list(alloc, large_list(alloc, DataType::Int8)?)?;
+    let value = parse(alloc, b"[[1,\"x\"],[],7]")?;
+    let column = deserialize(alloc, &value, lists);
+    assert!(rt; has_text(&rt, alloc, column, b"[1,null],[],null"));
+    Ok(())
+}
+
+#[test]
+fn what_is_no_boolean_is_null(rt: HostRuntime) {
+    let alloc = rt.alloc();
+    let wanted = b"true,false,null,null,null";
+    assert!(rt;
+        is_read(
+            &rt,
+            alloc,
+            b"[true,false,1,\"x\",null]",
+            Ok(DataType::Boolean),
+            wanted
+        )
+    );
+}
+
+#[test]
+fn each_value_under_null_is_null(rt: HostRuntime) {
+    let alloc = rt.alloc();
+    let wanted = b"null,null,null,null,null";
+    assert!(rt;
+        is_read(
+            &rt,
+            alloc,
+            b"[null,7,\"x\",[],{}]",
+            Ok(DataType::Null),
+            wanted
         )
     );
 }

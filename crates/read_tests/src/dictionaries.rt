@@ -6,6 +6,7 @@ use arrow_array::{Array, Keys, PrimitiveArray};
 use arrow_core::{Error, Result};
 use arrow_types::{DataType, IntegerType, NativeType};
 use std::alloc::Global;
+use std::process::Abort;
 use std::test::Fail;
 
 /// Keys as indices.
@@ -25,28 +26,35 @@ fn column_indices(alloc: Global, column: &Array) -> Result<Vec<Option<usize>>> {
     }
 }
 
-/// The bytes of the values of a column of a dictionary over Utf8.
+/// The bytes of the values of a column of a dictionary over strings.
 pub(crate) fn bytes(column: &Array) -> &[u8] {
     match column {
         Array::Dictionary(array) => match array.values() {
             Array::Utf8(values) => values.values(),
+            Array::LargeUtf8(values) => values.values(),
             _ => &[],
         },
         _ => &[],
     }
 }
 
+/// Whether equal strings have one value in a dictionary over this type of strings.
+fn stand_once(rt: &impl Abort, alloc: Global, strings: DataType) -> Result<bool> {
+    let text = b"[\"b\",true,\"true\",\"b\",null]";
+    let data_type = dictionary(alloc, IntegerType::Int32, strings)?;
+    let column = column(alloc, text, data_type)?;
+    let keys = column_indices(alloc, &column)?;
+    let wanted = [Some(0), Some(1), Some(1), Some(0), None];
+    let has_keys = keys.as_slice() == wanted.as_slice() && bytes(&column) == b"btrue".as_slice();
+    let text = b"\"b\",\"true\",\"true\",\"b\",null";
+    Ok(has_keys && has_text(rt, alloc, Ok(column), text))
+}
+
 #[test]
 fn a_string_stands_once(rt: HostRuntime) -> std::result::Result<(), Fail> {
     let alloc = rt.alloc();
-    let text = b"[\"b\",true,\"true\",\"b\",null]";
-    let data_type = dictionary(alloc, IntegerType::Int32, DataType::Utf8)?;
-    let column = column(alloc, text, data_type)?;
-    let keys = column_indices(alloc, &column)?;
-    assert!(rt; keys.as_slice() == [Some(0), Some(1), Some(1), Some(0), None].as_slice());
-    assert!(rt; bytes(&column) == b"btrue".as_slice());
-    let wanted = b"\"b\",\"true\",\"true\",\"b\",null";
-    assert!(rt; has_text(&rt, alloc, Ok(column), wanted));
+    assert!(rt; stand_once(&rt, alloc, DataType::Utf8)?);
+    assert!(rt; stand_once(&rt, alloc, DataType::LargeUtf8)?);
     Ok(())
 }
 

@@ -1,9 +1,10 @@
 //! Whole values of numbers. The expected values are computed by hand from RFC 8259, section 6.
 use crate::columns::column;
 use crate::refusals::is_refused;
-use arrow_core::{Error, Result};
+use arrow_core::{Error, Result, Text};
 use arrow_types::DataType;
-use json_flat::read_whole_text;
+use json_flat::{read_whole, read_whole_text};
+use json_tree::{Number, Value, parse};
 use std::alloc::Global;
 use std::test::Fail;
 
@@ -38,6 +39,41 @@ fn texts_that_are_no_number_have_no_value(rt: HostRuntime) {
     assert!(rt; whole("1.", "") == None);
     assert!(rt; whole("", "") == None);
     assert!(rt; whole("1", "+") == None);
+}
+
+/// The value of a JSON text's number, cut towards zero, where it fits 64 bits; 1 of any other text.
+fn whole_of(alloc: Global, text: &[u8]) -> Result<Option<i128>> {
+    Ok(match parse(alloc, text)? {
+        Value::Number(number) => read_whole(&number, i64::MIN as i128, i64::MAX as i128),
+        _ => Some(1),
+    })
+}
+
+#[test]
+fn a_number_of_a_text_has_its_value(rt: HostRuntime) -> std::result::Result<(), Fail> {
+    let alloc = rt.alloc();
+    assert!(rt; whole_of(alloc, b"0e999999999")? == Some(0));
+    assert!(rt; whole_of(alloc, b"1e-99999")? == Some(0));
+    assert!(rt; whole_of(alloc, b"-9223372036854775808.9")? == Some(-9223372036854775808));
+    Ok(())
+}
+
+#[test]
+fn a_number_out_of_range_has_no_value(rt: HostRuntime) -> std::result::Result<(), Fail> {
+    assert!(rt; whole_of(rt.alloc(), b"1e999999999")? == None);
+    Ok(())
+}
+
+#[test]
+fn a_number_of_no_text_has_no_value(rt: HostRuntime) -> std::result::Result<(), Fail> {
+    let alloc = rt.alloc();
+    let point = Text::try_from_str(alloc, "1.5")?;
+    let number = Number::Integer(point, Text::try_from_str(alloc, "")?);
+    assert!(rt; read_whole(&number, 0, 9) == None);
+    let no_point = Text::try_from_str(alloc, "1")?;
+    let number = Number::Float(no_point, Text::try_from_str(alloc, "")?);
+    assert!(rt; read_whole(&number, 0, 9) == None);
+    Ok(())
 }
 
 /// A million digits, each 1.

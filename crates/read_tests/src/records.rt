@@ -1,9 +1,9 @@
 //! Chunks of JSON records. What is expected is worked by hand from the table of types.
 use crate::refusals::is_refused;
-use crate::types::field;
+use crate::types::{dictionary, field, large_list, list, one_field};
 use arrow_array::Chunk;
 use arrow_core::{Error, Items, Metadata, Reason, Result};
-use arrow_types::{DataType, Schema};
+use arrow_types::{DataType, IntegerType, Schema, TimeUnit};
 use json_columns::deserialize_records;
 use json_tree::parse;
 use json_write::RecordSerializer;
@@ -49,6 +49,36 @@ fn a_row_has_exactly_the_keys_of_the_fields(rt: HostRuntime) {
     assert!(rt; is_refused(read(alloc, b"[{\"a\":1},7,{}]", DataType::Int64), no_object));
     let no_array = Error::ExternalFormat(Reason::OuterNotArray);
     assert!(rt; is_refused(read(alloc, b"{\"a\":1}", DataType::Int64), no_array));
+}
+
+/// Whether records aren't read under a field of this type.
+fn has_no_reading(alloc: Global, data_type: DataType) -> bool {
+    let wanted = Error::NotYetImplemented(Reason::NoJsonReading);
+    is_refused(read(alloc, b"{}", data_type), wanted)
+}
+
+#[test]
+fn members_of_records_hold_no_large_list_struct_or_dictionary(
+    rt: HostRuntime,
+) -> std::result::Result<(), Fail> {
+    let alloc = rt.alloc();
+    let structs = one_field(alloc, "a", DataType::Int8)?;
+    assert!(rt; has_no_reading(alloc, list(alloc, structs)?));
+    assert!(rt; has_no_reading(alloc, large_list(alloc, DataType::Int8)?));
+    let strings = dictionary(alloc, IntegerType::Int8, DataType::Utf8)?;
+    assert!(rt; has_no_reading(alloc, strings));
+    Ok(())
+}
+
+#[test]
+fn a_text_under_a_timestamp_comes_after_a_faulty_row(rt: HostRuntime) {
+    let alloc = rt.alloc();
+    let text = Error::NotYetImplemented(Reason::TextTimestamp);
+    let moment = DataType::Timestamp(TimeUnit::Second, None);
+    assert!(rt; is_refused(read(alloc, b"[{\"a\":\"2020\"}]", moment), text));
+    let moment = DataType::Timestamp(TimeUnit::Second, None);
+    let missing = Error::ExternalFormat(Reason::MissingKey);
+    assert!(rt; is_refused(read(alloc, b"[{\"a\":\"2020\"},{}]", moment), missing));
 }
 
 #[test]

@@ -1,10 +1,10 @@
 //! Why there is no column of JSON values. What is expected is the order of refusals, worked by hand.
 use crate::columns::column;
-use crate::types::{field, list, one_field, two_fields};
-use arrow_core::{Error, Reason, Result};
-use arrow_types::{DataType, TimeUnit};
+use crate::types::{field, list, one_field, sized_list, two_fields};
+use arrow_core::{Error, Items, Reason, Result};
+use arrow_types::{DataType, IntervalUnit, TimeUnit};
 use json_columns::deserialize;
-use json_tree::Value;
+use json_tree::{Value, parse};
 use std::test::Fail;
 
 /// Whether the answer is this error.
@@ -25,6 +25,15 @@ fn only_the_items_of_an_array_are_read(rt: HostRuntime) -> std::result::Result<(
 }
 
 #[test]
+fn items_are_read_under_a_list_alone(rt: HostRuntime) -> std::result::Result<(), Fail> {
+    let alloc = rt.alloc();
+    let wanted = Error::NotYetImplemented(Reason::NotAnArray);
+    let no_items = parse(alloc, b"[]")?;
+    assert!(rt; is_refused(deserialize(alloc, &no_items, DataType::Int8), wanted));
+    Ok(())
+}
+
+#[test]
 fn a_field_named_twice_comes_first(rt: HostRuntime) -> std::result::Result<(), Fail> {
     let alloc = rt.alloc();
     let a = field(alloc, "a", DataType::Float64)?;
@@ -36,11 +45,17 @@ fn a_field_named_twice_comes_first(rt: HostRuntime) -> std::result::Result<(), F
 }
 
 #[test]
-fn floats_have_no_reading(rt: HostRuntime) -> std::result::Result<(), Fail> {
+fn types_without_a_reading_are_refused(rt: HostRuntime) -> std::result::Result<(), Fail> {
     let alloc = rt.alloc();
     let wanted = Error::NotYetImplemented(Reason::NoJsonReading);
     let floats = one_field(alloc, "a", DataType::Float64)?;
     assert!(rt; is_refused(column(alloc, b"[]", floats), wanted));
+    let no_items = sized_list(alloc, DataType::Int8, 0)?;
+    assert!(rt; is_refused(column(alloc, b"[]", no_items), wanted));
+    let no_fields = DataType::Struct(Items::from_vec(Vec::new(alloc)));
+    assert!(rt; is_refused(column(alloc, b"[]", no_fields), wanted));
+    let days = DataType::Interval(IntervalUnit::DayTime);
+    assert!(rt; is_refused(column(alloc, b"[]", days), wanted));
     Ok(())
 }
 

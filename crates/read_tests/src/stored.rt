@@ -7,30 +7,37 @@ use arrow_types::{DataType, IntervalUnit, NativeType, Offset, TimeUnit};
 use std::alloc::Global;
 use std::test::Fail;
 
-/// Whether these are the two integers, and then two nulls.
-fn are_two<T: NativeType>(array: &PrimitiveArray<T>, one: T, other: T) -> bool {
-    array.len() == 4
+/// Whether these are the three integers, and then two nulls.
+fn are_three<T: NativeType>(array: &PrimitiveArray<T>, one: T, two: T, three: T) -> bool {
+    array.len() == 5
         && (array.is_valid(0) && array.value(0) == one)
-        && (array.is_valid(1) && array.value(1) == other)
-        && (!array.is_valid(2) && !array.is_valid(3))
+        && (array.is_valid(1) && array.value(1) == two)
+        && (array.is_valid(2) && array.value(2) == three)
+        && (!array.is_valid(3) && !array.is_valid(4))
 }
 
-/// Whether a number is cut, and true is 1, where they are read under a type of integers.
+/// Whether a number is cut, true is 1 and false 0, where they are read under a type of integers.
 fn is_integer(alloc: Global, data_type: DataType) -> Result<bool> {
-    let column = column(alloc, b"[1.59e1,true,\"x\",null]", data_type)?;
+    let column = column(alloc, b"[1.59e1,true,false,\"x\",null]", data_type)?;
     Ok(match &column {
-        Array::UInt16(array) => are_two(array, 15, 1),
-        Array::UInt32(array) => are_two(array, 15, 1),
-        Array::UInt64(array) => are_two(array, 15, 1),
-        Array::Int32(array) => are_two(array, 15, 1),
-        Array::Int64(array) => are_two(array, 15, 1),
+        Array::UInt8(array) => are_three(array, 15, 1, 0),
+        Array::UInt16(array) => are_three(array, 15, 1, 0),
+        Array::UInt32(array) => are_three(array, 15, 1, 0),
+        Array::UInt64(array) => are_three(array, 15, 1, 0),
+        Array::Int8(array) => are_three(array, 15, 1, 0),
+        Array::Int16(array) => are_three(array, 15, 1, 0),
+        Array::Int32(array) => are_three(array, 15, 1, 0),
+        Array::Int64(array) => are_three(array, 15, 1, 0),
         _ => false,
     })
 }
 
 #[test]
-fn unsigned_numbers_dates_and_times_are_integers(rt: HostRuntime) -> std::result::Result<(), Fail> {
+fn numbers_dates_and_times_are_integers(rt: HostRuntime) -> std::result::Result<(), Fail> {
     let alloc = rt.alloc();
+    assert!(rt; is_integer(alloc, DataType::Int8)?);
+    assert!(rt; is_integer(alloc, DataType::Int16)?);
+    assert!(rt; is_integer(alloc, DataType::UInt8)?);
     assert!(rt; is_integer(alloc, DataType::UInt16)?);
     assert!(rt; is_integer(alloc, DataType::UInt32)?);
     assert!(rt; is_integer(alloc, DataType::UInt64)?);

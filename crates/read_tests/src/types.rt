@@ -15,6 +15,12 @@ pub(crate) fn list(alloc: Global, item: DataType) -> Result<DataType> {
     Ok(DataType::List(Box::new(alloc, item)?))
 }
 
+/// A LargeList of nullable items.
+pub(crate) fn large_list(alloc: Global, item: DataType) -> Result<DataType> {
+    let item = field(alloc, "item", item)?;
+    Ok(DataType::LargeList(Box::new(alloc, item)?))
+}
+
 /// A Struct of one nullable field.
 pub(crate) fn one_field(alloc: Global, name: &str, data_type: DataType) -> Result<DataType> {
     let mut fields = Vec::new(alloc);
