@@ -1,5 +1,5 @@
 #!/usr/bin/env python3
-"""Refuses each growth of the program's memory, each read and each write in turn, on a few inputs, and looks at what it answers.
+"""Refuses each growth of the program's memory, each read and each write in turn, on many inputs, and looks at what it answers.
 
 A library that is loaded before the C library's counts the calls of `malloc` and `realloc`, of `read` and of `write`, and
 answers one of them with an error (`again.c`). Then the program ends as it does anyway; or with status 10, 8 or 9 and its note,
@@ -34,6 +34,8 @@ NESTED_LINES = b"".join(
     b'{"id":%d,"when":%d,"user":"u%d","tags":["a","bc"],"where":{"x":1,"y":[1,null,2]}}\n{"id":-1,"tags":[]}\n' % (i, i, i)
     for i in range(3)
 )
+# The encoding of 2^63 - 1, as a false size or count.
+MOST = "FEFFFFFFFFFFFFFFFF01"
 # Blocks, by the words after `block` and by their bytes.
 BLOCKS = [
     # Of numbers, strings and nulls, which are kept or not, and with bytes too many or too few.
@@ -63,6 +65,21 @@ BLOCKS = [
     ("1 ~a=[long] b=int", "030102"),
     ("1 a=[long] b=int", "030102"),
     ("1 a=[long]", "FFFFFFFFFFFFFFFFFF01"),
+    # With sizes and counts that the bytes don't back or that are below 0, and decimals of 17 bytes.
+    ("1 a=[long]", MOST),
+    ("1 ~a=[long] b=int", MOST),
+    ("1 ~a=[long] b=int", "03" + MOST + "0002"),
+    ("1 a=string", MOST),
+    ("1 ~a=string b=int", "0102"),
+    ("2 ~a=[long] b=int", "0301"),
+    ("3 ~a=[long] b=int", "0301"),
+    ("1 ~a=[[long]] b=int", "020301"),
+    ("1 ~a=[[long]] b=int", "04000301"),
+    ("1 ~a=[long]? b=int", "020301"),
+    ("1 a=[{x=int}?]", MOST + "00"),
+    ("1 d=decimal(10,2)", "22" + "00" * 17),
+    ("1 ~d=decimal(10,2) b=int", "22" + "00" * 17 + "02"),
+    # Of lists that are empty, and that nest as deep as words may and deeper, and of records.
     ("2 a=[int]", "00020A00"),
     ("0 a=" + "[" * 63 + "int" + "]" * 63, ""),
     ("0 a=" + "[" * 64 + "int" + "]" * 64, ""),
@@ -75,6 +92,7 @@ BLOCKS = [
     ("1 f=fixed(2) i=duration b=bytes!", "ABCD0100000002000000FFFFFFFF00027F"),
     ("1 ~a=float b=int", "0000803F02"),
     ("1 a=float", "0000803F"),
+    ("1 w=timestamp-nanos", "02"),
     ("1 a=null", ""),
     ("0", ""),
 ]
@@ -103,7 +121,11 @@ def inputs():
         events = events.read()
     blocks = [(["block"] + words.split(), bytes.fromhex(block)) for words, block in BLOCKS]
     return blocks + [
+        ([], b""),
+        (["blok", "1"], b""),
+        (["block", "x", "a=int"], b""),
         (["block-large", "1", "a=[string]"], b"\x02\x02a\x00"),
+        (["block-large", "2", "a=int", "b=string?"], bytes.fromhex("02020468690300")),
         (["ndjson"], one),
         (["ndjson"], small),
         (["ndjson", "0"], small),
@@ -155,10 +177,10 @@ def blocks_of(data, marker):
 
 def allowed(words, given, plain):
     """What may stand at standard output after out of memory or a failed read, by what stands there without."""
-    out = plain[1]
-    if words[0] in ("rewrite", "avro") and out:
+    command, out = "".join(words[:1]), plain[1]
+    if command in ("rewrite", "avro") and out:
         return [b""] + [out[:end] for _, end in blocks_of(out, MARKER)]
-    if words[0] != "ndjson" or not out:
+    if command != "ndjson" or not out:
         return [b""]
     # The last bytes of a file are its marker; the files that are refused have the one of here.
     marker = MARKER if plain[0] else given[-16:]
@@ -192,7 +214,7 @@ def refuse_reads(server, words, given, plain, reads):
     answers = server.run_all([Request(words, given, read=nth, piece=1) for nth in range(1, reads + 1)])
     for nth, answer in enumerate(answers, 1):
         status, out, note = answer.given
-        line = f": line {given[: nth - 1].count(10) + 1}" if words[0] in ("avro", "infer") else ""
+        line = f": line {given[: nth - 1].count(10) + 1}" if words[:1] in (["avro"], ["infer"]) else ""
         is_right = status == 8 and note == f"avrocat: ReadFault{line}\n".encode() and out in outputs
         check(words, f"read {nth}", answer, is_right)
 
@@ -213,7 +235,7 @@ def refuse_all(server, words, given):
     refuse_reads(server, words, given, plain, bytewise.reads)
     refuse_writes(server, words, given, plain, bytewise.writes)
     counts = f"{whole.growths} growths refused, {told} of them told; {bytewise.reads} reads, {bytewise.writes} writes"
-    print(f"{' '.join(words)}, {len(given)} bytes, status {plain[0]}: {counts}")
+    print(f"{' '.join(words) or 'no words'}, {len(given)} bytes, status {plain[0]}: {counts}")
     return whole.growths, bytewise.reads, bytewise.writes
 
 
