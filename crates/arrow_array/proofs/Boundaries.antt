@@ -7,39 +7,39 @@ use Rattle.std.proofs.lemmas.List.{drop-drop, drop-take, take-take, length-take-
 use Rattle.std.proofs.lemmas.Str.{IsUtf8-nil, IsUtf8-append, IsUtf8-between, IsCharBoundary-from_take}
 use Rattle.arrow_array.specs.Offsets.{offset_at, part, IsWithin, IsNotAbove, IsOffsets, AreUtf8, IsBoundary, IsFrom}
 
-abbrev place : ℤ → ℕ
-place (pos a) = a
-place (negsuc a) = 0
+abbrev position : ℤ → ℕ
+position (pos a) = a
+position (negsuc a) = 0
 
-place_is : (z : ℤ) (n : ℕ) → IsWithin z n → z ≡ pos (place z)
-place_is (pos a) n h = refl
-place_is (negsuc a) n h = absurd h
+position_is : (z : ℤ) (n : ℕ) → IsWithin z n → z ≡ pos (position z)
+position_is (pos a) n h = refl
+position_is (negsuc a) n h = absurd h
 
-place_within : (z : ℤ) (n : ℕ) → IsWithin z n → place z ≤ n
-place_within (pos a) n h = h
-place_within (negsuc a) n h = absurd h
+position_within : (z : ℤ) (n : ℕ) → IsWithin z n → position z ≤ n
+position_within (pos a) n h = h
+position_within (negsuc a) n h = absurd h
 
-place_order : (y z : ℤ) → IsNotAbove y z → place y ≤ place z
-place_order (pos a) (pos b) h = h
-place_order (pos a) (negsuc b) h = absurd h
-place_order (negsuc a) z h = absurd h
+position_order : (y z : ℤ) → IsNotAbove y z → position y ≤ position z
+position_order (pos a) (pos b) h = h
+position_order (pos a) (negsuc b) h = absurd h
+position_order (negsuc a) z h = absurd h
 
 module _ (os : List ℤ) (n : ℕ) (o : IsOffsets os n) where
   abbrev at : ℕ → ℕ
-  at k = place (offset_at os k)
+  at k = position (offset_at os k)
 
   at_is : (k : ℕ) → k < length os → offset_at os k ≡ pos (at k)
-  at_is k l = place_is _ _ (o.within k l)
+  at_is k l = position_is _ _ (o.within k l)
 
   at_within : (k : ℕ) → k < length os → at k ≤ n
-  at_within k l = place_within _ _ (o.within k l)
+  at_within k l = position_within _ _ (o.within k l)
 
   -- no offset is below an earlier one
   at_order : (j i : ℕ) → j + i < length os → at j ≤ at (j + i)
   at_order j zero l = let e : j + 0 ≡ j = omega arith in rw e (omega arith)
   at_order j (suc i) l =
       let h = at_order j i (omega (arith, l)) in
-      let s = place_order _ _ (o.rising (j + i) (omega (arith, l))) in
+      let s = position_order _ _ (o.rising (j + i) (omega (arith, l))) in
       let e : j + suc i ≡ j + i + 1 = omega arith in
       rw e (omega (arith, h, s))
 
@@ -48,14 +48,14 @@ module _ (os : List ℤ) (n : ℕ) (o : IsOffsets os n) where
 
   pub ends_in_order : (a b : ℕ) → offset_at os 0 ≡ pos a → offset_at os (length os - 1) ≡ pos b → a ≤ b
   ends_in_order a b first last =
-      let s : at 0 ≡ a = ap place first in
-      let e : at (length os - 1) ≡ b = ap place last in
+      let s : at 0 ≡ a = ap position first in
+      let e : at (length os - 1) ≡ b = ap position last in
       omega (arith, at_rising 0 (length os - 1) (omega arith) (omega (arith, o.filled)), s, e)
 
   -- offsets are offsets into whatever the last one lies within
   pub reach : (b m : ℕ) → offset_at os (length os - 1) ≡ pos b → b ≤ m → IsOffsets os m
   reach b m last h =
-      let e : at (length os - 1) ≡ b = ap place last in
+      let e : at (length os - 1) ≡ b = ap position last in
       record {
         filled = o.filled;
         within = λ k l. subst (λ z. IsWithin z m) (sym (at_is k l)) (omega (arith, at_rising k (length os - 1) (omega (arith, l)) (omega (arith, o.filled)), e, h));
@@ -95,10 +95,10 @@ module _ (os : List ℤ) (bytes : List ℕ) (o : IsOffsets os (length bytes)) (a
   end = length os - 1
 
   first_is : there os bytes o 0 ≡ a
-  first_is = ap place first
+  first_is = ap position first
 
   last_is : there os bytes o end ≡ b
-  last_is = ap place last
+  last_is = ap position last
 
   abbrev text : List ℕ
   text = take (b - a) (drop a bytes)

@@ -49,11 +49,11 @@ null_key n (ListSlot' a b) p = (λ t. let e : false ≡ true = t in absurd cc, �
 null_key n (StructSlot' a b) p = (λ t. let e : false ≡ true = t in absurd cc, λ k. absurd k)
 
 -- a key that is an index fits where it is below the number of values
-pub place_key : (n k : ℕ) (x : Slot) → x ≡ slot.Integer (pos k) → IsKeyInto n x → k < n
-place_key n k x e h = subst (λ y. IsKeyInto n y) e h
+pub key_below : (n k : ℕ) (x : Slot) → x ≡ slot.Integer (pos k) → IsKeyInto n x → k < n
+key_below n k x e h = subst (λ y. IsKeyInto n y) e h
 
-pub key_place : (n k : ℕ) (x : Slot) → x ≡ slot.Integer (pos k) → k < n → IsKeyInto n x
-key_place n k x e h = subst (λ y. IsKeyInto n y) (sym e) h
+pub below_key : (n k : ℕ) (x : Slot) → x ≡ slot.Integer (pos k) → k < n → IsKeyInto n x
+below_key n k x e h = subst (λ y. IsKeyInto n y) (sym e) h
 
 module _ (items keys xs : List Slot) (is : map (looked_up items) keys ≡ xs) where
   pub count_keys : length keys ≡ length xs
@@ -62,8 +62,8 @@ module _ (items keys xs : List Slot) (is : map (looked_up items) keys ≡ xs) wh
   pub slot_of_key : (i : ℕ) → i < length xs → slot_at xs i ≡ looked_up items (slot_at keys i)
   slot_of_key i l = rw (← is) (get_or-map (looked_up items) keys i slot.Null slot.Null (omega (arith, l, count_keys)))
 
-  pub slot_of_place : (i k : ℕ) → i < length xs → slot_at keys i ≡ slot.Integer (pos k) → slot_at xs i ≡ slot_at items k
-  slot_of_place i k l e = slot_of_key i l ∙ ap (looked_up items) e
+  pub slot_of_index : (i k : ℕ) → i < length xs → slot_at keys i ≡ slot.Integer (pos k) → slot_at xs i ≡ slot_at items k
+  slot_of_index i k l e = slot_of_key i l ∙ ap (looked_up items) e
 
   pub slot_of_none : (i : ℕ) → i < length xs → IsNoIndex (slot_at keys i) → IsKeyInto (length items) (slot_at keys i) → slot_at xs i ≡ slot.Null
   slot_of_none i l p h = slot_of_key i l ∙ ap (looked_up items) (no_key (length items) (slot_at keys i) p h)

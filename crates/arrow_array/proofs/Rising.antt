@@ -12,9 +12,9 @@ pub record OffsetsBelow (offsets : List ℤ) (n i before : ℕ) : Type 0 where
   pub last : (k : ℕ) → k + 1 ≡ i → offset_at offsets k ≡ pos before
   pub start : i ≡ 0 → before ≡ 0
 
-pub place_is : (z : ℤ) (n : ℕ) → IsWithin z n → IsIndex z
-place_is (pos a) n h = tt
-place_is (negsuc a) n h = absurd h
+pub position_is : (z : ℤ) (n : ℕ) → IsWithin z n → IsIndex z
+position_is (pos a) n h = tt
+position_is (negsuc a) n h = absurd h
 
 pub within_at : (z : ℤ) (n a : ℕ) → IsWithin z n → z ≡ pos a → a ≤ n
 within_at z n a h e = subst (λ y. IsWithin y n) e h

@@ -44,12 +44,14 @@ impl<O: Offset> Model for BinaryArray<O> {
 
     ghost view = { λ a. record {
       data_type = a.data_type;
-      slots = slots_of (binary_at (map O.number a.offsets) a.values) a.validity 0 (length (map O.number a.offsets) - 1);
+      slots = slots_of (binary_at (map O.number a.offsets) a.values) a.validity 0
+          (length (map O.number a.offsets) - 1);
       offsets = map O.number a.offsets;
       bytes = a.values;
     } };
 
-    ghost invariant = { λ a. BinaryFits (binary_type O.IS_LARGE) a.data_type (map O.number a.offsets) (length a.values) a.validity };
+    ghost invariant = { λ a. BinaryFits (binary_type O.IS_LARGE) a.data_type
+        (map O.number a.offsets) (length a.values) a.validity };
 }
 
 /// Whether this is the type of binary values with such offsets.

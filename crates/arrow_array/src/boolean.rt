@@ -35,7 +35,11 @@ impl Model for BooleanArray {
 
     ghost coded = { column_code };
 
-    ghost view = { λ a. record { data_type = a.data_type; slots = slots_of (boolean_at a.values.booleans) a.validity 0 (length a.values.booleans) } };
+    ghost view = { λ a. record {
+      data_type = a.data_type;
+      slots = slots_of (boolean_at a.values.booleans) a.validity 0
+          (length a.values.booleans);
+    } };
 
     ghost invariant = { λ a. BooleanFits a.data_type (length a.values.booleans) a.validity };
 }

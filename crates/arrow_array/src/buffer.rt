@@ -26,7 +26,8 @@ impl<T> Model for Buffer<T> {
 
     ghost view = { λ b. take b.count (drop b.start (rc_slice_items b.values)) };
 
-    ghost invariant = { λ b. (b.start + b.count ≤ length (rc_slice_items b.values)) × (b.start + b.count < 2 ^ 64) };
+    ghost invariant = { λ b. (b.start + b.count ≤ length (rc_slice_items b.values))
+        × (b.start + b.count < 2 ^ 64) };
 }
 
 /// The `count` values from index `start` on.

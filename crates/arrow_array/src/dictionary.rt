@@ -48,7 +48,8 @@ impl Model for DictionaryArray {
       items = array_slots a.values;
     } };
 
-    ghost invariant = { λ a. DictionaryFits a.data_type (keys_type a.keys) (keys_slots a.keys) (array_type a.values) (length (array_slots a.values)) };
+    ghost invariant = { λ a. DictionaryFits a.data_type (keys_type a.keys) (keys_slots a.keys)
+        (array_type a.values) (length (array_slots a.values)) };
 
     ghost size = { λ a. size-DataType a.data_type };
 

@@ -38,9 +38,14 @@ impl Model for FixedSizeBinaryArray {
 
     ghost coded = { column_code };
 
-    ghost view = { λ a. record { data_type = a.data_type; slots = slots_of (fixed_at (byte_width a.data_type) a.values) a.validity 0 (length a.values / byte_width a.data_type) } };
+    ghost view = { λ a. record {
+      data_type = a.data_type;
+      slots = slots_of (fixed_at (byte_width a.data_type) a.values) a.validity 0
+          (length a.values / byte_width a.data_type);
+    } };
 
-    ghost invariant = { λ a. FixedSizeBinaryFits a.data_type (length a.values) a.validity × (a.size ≡ byte_width a.data_type) };
+    ghost invariant = { λ a. FixedSizeBinaryFits a.data_type (length a.values) a.validity
+        × (a.size ≡ byte_width a.data_type) };
 }
 
 /// How many bytes each slot of this type has; 0 where the type isn't FixedSizeBinary.

@@ -50,11 +50,13 @@ impl Model for FixedSizeListArray {
 
     ghost view = { λ a. record {
       data_type = a.data_type;
-      slots = slots_of (fixed_list_at (list_size a.data_type) (array_slots a.values)) a.validity 0 (length (array_slots a.values) / list_size a.data_type);
+      slots = slots_of (fixed_list_at (list_size a.data_type) (array_slots a.values)) a.validity 0
+          (length (array_slots a.values) / list_size a.data_type);
       dictionaries = dictionaries_of a.values;
     } };
 
-    ghost invariant = { λ a. FixedListParts a.data_type (array_type a.values) (length (array_slots a.values)) a.validity a.size a.count };
+    ghost invariant = { λ a. FixedListParts a.data_type (array_type a.values)
+        (length (array_slots a.values)) a.validity a.size a.count };
 
     ghost size = { λ a. size-DataType a.data_type };
 

@@ -52,13 +52,15 @@ impl Model for ListArray {
 
     ghost view = { λ a. record {
       data_type = a.data_type;
-      slots = slots_of (list_at a.offsets (array_slots a.values)) a.validity 0 (length a.offsets - 1);
+      slots = slots_of (list_at a.offsets (array_slots a.values)) a.validity 0
+          (length a.offsets - 1);
       offsets = a.offsets;
       items = array_slots a.values;
       dictionaries = dictionaries_of a.values;
     } };
 
-    ghost invariant = { λ a. ListFits false a.data_type (array_type a.values) a.offsets (array_slots a.values) a.validity };
+    ghost invariant = { λ a. ListFits false a.data_type (array_type a.values) a.offsets
+        (array_slots a.values) a.validity };
 
     ghost size = { λ a. size-DataType a.data_type };
 
@@ -92,13 +94,15 @@ impl Model for LargeListArray {
 
     ghost view = { λ a. record {
       data_type = a.data_type;
-      slots = slots_of (list_at a.offsets (array_slots a.values)) a.validity 0 (length a.offsets - 1);
+      slots = slots_of (list_at a.offsets (array_slots a.values)) a.validity 0
+          (length a.offsets - 1);
       offsets = a.offsets;
       items = array_slots a.values;
       dictionaries = dictionaries_of a.values;
     } };
 
-    ghost invariant = { λ a. ListFits true a.data_type (array_type a.values) a.offsets (array_slots a.values) a.validity };
+    ghost invariant = { λ a. ListFits true a.data_type (array_type a.values) a.offsets
+        (array_slots a.values) a.validity };
 
     ghost size = { λ a. size-DataType a.data_type };
 

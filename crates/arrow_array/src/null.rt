@@ -32,7 +32,10 @@ impl Model for NullArray {
 
     ghost coded = { column_code };
 
-    ghost view = { λ a. record { data_type = a.data_type; slots = slots_of null_at None 0 a.count } };
+    ghost view = { λ a. record {
+      data_type = a.data_type;
+      slots = slots_of null_at None 0 a.count;
+    } };
 
     ghost invariant = { λ a. a.data_type ≡ Null };
 }

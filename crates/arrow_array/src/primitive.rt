@@ -36,7 +36,11 @@ impl<T: NativeType> Model for PrimitiveArray<T> {
 
     ghost coded = { column_code };
 
-    ghost view = { λ a. record { data_type = a.data_type; slots = slots_of (native_at T.native_slot a.values) a.validity 0 (length a.values) } };
+    ghost view = { λ a. record {
+      data_type = a.data_type;
+      slots = slots_of (native_at T.native_slot a.values) a.validity 0
+          (length a.values);
+    } };
 
     ghost invariant = { λ a. PrimitiveFits T.PRIMITIVE a.data_type (length a.values) a.validity };
 }

@@ -45,12 +45,14 @@ impl<O: Offset> Model for Utf8Array<O> {
 
     ghost view = { λ a. record {
       data_type = a.data_type;
-      slots = slots_of (utf8_at (map O.number a.offsets) a.values) a.validity 0 (length (map O.number a.offsets) - 1);
+      slots = slots_of (utf8_at (map O.number a.offsets) a.values) a.validity 0
+          (length (map O.number a.offsets) - 1);
       offsets = map O.number a.offsets;
       bytes = a.values;
     } };
 
-    ghost invariant = { λ a. Utf8Fits (utf8_type O.IS_LARGE) a.data_type (map O.number a.offsets) a.values a.validity };
+    ghost invariant = { λ a. Utf8Fits (utf8_type O.IS_LARGE) a.data_type
+        (map O.number a.offsets) a.values a.validity };
 }
 
 /// Whether this is the type of strings with such offsets.

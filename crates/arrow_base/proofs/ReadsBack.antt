@@ -23,14 +23,14 @@ is_value-true None n h = absurd h
 is_value-true (Some m) n h = ap (λ x. Some x) (grind (arith, nat_tests, h))
 
 -- the digits of a control character encode it
-digits-spell : (byte : ℕ) → byte < 32 → hexadecimal 48 48 (digit_char (byte / 16)) (digit_char (byte % 16)) ≡ Some byte
+digits-encode : (byte : ℕ) → byte < 32 → hexadecimal 48 48 (digit_char (byte / 16)) (digit_char (byte % 16)) ≡ Some byte
 unfolding hexadecimal passes_below
-digits-spell byte l =
+digits-encode byte l =
     is_value-true _ byte (passes-at (λ (b : ℕ). is_value (hexadecimal 48 48 (digit_char (b / 16)) (digit_char (b % 16))) b) 32 tt byte l)
 
 escaped-control : (byte : ℕ) → byte < 32 → IsChar (92 ∷ 117 ∷ 48 ∷ 48 ∷ digit_char (byte / 16) ∷ digit_char (byte % 16) ∷ []) (byte ∷ [])
 escaped-control byte l =
-    inr (inr (inl (byte, (48, 48, digit_char (byte / 16), digit_char (byte % 16), refl, digits-spell byte l), sym (encode_ascii byte (omega (arith, l))), grind (arith, nat_tests, l), grind (arith, nat_tests, l))))
+    inr (inr (inl (byte, (48, 48, digit_char (byte / 16), digit_char (byte % 16), refl, digits-encode byte l), sym (encode_ascii byte (omega (arith, l))), grind (arith, nat_tests, l), grind (arith, nat_tests, l))))
 
 pub escaped-char : (byte : ℕ) → IsChar (escaped byte) (byte ∷ [])
 unfolding is_unescaped short_escape

@@ -30,7 +30,8 @@ impl Model for Bitmap {
 
     ghost view = { λ b. packed_of (rc_slice_items b.words) b.start b.count };
 
-    ghost invariant = { λ b. (b.start + b.count ≤ 64 * length (rc_slice_items b.words)) × (b.start + b.count < 2 ^ 64) };
+    ghost invariant = { λ b. (b.start + b.count ≤ 64 * length (rc_slice_items b.words))
+        × (b.start + b.count < 2 ^ 64) };
 }
 
 /// Sets bit `i` of the words.

@@ -38,9 +38,9 @@ lists_stay s (Some n ∷ lens) xs ys le =
     let r = lists_stay (s + n) lens xs ys (omega (arith, le)) in
     rw (a, r) refl
 
-pub drop_front : (xs ys : List Slot) → drop (length xs) (xs ++ ys) ≡ ys
-drop_front [] ys = refl
-drop_front (x ∷ xs) ys = drop_front xs ys
+pub drop_prefix : (xs ys : List Slot) → drop (length xs) (xs ++ ys) ≡ ys
+drop_prefix [] ys = refl
+drop_prefix (x ∷ xs) ys = drop_prefix xs ys
 
 -- ---- structs
 

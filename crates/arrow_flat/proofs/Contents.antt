@@ -96,21 +96,21 @@ module _ (holds : List ℕ → Type 0) (make : List ℕ → Slot) (ps qs : List 
   contents_at-push ts b l = slots_of-push (content_at make ps bs) (content_at make qs (bs ++ more)) ts n b (make more) l
       (λ k p. ap make (old_part k p)) (ap make new_part)
 
-module _ {X : Type 0} (holds : List ℕ → Type 0) (make : List ℕ → Slot) (place : X → ℤ) (os ns : List X) (o : X) (bs all more : List ℕ) (ts ss : List Bool) (b : Bool) (m : ℕ)
-    (h : HoldContents holds (map place os) bs (length ts)) (e : ns ≡ os ++ o ∷ []) (p : place o ≡ pos m) (a : all ≡ bs ++ more) (d : m ≡ length bs + length more) (s : ss ≡ ts ++ b ∷ []) where
-  places : map place ns ≡ map place os ++ pos m ∷ []
-  places = rw e (map-append place os (o ∷ []) ∙ rw p refl)
+module _ {X : Type 0} (holds : List ℕ → Type 0) (make : List ℕ → Slot) (number : X → ℤ) (os ns : List X) (o : X) (bs all more : List ℕ) (ts ss : List Bool) (b : Bool) (m : ℕ)
+    (h : HoldContents holds (map number os) bs (length ts)) (e : ns ≡ os ++ o ∷ []) (p : number o ≡ pos m) (a : all ≡ bs ++ more) (d : m ≡ length bs + length more) (s : ss ≡ ts ++ b ∷ []) where
+  numbers : map number ns ≡ map number os ++ pos m ∷ []
+  numbers = rw e (map-append number os (o ∷ []) ∙ rw p refl)
 
-  pub hold_more : holds more → HoldContents holds (map place ns) all (length ss)
-  hold_more u = rw (a, s) (rw (length_push ts b) (HoldContents-push holds make (map place os) (map place ns) bs more (length ts) m h places d u))
+  pub hold_more : holds more → HoldContents holds (map number ns) all (length ss)
+  hold_more u = rw (a, s) (rw (length_push ts b) (HoldContents-push holds make (map number os) (map number ns) bs more (length ts) m h numbers d u))
 
-  pub show_more : slots_of (content_at make (map place ns) all) (Some (mask_of ss)) 0 (length ss) ≡ slots_of (content_at make (map place os) bs) (Some (mask_of ts)) 0 (length ts) ++ (cond b (make more) slot.Null) ∷ []
-  show_more = rw (a, s) (rw (length_push ts b) (contents_at-push holds make (map place os) (map place ns) bs more (length ts) m h places d ts b refl))
+  pub show_more : slots_of (content_at make (map number ns) all) (Some (mask_of ss)) 0 (length ss) ≡ slots_of (content_at make (map number os) bs) (Some (mask_of ts)) 0 (length ts) ++ (cond b (make more) slot.Null) ∷ []
+  show_more = rw (a, s) (rw (length_push ts b) (contents_at-push holds make (map number os) (map number ns) bs more (length ts) m h numbers d ts b refl))
 
 -- without slots there is one offset, 0
-pub HoldContents-cut : {X : Type 0} (holds : List ℕ → Type 0) (place : X → ℤ) (os : List X) (bs : List ℕ) (n : ℕ) → HoldContents holds (map place os) bs n → HoldContents holds (map place (take 1 os)) [] 0
-HoldContents-cut holds place [] bs n h = absurd (omega (arith, h.count))
-HoldContents-cut holds place (o ∷ os) bs n h = record {
+pub HoldContents-cut : {X : Type 0} (holds : List ℕ → Type 0) (number : X → ℤ) (os : List X) (bs : List ℕ) (n : ℕ) → HoldContents holds (map number os) bs n → HoldContents holds (map number (take 1 os)) [] 0
+HoldContents-cut holds number [] bs n h = absurd (omega (arith, h.count))
+HoldContents-cut holds number (o ∷ os) bs n h = record {
   count = refl;
   first = h.first;
   last = h.first;
@@ -119,5 +119,5 @@ HoldContents-cut holds place (o ∷ os) bs n h = record {
 }
 
 -- there is one offset more than there are slots
-pub HoldContents-count : {X : Type 0} (holds : List ℕ → Type 0) (place : X → ℤ) (os : List X) (bs : List ℕ) (n : ℕ) → HoldContents holds (map place os) bs n → length os ≡ n + 1
-HoldContents-count holds place os bs n h = omega (arith, length-map os place, h.count)
+pub HoldContents-count : {X : Type 0} (holds : List ℕ → Type 0) (number : X → ℤ) (os : List X) (bs : List ℕ) (n : ℕ) → HoldContents holds (map number os) bs n → length os ≡ n + 1
+HoldContents-count holds number os bs n h = omega (arith, length-map os number, h.count)

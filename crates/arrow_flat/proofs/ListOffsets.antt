@@ -122,36 +122,36 @@ slots_from-rest xs s h =
 
 -- ---- offsets that are kept as values of a type of offsets
 
-module _ {X : Type 0} (is_large : Bool) (place : X → ℤ) (os : List X) (ts : List Bool) (ls : List (Option ℕ)) (h : HoldLists is_large (map place os) ts ls) where
+module _ {X : Type 0} (is_large : Bool) (number : X → ℤ) (os : List X) (ts : List Bool) (ls : List (Option ℕ)) (h : HoldLists is_large (map number os) ts ls) where
   pub hold_length : length ts ≡ length ls
   hold_length = omega (arith, ap length h.booleans_are, length-map ls is_some)
 
   -- there is one offset more than there are lists
   pub hold_count : length os ≡ length ts + 1
-  hold_count = omega (arith, hold_length, length-map os place, ap length h.offsets_are, length-offsets ls)
+  hold_count = omega (arith, hold_length, length-map os number, ap length h.offsets_are, length-offsets ls)
 
   -- the last offset is the end of the last list
-  pub hold_end : (o : X) → o ≡ get_or os (length ts) o → place o ≡ pos (items_of ls)
+  pub hold_end : (o : X) → o ≡ get_or os (length ts) o → number o ≡ pos (items_of ls)
   hold_end o e =
-      ap place e ∙ sym (get_or-map place os (length ts) o (place o) (omega (arith, hold_count)))
-      ∙ ap (λ (zs : List ℤ). get_or zs (length ts) (place o)) h.offsets_are
-      ∙ ap (λ n. get_or (offsets_of ls) n (place o)) hold_length ∙ last_offset ls (place o)
+      ap number e ∙ sym (get_or-map number os (length ts) o (number o) (omega (arith, hold_count)))
+      ∙ ap (λ (zs : List ℤ). get_or zs (length ts) (number o)) h.offsets_are
+      ∙ ap (λ n. get_or (offsets_of ls) n (number o)) hold_length ∙ last_offset ls (number o)
 
 -- without lists there is one offset, 0
-pub hold_none : {X : Type 0} (is_large : Bool) (place : X → ℤ) (os : List X) (ts : List Bool) (ls : List (Option ℕ)) → HoldLists is_large (map place os) ts ls → map place (take 1 os) ≡ pos 0 ∷ []
-hold_none is_large place [] ts ls h = absurd (omega (arith, ap length h.offsets_are, length-offsets ls))
-hold_none is_large place (o ∷ os) ts ls h = let e : place o ≡ pos 0 = cc_head (place o) (map place os) (ends_from 0 ls) h.offsets_are in rw e refl
+pub hold_none : {X : Type 0} (is_large : Bool) (number : X → ℤ) (os : List X) (ts : List Bool) (ls : List (Option ℕ)) → HoldLists is_large (map number os) ts ls → map number (take 1 os) ≡ pos 0 ∷ []
+hold_none is_large number [] ts ls h = absurd (omega (arith, ap length h.offsets_are, length-offsets ls))
+hold_none is_large number (o ∷ os) ts ls h = let e : number o ≡ pos 0 = cc_head (number o) (map number os) (ends_from 0 ls) h.offsets_are in rw e refl
   where
     cc_head : (a : ℤ) (ps bs : List ℤ) → a ∷ ps ≡ pos 0 ∷ bs → a ≡ pos 0
     cc_head a ps bs e = cc
 
 -- the offset of one value more
-pub places-push : {X : Type 0} (place : X → ℤ) (os us : List X) (o : X) (m : ℕ) → us ≡ os ++ o ∷ [] → place o ≡ pos m → map place us ≡ map place os ++ pos m ∷ []
-places-push place os us o m e p = rw e (map-append place os (o ∷ []) ∙ rw p refl)
+pub numbers-push : {X : Type 0} (number : X → ℤ) (os us : List X) (o : X) (m : ℕ) → us ≡ os ++ o ∷ [] → number o ≡ pos m → map number us ≡ map number os ++ pos m ∷ []
+numbers-push number os us o m e p = rw e (map-append number os (o ∷ []) ∙ rw p refl)
 
 -- what a node of lists holds, by the validity of the lists
-pub view_len : {X : Type 0} (is_large : Bool) (place : X → ℤ) (os : List X) (ts : List Bool) → HoldLists is_large (map place os) ts (lens_of (map place os) ts) → length (lens_of (map place os) ts) ≡ length ts
-view_len is_large place os ts h = sym (hold_length is_large place os ts (lens_of (map place os) ts) h)
+pub view_len : {X : Type 0} (is_large : Bool) (number : X → ℤ) (os : List X) (ts : List Bool) → HoldLists is_large (map number os) ts (lens_of (map number os) ts) → length (lens_of (map number os) ts) ≡ length ts
+view_len is_large number os ts h = sym (hold_length is_large number os ts (lens_of (map number os) ts) h)
 
 -- one list more, of all the items that there are after the last
 pub list-rest : (ls : List (Option ℕ)) (xs : List Slot) (n : ℕ) → n ≡ length xs → items_of ls ≤ n → lists_from 0 (ls ++ Some (n - items_of ls) ∷ []) xs ≡ lists_from 0 ls xs ++ slot.List (drop (items_of ls) xs) ∷ []

@@ -47,7 +47,8 @@ impl Model for MutableBooleanArray {
       spare = min b.values.spare b.validity.spare;
     } };
 
-    ghost invariant = { λ b. (length b.values.items ≡ length b.validity.items) × (b.data_type ≡ Boolean) };
+    ghost invariant = { λ b. (length b.values.items ≡ length b.validity.items)
+        × (b.data_type ≡ Boolean) };
 }
 
 impl Container for MutableBooleanArray {

@@ -65,13 +65,15 @@ impl<C: Content, O: Offset> Model for MutableContentArray<C, O> {
 
     ghost view = { λ b. record {
       data_type = b.data_type;
-      slots = slots_where b.validity.items (content_at C.slot (map O.number b.offsets.items) b.values.items);
+      slots = slots_where b.validity.items
+          (content_at C.slot (map O.number b.offsets.items) b.values.items);
       spare = min (vec_capacity b.offsets - (length b.validity.items + 1)) b.validity.spare;
       bytes = length b.values.items;
       byte_spare = vec_capacity b.values - length b.values.items;
     } };
 
-    ghost invariant = { λ b. HoldContents C.holds (map O.number b.offsets.items) b.values.items (length b.validity.items)
+    ghost invariant = { λ b.
+        HoldContents C.holds (map O.number b.offsets.items) b.values.items (length b.validity.items)
         × (length b.values.items ≤ greatest_offset O.IS_LARGE)
         × (b.data_type ≡ C.content_type O.IS_LARGE) };
 }

@@ -47,7 +47,8 @@ impl Model for FixedItemsUtf8Dictionary {
 
     ghost invariant = { λ b. (b.data_type ≡ utf8_dictionary_type)
         × (b.keys.data_type ≡ Int32Type)
-        × ((i : ℕ) → i < length b.keys.slots → IsKeyInto (length b.values.slots) (slot_at b.keys.slots i)) };
+        × ((i : ℕ) → i < length b.keys.slots
+        → IsKeyInto (length b.values.slots) (slot_at b.keys.slots i)) };
 }
 
 // The type of dictionaries with keys of 32 bits over Utf8.

@@ -45,7 +45,8 @@ impl<T: NativeType> Model for MutablePrimitiveArray<T> {
       spare = min (vec_capacity b.values - length b.validity.items) b.validity.spare;
     } };
 
-    ghost invariant = { λ b. (length b.values.items ≡ length b.validity.items) × IsPlain T.PRIMITIVE b.data_type };
+    ghost invariant = { λ b. (length b.values.items ≡ length b.validity.items)
+        × IsPlain T.PRIMITIVE b.data_type };
 }
 
 /// The type of a builder of such values, where no other is asked for.

@@ -28,7 +28,8 @@ impl NativeType for MonthsDaysNs {
 
     ghost numbers = { λ x. x.months ∷ x.days ∷ x.ns ∷ [] };
 
-    ghost native_slot = { λ x. slot.Struct (slot.Integer x.months ∷ slot.Integer x.days ∷ slot.Integer x.ns ∷ []) };
+    ghost native_slot = { λ x.
+        slot.Struct (slot.Integer x.months ∷ slot.Integer x.days ∷ slot.Integer x.ns ∷ []) };
 
     fn zero() -> MonthsDaysNs {
         MonthsDaysNs {

@@ -11,7 +11,7 @@ use Rattle.avro_container.specs.File.{FileBlock, IsFileBlock, Sequence, none, on
 use Rattle.avro_container.specs.Laws.{told}
 use Rattle.avro_container.specs.Taking.{State, SizeFalls}
 use Rattle.avro_container.proofs.Complete.{block_is_read, no_bytes_are_end}
-use Rattle.avro_container.proofs.OneFile.{block_reads, block_some, front_none}
+use Rattle.avro_container.proofs.OneFile.{block_reads, block_some, prefix_none}
 use Rattle.avro_blocks.specs.Changes.{Change, change_of, CameFromOutside}
 use Rattle.avro_blocks.specs.Written.{WritesBlocks, WrongBlock, BlockFails, StopsAtBlock}
 use Rattle.avro_blocks.proofs.Steps.{rose_from}
@@ -43,7 +43,7 @@ file_block_reads m a b x y v w p q e =
 split : (marker a b rest : List ℕ) (xs ys : List FileBlock) → Sequence (IsFileBlock marker) a xs → Sequence (IsFileBlock marker) b ys → b ≡ a ++ rest
     → (zs : List FileBlock) × (ys ≡ xs ++ zs) × Sequence (IsFileBlock marker) rest zs
 split marker a b rest xs ys none s e = (ys, refl, subst (λ z. Sequence (IsFileBlock marker) z ys) e s)
-split marker a b rest xs ys (one q r x more h t) none e = absurd (block_some marker q x h (front_none q (r ++ rest) (sym (e ∙ append_assoc q r rest))))
+split marker a b rest xs ys (one q r x more h t) none e = absurd (block_some marker q x h (prefix_none q (r ++ rest) (sym (e ∙ append_assoc q r rest))))
 split marker a b rest xs ys (one q r x more h t) (one p s y others g u) e =
     let both : p ++ s ≡ q ++ (r ++ rest) = e ∙ append_assoc q r rest in
     let here = file_block_reads marker p q s (r ++ rest) y x g h both in
@@ -74,7 +74,7 @@ module _ (Shows : FileBlock → List ℕ → Type 0) (Wrong : FileBlock → Erro
   next_wrong rest zs faults limit new e s good w = from rest zs s good (consumed_some rest w.passed.0 new.left w.passed.1.consumed)
     where
       from : (rest : List ℕ) (zs : List FileBlock) → Sequence (IsFileBlock marker) rest zs → All Good zs → (more : List ℕ) × (new.left ≡ Some more) × (rest ≡ w.passed.0 ++ more) → e ≡ OutOfMemory
-      from rest zs none good t = absurd (block_some marker w.passed.0 w.block w.passed.2 (front_none w.passed.0 t.0 (sym t.2)))
+      from rest zs none good t = absurd (block_some marker w.passed.0 w.block w.passed.2 (prefix_none w.passed.0 t.0 (sym t.2)))
       from rest zs (one q r x more g u) good t =
           let here = file_block_reads marker w.passed.0 q t.0 r w.block x w.passed.2 g (sym t.2) in
           good_block w.block e (subst Good (sym here.1) (good 0 x (omega arith))) w.wrong

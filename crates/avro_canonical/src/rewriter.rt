@@ -54,7 +54,8 @@ impl Model for BlockRewriter {
 
     ghost view = { λ r. record { decoder = r.decoder; fields = r.fields; marker = r.marker } };
 
-    ghost invariant = { λ r. IsRewriter r.may_copy (record { decoder = r.decoder; fields = r.fields; marker = r.marker }) };
+    ghost invariant = { λ r. IsRewriter r.may_copy
+        (record { decoder = r.decoder; fields = r.fields; marker = r.marker }) };
 }
 
 /// A decoder of blocks of these Avro fields that keeps all of them.

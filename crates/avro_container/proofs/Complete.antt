@@ -18,7 +18,7 @@ use Rattle.avro_container.specs.Forms.{Form, raw}
 use Rattle.avro_container.specs.Laws.{Settles, told, NoPrefix, NoPrefixWithin, BeginsWith, NamesNoSchema, NamesOtherCodec}
 use Rattle.avro_container.specs.ReadHeader.{Broken, BrokenHeader, OtherCodec, NoHeader}
 use Rattle.avro_container.specs.Taking.{State, TakesPast, Passed, Stopped}
-use Rattle.avro_container.proofs.OneFile.{block_reads, header_reads, groups_some, front_none, block_some}
+use Rattle.avro_container.proofs.OneFile.{block_reads, header_reads, groups_some, prefix_none, block_some}
 use Rattle.avro_container.proofs.Settled.{block_settles, meaning_settles, raw_settles}
 use Rattle.avro_container.proofs.SettledBlocks.{header_settles}
 use Rattle.avro_container.proofs.Taken.{second_stops, both_pass}
@@ -84,16 +84,16 @@ no_end (b ∷ a) x e = cc
 wrong_some : (b : List ℕ) → marked_block.wrong b → b ≡ [] → ⊥
 wrong_some b (inl (inl n)) e = no_end n.prefix n.last (sym n.joined ∙ e)
 wrong_some b (inl (inr (v, n, r))) e = groups_some b n.groups e
-wrong_some b (inr w) e = groups_some w.prefix w.first.encoded.groups (front_none w.prefix w.back (sym w.joined ∙ e))
+wrong_some b (inr w) e = groups_some w.prefix w.first.encoded.groups (prefix_none w.prefix w.back (sym w.joined ∙ e))
 
 pub container_cause : (m all : List ℕ) (f limit : ℕ) (new : State) → Stopped marked_block (told all f limit) new stop.Wrong ⊎ CutShort (told all f limit) new → NoPrefix MarkedBlock all × (all ≡ [] → ⊥)
 container_cause m all f limit new (inl h) =
     let t = taken_of all h.0 new.left h.1.0.consumed in
-    (λ prefix rest v split whole. never_wrong marked_block block_settles all prefix rest v f limit new split whole h, λ e. wrong_some h.0 h.1.1 (front_none h.0 t.0 (sym t.1 ∙ e)))
+    (λ prefix rest v split whole. never_wrong marked_block block_settles all prefix rest v f limit new split whole h, λ e. wrong_some h.0 h.1.1 (prefix_none h.0 t.0 (sym t.1 ∙ e)))
 container_cause m all f limit new (inr h) =
     let t = taken_of all h.taken new.left h.takes.consumed in (
       λ prefix rest v split whole. never_ended_in marked_block block_settles all prefix rest v f limit new split whole h.taken h.takes.consumed h.begun h.ended,
-      λ e. (let n : length h.taken ≡ 0 = ap length (front_none h.taken t.0 (sym t.1 ∙ e)) in omega (arith, n, h.some)),
+      λ e. (let n : length h.taken ≡ 0 = ap length (prefix_none h.taken t.0 (sym t.1 ∙ e)) in omega (arith, n, h.some)),
     )
 
 pub block_limit_cause : (m all : List ℕ) (f limit : ℕ) (new : State) → Stopped marked_block (told all f limit) new stop.Limit → NoPrefixWithin limit MarkedBlock all
@@ -113,12 +113,12 @@ module _ (m : List ℕ) (f limit : ℕ) (new : State) where
   none_left = told [] f limit
 
   no_block : (x : FileBlock) (n : List ℕ) → Passed marked_block none_left new (x, n) → ⊥
-  no_block x n h = let t = taken_of [] h.0 new.left h.1.consumed in block_some n h.0 x h.2 (front_none h.0 t.0 (sym t.1))
+  no_block x n h = let t = taken_of [] h.0 new.left h.1.consumed in block_some n h.0 x h.2 (prefix_none h.0 t.0 (sym t.1))
 
   not_past : (taken : List ℕ) → TakesPast none_left new taken → ⊥
   not_past taken h =
       let t = taken_of [] (taken ++ h.byte ∷ []) new.left h.consumed in
-      no_end taken h.byte (front_none (taken ++ h.byte ∷ []) t.0 (sym t.1))
+      no_end taken h.byte (prefix_none (taken ++ h.byte ∷ []) t.0 (sym t.1))
 
   module _ (steady : RoseOrFull f new.faults → ⊥) where
     no_error : (e : Error) → NoBlock m none_left new e → e ≡ OutOfMemory

@@ -11,8 +11,8 @@ use Rattle.avro_container.specs.Taking.{State, Takes, Passed, Stopped}
 use Rattle.avro_container.proofs.Taken.{takes_more, meaning_passes, meaning_fails}
 use Rattle.avro_container.specs.declared.parts.Stop.TheVariants as stop
 
-split_front : (n m : ℕ) (xs : List ℕ) → n ≤ m → take n (take m xs) ≡ take n xs
-split_front n m xs l = take-take n m xs l
+split_prefix : (n m : ℕ) (xs : List ℕ) → n ≤ m → take n (take m xs) ≡ take n xs
+split_prefix n m xs l = take-take n m xs l
 
 regroup : (a b c d e : List ℕ) → (a ++ ((b ++ c) ++ d)) ++ e ≡ (a ++ b) ++ (c ++ (d ++ e))
 regroup a b c d e =
@@ -25,7 +25,7 @@ written at n len xs buffer rest more l m k =
     let size : length prefix ≡ at + n = length-append (take at xs) (take n buffer) ∙ (λ i. length-take-le at xs l i + length-take-le n buffer m i) in
     let shape : (take at xs ++ (buffer ++ rest)) ++ more ≡ prefix ++ (drop n buffer ++ (rest ++ more)) =
     ap (λ (z : List ℕ). (take at xs ++ (z ++ rest)) ++ more) (sym (take-append-drop n buffer)) ∙ regroup (take at xs) (take n buffer) (drop n buffer) rest more in
-    split_front (at + n) len _ k ∙ ap (take (at + n)) shape ∙ take_at prefix _ (at + n) size
+    split_prefix (at + n) len _ k ∙ ap (take (at + n)) shape ∙ take_at prefix _ (at + n) size
 
 pub filling : (a b c : State) (at n : ℕ) (old new : List ℕ) → Takes a b (take at old) → TakesMore b c (take at old) (take (at + n) new) → Takes a c (take (at + n) new)
 filling a b c at n old new p q = subst (Takes a c) (sym q.appended) (takes_more a b c (take at old) q.taken p q.takes)

@@ -46,17 +46,17 @@ pub groups_some : (b : List ℕ) → AreGroups b → b ≡ [] → ⊥
 groups_some [] h e = h
 groups_some (x ∷ b) h e = absurd cc
 
-pub front_none : (a b : List ℕ) → a ++ b ≡ [] → a ≡ []
-front_none [] b e = refl
-front_none (x ∷ a) b e = absurd cc
+pub prefix_none : (a b : List ℕ) → a ++ b ≡ [] → a ≡ []
+prefix_none [] b e = refl
+prefix_none (x ∷ a) b e = absurd cc
 
 pub block_some : (m b : List ℕ) (x : FileBlock) → IsFileBlock m b x → b ≡ [] → ⊥
-block_some m b x h e = groups_some h.prefix h.first.encoded.groups (front_none h.prefix h.back (sym h.joined ∙ e))
+block_some m b x h e = groups_some h.prefix h.first.encoded.groups (prefix_none h.prefix h.back (sym h.joined ∙ e))
 
 run_one : {A : Type 0} (P : Grammar A) → Reads P → ((b : List ℕ) (x : A) → P b x → b ≡ [] → ⊥) → (a b : List ℕ) (v w : List A) → Sequence P a v → Sequence P b w → a ≡ b → v ≡ w
 run_one P rp some a b v w none none e = refl
-run_one P rp some a b v w none (one f r x xs p h) e = absurd (some f x p (front_none f r (sym e)))
-run_one P rp some a b v w (one f r x xs p h) none e = absurd (some f x p (front_none f r e))
+run_one P rp some a b v w none (one f r x xs p h) e = absurd (some f x p (prefix_none f r (sym e)))
+run_one P rp some a b v w (one f r x xs p h) none e = absurd (some f x p (prefix_none f r e))
 run_one P rp some a b v w (one f r x xs p h) (one g s y ys q k) e =
     let here = rp f g r s x y p q e in
     let e2 : r ≡ s = append_cancel_left g r s (ap (λ (z : List ℕ). z ++ r) (sym here.0) ∙ e) in

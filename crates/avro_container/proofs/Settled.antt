@@ -100,7 +100,7 @@ raw_settles n = record { whole_or_wrong = λ a b x y v p w e. w; whole_or_begun 
 number_whole_or_wrong : (a b x y : List ℕ) (v : ℤ) → Number a v → NotANumber b → a ++ x ≡ b ++ y → ⊥
 number_whole_or_wrong a b x y v n w e =
     elim (cases_lt (length a) 10) [
-      | inl short ↦ short_front a w.prefix x (w.last ∷ y) n.groups w.high (omega (arith, short, w.nine)) e2
+      | inl short ↦ short_prefix a w.prefix x (w.last ∷ y) n.groups w.high (omega (arith, short, w.nine)) e2
       | inr long ↦
           let ten : length a ≡ length b = omega (arith, long, n.short, ap length w.joined, length-append w.prefix (w.last ∷ []), w.nine) in
           let same : a ≡ w.prefix ++ w.last ∷ [] = same_length a b x y ten e ∙ w.joined in
@@ -110,11 +110,11 @@ number_whole_or_wrong a b x y v n w e =
     e2 : a ++ x ≡ w.prefix ++ (w.last ∷ y)
     e2 = e ∙ ap (λ (z : List ℕ). z ++ y) w.joined ∙ append_assoc w.prefix (w.last ∷ []) y
 
-    short_front : (a p x y : List ℕ) → AreGroups a → AllHigh p → length a ≤ length p → a ++ x ≡ p ++ y → ⊥
-    short_front [] p x y g h l e = g
-    short_front (b ∷ a) [] x y g h l e = omega (arith, l)
-    short_front (b ∷ []) (c ∷ p) x y g h l e = let s : b ≡ c = head_is e in omega (arith, s, g, h.0)
-    short_front (b ∷ d ∷ a) (c ∷ p) x y g h l e = short_front (d ∷ a) p x y g.2 h.2 (omega (arith, l)) (tail_is e)
+    short_prefix : (a p x y : List ℕ) → AreGroups a → AllHigh p → length a ≤ length p → a ++ x ≡ p ++ y → ⊥
+    short_prefix [] p x y g h l e = g
+    short_prefix (b ∷ a) [] x y g h l e = omega (arith, l)
+    short_prefix (b ∷ []) (c ∷ p) x y g h l e = let s : b ≡ c = head_is e in omega (arith, s, g, h.0)
+    short_prefix (b ∷ d ∷ a) (c ∷ p) x y g h l e = short_prefix (d ∷ a) p x y g.2 h.2 (omega (arith, l)) (tail_is e)
 
     too_large : (p : List ℕ) (b : ℕ) → AllHigh p → length p ≡ 9 → 1 < b → AreGroups (p ++ b ∷ []) → unsigned (p ++ b ∷ []) < 2 ^ 64 → ⊥
     too_large p b h nine big g fits =

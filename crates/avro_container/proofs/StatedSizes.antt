@@ -25,9 +25,9 @@ within : (s n : ℕ) (r : Option ℕ) → SizeFalls (Some s) r n → n ≤ s
 within s n None h = absurd h
 within s n (Some k) h = omega (arith, h)
 
-room_left : (s n k : ℕ) (r : Option ℕ) → r ≡ Some k → SizeFalls (Some s) r n → s ≡ n + k
-room_left s n k None is h = absurd cc
-room_left s n k (Some m) is h = let same : m ≡ k = cc in omega (arith, h, same)
+size_left_is : (s n k : ℕ) (r : Option ℕ) → r ≡ Some k → SizeFalls (Some s) r n → s ≡ n + k
+size_left_is s n k None is h = absurd cc
+size_left_is s n k (Some m) is h = let same : m ≡ k = cc in omega (arith, h, same)
 
 module _ {A : Type 0} (P : Form A) (s : ℕ) (l l2 : Option (List ℕ)) (f f2 m m2 : ℕ) (r : Option ℕ) where
   abbrev from : State
@@ -38,12 +38,12 @@ module _ {A : Type 0} (P : Form A) (s : ℕ) (l l2 : Option (List ℕ)) (f f2 m 
 
   pub under_passes : (x : A) → r ≡ Some 0 → Passed P from to x → Passed (under (pos s) P) (outside from) (outside to) x
   under_passes x is p =
-      let all : s ≡ length p.0 = room_left s (length p.0) 0 r is p.1.size_left ∙ omega arith in
+      let all : s ≡ length p.0 = size_left_is s (length p.0) 0 r is p.1.size_left ∙ omega arith in
       (p.0, takes_outside from to p.0 p.1, (ap pos all, p.2))
 
   pub under_short : (x : A) (k : ℕ) → r ≡ Some k → 0 < k → Passed P from to x → Stopped (under (pos s) P) (outside from) (outside to) stop.Wrong
   under_short x k is some p =
-      let all : s ≡ length p.0 + k = room_left s (length p.0) k r is p.1.size_left in
+      let all : s ≡ length p.0 + k = size_left_is s (length p.0) k r is p.1.size_left in
       (p.0, (takes_outside from to p.0 p.1, inr (s, refl, inr (inl (omega (arith, all, some), x, p.2)))))
 
   pub under_stops : (e : Stop) → Stopped P from to e → Stopped (under (pos s) P) (outside from) (outside to) (outer e)

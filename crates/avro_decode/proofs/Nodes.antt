@@ -40,12 +40,12 @@ reach_after large true false m n k x y f w le h = (omega (arith, h.0, f.slots_ad
 reach_after large false true m n k x y f w le h = let e : false ≡ true = w refl in absurd cc
 reach_after large false false m n k x y f w le h = (omega (arith, h.0, f.1.slots_added, le), tt)
 
-room_after : (p : Bool) (m n k : ℕ) (x y : Node) → Fills p k x y → p ≡ true → k + n ≤ m → HasSpare m x → HasSpare n y
-room_after true m n k x y f e le h = record {
+spare_after_move : (p : Bool) (m n k : ℕ) (x y : Node) → Fills p k x y → p ≡ true → k + n ≤ m → HasSpare m x → HasSpare n y
+spare_after_move true m n k x y f e le h = record {
   slots = omega (arith, le, h.slots, f.slots_added, f.slot_capacity);
   bytes = omega (arith, le, h.bytes, f.bytes_added, f.byte_capacity);
 }
-room_after false m n k x y f e le h = absurd cc
+spare_after_move false m n k x y f e le h = absurd cc
 
 -- ---- nodes in preorder
 
@@ -185,12 +185,12 @@ pub both_below : (a b : Bool) → (greatest_offset (a && b) ≤ greatest_offset 
 both_below true b = (large_above b, omega arith)
 both_below false b = (omega arith, small_below b)
 
-room_less : (m n : ℕ) (x : Node) → n ≤ m → HasSpare m x → HasSpare n x
-room_less m n x le h = record { slots = omega (arith, le, h.slots); bytes = omega (arith, le, h.bytes) }
+node_spare_less : (m n : ℕ) (x : Node) → n ≤ m → HasSpare m x → HasSpare n x
+node_spare_less m n x le h = record { slots = omega (arith, le, h.slots); bytes = omega (arith, le, h.bytes) }
 
 pub spare_fewer : (ms ns : List Bool) (m n : ℕ) (xs : List Node) → Fewer ms ns → n ≤ m → HaveSpare ms m xs → HaveSpare ns n xs
 spare_fewer ms ns m n [] w le h = tt
-spare_fewer ms ns m n (x ∷ xs) w le h = (fewer_bounded ms ns w h.0, room_less m n x le h.1, spare_fewer (later ms) (later ns) m n xs (fewer_later ms ns w) le h.2)
+spare_fewer ms ns m n (x ∷ xs) w le h = (fewer_bounded ms ns w h.0, node_spare_less m n x le h.1, spare_fewer (later ms) (later ns) m n xs (fewer_later ms ns w) le h.2)
 
 pub spare_less : (ms : List Bool) (m n : ℕ) (xs : List Node) → n ≤ m → HaveSpare ms m xs → HaveSpare ms n xs
 spare_less ms m n xs le h = spare_fewer ms ms m n xs (fewer_same ms) le h
@@ -199,7 +199,7 @@ pub spare_after : (ms : List Bool) (m n k : ℕ) (xs ys : List Node) → AllFill
 spare_after ms m n k [] [] f le h = tt
 spare_after ms m n k [] (y ∷ ys) f le h = absurd f
 spare_after ms m n k (x ∷ xs) [] f le h = absurd f
-spare_after ms m n k (x ∷ xs) (y ∷ ys) f le h = (h.0, room_after (bounded ms) m n k x y f.0 h.0 le h.1, spare_after (later ms) m n k xs ys f.1 le h.2)
+spare_after ms m n k (x ∷ xs) (y ∷ ys) f le h = (h.0, spare_after_move (bounded ms) m n k x y f.0 h.0 le h.1, spare_after (later ms) m n k xs ys f.1 le h.2)
 
 -- ---- nodes behind nodes
 
@@ -237,7 +237,7 @@ fill_then x y z a b c f g h k =
     let m = not_longer y z g in
     fill_more true (passed x y) (passed y z) (passed x z) a b c h k (omega (arith, l, m))
 
-pub room_then : (x y : List ℕ) (a b : Node) → MovesForward x y → Fills true (passed x y) a b → HasSpare (length x) a → HasSpare (length y) b
-room_then x y a b f h r =
+pub spare_moved : (x y : List ℕ) (a b : Node) → MovesForward x y → Fills true (passed x y) a b → HasSpare (length x) a → HasSpare (length y) b
+spare_moved x y a b f h r =
     let l = not_longer x y f in
-    room_after true (length x) (length y) (passed x y) a b h refl (omega (arith, l)) r
+    spare_after_move true (length x) (length y) (passed x y) a b h refl (omega (arith, l)) r

@@ -103,23 +103,23 @@ block_too_many f n old bytes e = rw e refl
 -- ---- what stood before
 
 abbrev pub with_prefix : List Slot → State → State
-with_prefix front read = read >>= λ x. Some (front ++ x.0, x.1)
+with_prefix prefix read = read >>= λ x. Some (prefix ++ x.0, x.1)
 
 push_one-after : (cs old : List Slot) (read : Option (Slot × List ℕ)) → push_one (cs ++ old) read ≡ with_prefix cs (push_one old read)
 unfolding push_one
 push_one-after cs old None = refl
 push_one-after cs old (Some x) = ap (λ (xs : List Slot). Some (xs, x.1)) (append_assoc cs old (x.0 ∷ []))
 
--- a step after a front
-front_bind : (cs : List Slot) (r : State) (k l : List Slot × List ℕ → State) → ((xs : List Slot) (b : List ℕ) → k (cs ++ xs, b) ≡ with_prefix cs (l (xs, b))) → (with_prefix cs r >>= k) ≡ with_prefix cs (r >>= l)
-front_bind cs None k l h = refl
-front_bind cs (Some x) k l h = h x.0 x.1
+-- a step after a prefix
+prefix_bind : (cs : List Slot) (r : State) (k l : List Slot × List ℕ → State) → ((xs : List Slot) (b : List ℕ) → k (cs ++ xs, b) ≡ with_prefix cs (l (xs, b))) → (with_prefix cs r >>= k) ≡ with_prefix cs (r >>= l)
+prefix_bind cs None k l h = refl
+prefix_bind cs (Some x) k l h = h x.0 x.1
 
 items-after : (f : Reader Slot) (n : ℕ) (cs old : List Slot) (bytes : List ℕ) → items f n (cs ++ old) bytes ≡ with_prefix cs (items f n old bytes)
 unfolding items
 items-after f zero cs old bytes = refl
 items-after f (suc n) cs old bytes =
-    rw (push_one-after cs old (f bytes)) (front_bind cs (push_one old (f bytes)) (λ x. items f n x.0 x.1) (λ x. items f n x.0 x.1) (λ xs b. items-after f n cs xs b))
+    rw (push_one-after cs old (f bytes)) (prefix_bind cs (push_one old (f bytes)) (λ x. items f n x.0 x.1) (λ x. items f n x.0 x.1) (λ xs b. items-after f n cs xs b))
 
 sized-after : (f : Reader Slot) (n : ℕ) (cs old : List Slot) (bytes : List ℕ) → sized_items f n (cs ++ old) bytes ≡ with_prefix cs (sized_items f n old bytes)
 sized-after f n cs old bytes = from (number_at bytes)
@@ -130,7 +130,7 @@ sized-after f n cs old bytes = from (number_at bytes)
 
     from : (o : Option (ℤ × List ℕ)) → (o >>= λ s. items f n (cs ++ old) s.1 >>= λ xs. cond (is_count s.0 (length s.1 - length xs.1)) (Some xs) None) ≡ with_prefix cs (o >>= λ s. items f n old s.1 >>= λ xs. cond (is_count s.0 (length s.1 - length xs.1)) (Some xs) None)
     from None = refl
-    from (Some s) = rw (items-after f n cs old s.1) (front_bind cs (items f n old s.1) (λ xs. cond (is_count s.0 (length s.1 - length xs.1)) (Some xs) None) (λ xs. cond (is_count s.0 (length s.1 - length xs.1)) (Some xs) None) (λ xs r. kept (is_count s.0 (length s.1 - length r)) xs r))
+    from (Some s) = rw (items-after f n cs old s.1) (prefix_bind cs (items f n old s.1) (λ xs. cond (is_count s.0 (length s.1 - length xs.1)) (Some xs) None) (λ xs. cond (is_count s.0 (length s.1 - length xs.1)) (Some xs) None) (λ xs r. kept (is_count s.0 (length s.1 - length r)) xs r))
 
 block-after : (f : Reader Slot) (v : ℤ) (cs old : List Slot) (bytes : List ℕ) → block_items f v (cs ++ old) bytes ≡ with_prefix cs (block_items f v old bytes)
 unfolding block_items
@@ -148,7 +148,7 @@ blocks-after f (suc fuel) cs old bytes = counted (λ xs b. blocks-after f fuel c
   where
     tested : ((xs : List Slot) (b : List ℕ) → blocks f fuel (cs ++ xs) b ≡ with_prefix cs (blocks f fuel xs b)) → (b : Bool) (v : ℤ) (r : List ℕ) → cond b (Some (cs ++ old, r)) (block_items f v (cs ++ old) r >>= λ xs. blocks f fuel xs.0 xs.1) ≡ with_prefix cs (cond b (Some (old, r)) (block_items f v old r >>= λ xs. blocks f fuel xs.0 xs.1))
     tested again true v r = refl
-    tested again false v r = rw (block-after f v cs old r) (front_bind cs (block_items f v old r) (λ x. blocks f fuel x.0 x.1) (λ x. blocks f fuel x.0 x.1) again)
+    tested again false v r = rw (block-after f v cs old r) (prefix_bind cs (block_items f v old r) (λ x. blocks f fuel x.0 x.1) (λ x. blocks f fuel x.0 x.1) again)
 
     counted : ((xs : List Slot) (b : List ℕ) → blocks f fuel (cs ++ xs) b ≡ with_prefix cs (blocks f fuel xs b)) → (o : Option (ℤ × List ℕ)) → (o >>= λ c. cond (is_count c.0 0) (Some (cs ++ old, c.1)) (block_items f c.0 (cs ++ old) c.1 >>= λ xs. blocks f fuel xs.0 xs.1)) ≡ with_prefix cs (o >>= λ c. cond (is_count c.0 0) (Some (old, c.1)) (block_items f c.0 old c.1 >>= λ xs. blocks f fuel xs.0 xs.1))
     counted again None = refl

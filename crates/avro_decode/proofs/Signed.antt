@@ -1,4 +1,4 @@
--- Whole numbers of 64 bits as the code compares them.
+-- Integers of 64 bits as the code compares them.
 use Rattle.std.proofs.Common.{◌≡◌, ◌∙◌, ℤ, pos, sym, ap, w64, of_z, to_z}
 use mir.Val.{SFits}
 use Rattle.std.proofs.lemmas.Int.{to_z-of_z, ints}

@@ -25,7 +25,7 @@ use Rattle.avro_grammar.specs.Types.{IsString}
 use Rattle.avro_encode.specs.Columns.{FitColumn, FitsColumn, column_encoding, column_slots, flat_kind}
 use Rattle.avro_encode.specs.Flat.{FitsFlat, HasNoParts, IsFlatKind, flat_plain}
 use Rattle.avro_encode.specs.Listed.{index_byte}
-use Rattle.avro_encode.specs.Nullable.{FitsPlace, IsOptionalOf, TellsNulls, placed}
+use Rattle.avro_encode.specs.Nullable.{FitsNulls, IsOptionalOf, TellsNulls, nullable_encoding}
 use Rattle.avro_encode.specs.Pairs.{Pairs}
 use Rattle.avro_encode.specs.PairTypes.{PairsBytesType, PairsFixedType, PairsType}
 use Rattle.avro_encode.specs.Plain.{plain}
@@ -81,12 +81,12 @@ kind_of s (nulls.Optional b) array p h k = subst IsFlatKind k (flat_type p.optio
 -- ---- a slot
 
 -- by its kind and by its schema
-record IsPlacedSlot (s : Schema) (n : Nulls) (k : PhysicalType) (x : Slot) : Type 0 where
-  pub same : placed n (flat_plain k) x ≡ plain s x
-  pub fits : FitsPlace n (FitsFlat k) x
+record IsNullableSlot (s : Schema) (n : Nulls) (k : PhysicalType) (x : Slot) : Type 0 where
+  pub same : nullable_encoding n (flat_plain k) x ≡ plain s x
+  pub fits : FitsNulls n (FitsFlat k) x
 
 optional_slot : (s : Schema) (b : Bool) (array : AnArray) (x : Slot) → IsOptionalOf s b → PairsType s (array_type array) → physical_type (array_type array) ≡ array_kind array → Pairs s x
-    → (held : Bool) → is_held x ≡ held → IsPlacedSlot s (nulls.Optional b) (array_kind array) x
+    → (held : Bool) → is_held x ≡ held → IsNullableSlot s (nulls.Optional b) (array_kind array) x
 optional_slot s b array x o h k p false e = record {
   same =
       ap (λ z. index_byte b z ∷ (if z then flat_plain (array_kind array) x else [])) e ∙ index_is b false
@@ -105,18 +105,18 @@ optional_slot s b array x o h k p true e =
       fits = λ held. q.fits;
     }
 
-placed_slot : (s : Schema) (n : Nulls) (array : AnArray) (x : Slot) → TellsNulls s n → PairsType s (array_type array) → physical_type (array_type array) ≡ array_kind array → Pairs s x → IsPlacedSlot s n (array_kind array) x
-placed_slot s nulls.Required array x n h k p = let q = flat_slot s array x n h p k in record { same = q.same; fits = (q.held, q.fits) }
-placed_slot s (nulls.Optional b) array x n h k p = optional_slot s b array x n h k p (is_held x) refl
+nullable_slot : (s : Schema) (n : Nulls) (array : AnArray) (x : Slot) → TellsNulls s n → PairsType s (array_type array) → physical_type (array_type array) ≡ array_kind array → Pairs s x → IsNullableSlot s n (array_kind array) x
+nullable_slot s nulls.Required array x n h k p = let q = flat_slot s array x n h p k in record { same = q.same; fits = (q.held, q.fits) }
+nullable_slot s (nulls.Optional b) array x n h k p = optional_slot s b array x n h k p (is_held x) refl
 
 -- ---- a column
 
 -- the column is that of the array, of slots with nothing beneath them
-flat_encoding : (n : Nulls) (c : ColumnKind) (x : Slot) → IsFlatKind (flat_kind c) → column_encoding n c x ≡ placed n (flat_plain (flat_kind c)) x
+flat_encoding : (n : Nulls) (c : ColumnKind) (x : Slot) → IsFlatKind (flat_kind c) → column_encoding n c x ≡ nullable_encoding n (flat_plain (flat_kind c)) x
 flat_encoding n (column.Nested a s) x h = absurd h
 flat_encoding n _ x h = refl
 
-flat_fits : (n : Nulls) (c : ColumnKind) (x : Slot) → IsFlatKind (flat_kind c) → FitsPlace n (FitsFlat (flat_kind c)) x → FitsColumn n c x
+flat_fits : (n : Nulls) (c : ColumnKind) (x : Slot) → IsFlatKind (flat_kind c) → FitsNulls n (FitsFlat (flat_kind c)) x → FitsColumn n c x
 flat_fits n (column.Nested a s) x h p = absurd h
 flat_fits n _ x h p = p
 
@@ -129,11 +129,11 @@ module _ (s : Schema) (n : Nulls) (c : ColumnKind) (array : AnArray) (tells : Te
   flat_is : IsFlatKind (flat_kind c)
   flat_is = subst IsFlatKind (sym kind) (kind_of s n array tells types lies)
 
-  slot_is : (i : ℕ) → i < length (column_slots c) → IsPlacedSlot s n (flat_kind c) (slot_at (column_slots c) i)
+  slot_is : (i : ℕ) → i < length (column_slots c) → IsNullableSlot s n (flat_kind c) (slot_at (column_slots c) i)
   slot_is i l =
       let here : i < length (array_slots array) = subst (λ (xs : List Slot). i < length xs) slots l in
-      let q = placed_slot s n array (slot_at (array_slots array) i) tells types lies (pairs i slot.Null here) in
-      subst (λ (xs : List Slot). IsPlacedSlot s n (flat_kind c) (slot_at xs i)) (sym slots) (subst (λ k. IsPlacedSlot s n k (slot_at (array_slots array) i)) (sym kind) q)
+      let q = nullable_slot s n array (slot_at (array_slots array) i) tells types lies (pairs i slot.Null here) in
+      subst (λ (xs : List Slot). IsNullableSlot s n (flat_kind c) (slot_at xs i)) (sym slots) (subst (λ k. IsNullableSlot s n k (slot_at (array_slots array) i)) (sym kind) q)
 
   pub flat_fit : FitColumn n c
   flat_fit i l = flat_fits n c (slot_at (column_slots c) i) flat_is (slot_is i l).fits

@@ -46,16 +46,16 @@ count_is n h = shortest_is (pos n) (omega (arith, h))
 counted_is : (bytes : List ℕ) → length bytes < 2 ^ 63 → Sized (counted bytes) bytes
 counted_is bytes h = record { prefix = shortest (pos (length bytes)); back = bytes; joined = refl; value = pos (length bytes); first = count_is (length bytes) h; second = (refl, refl) }
 
-many_plain : (P : Grammar Slot) (spell : Slot → List ℕ) (Q : Slot → Type 0) → ((x : Slot) → Q x → P (spell x) x) → (xs : List Slot) → AllByRecursion Q xs → Many P (length xs) (flat_map spell xs) xs
-many_plain P spell Q f [] h = (refl, refl)
-many_plain P spell Q f (x ∷ xs) h =
-    record { prefix = spell x; back = flat_map spell xs; joined = refl; value = x; first = f x h.0; second = (xs, refl, many_plain P spell Q f xs h.1) }
+many_plain : (P : Grammar Slot) (encode : Slot → List ℕ) (Q : Slot → Type 0) → ((x : Slot) → Q x → P (encode x) x) → (xs : List Slot) → AllByRecursion Q xs → Many P (length xs) (flat_map encode xs) xs
+many_plain P encode Q f [] h = (refl, refl)
+many_plain P encode Q f (x ∷ xs) h =
+    record { prefix = encode x; back = flat_map encode xs; joined = refl; value = x; first = f x h.0; second = (xs, refl, many_plain P encode Q f xs h.1) }
 
-blocks_plain : (P : Grammar Slot) (spell : Slot → List ℕ) (Q : Slot → Type 0) → ((x : Slot) → Q x → P (spell x) x) → (xs : List Slot) → IsCounted xs → AllByRecursion Q xs → Blocks P (one_block spell xs) xs
-blocks_plain P spell Q f [] c h = last (count_is 0 (omega arith))
-blocks_plain P spell Q f (x ∷ xs) c h =
-    subst (λ (ys : List Slot). Blocks P (one_block spell (x ∷ xs)) ys) (append-nil (x ∷ xs))
-    (block (shortest (pos (suc (length xs)))) (flat_map spell (x ∷ xs)) (shortest (pos 0)) (pos (suc (length xs))) (x ∷ xs) [] (count_is (suc (length xs)) c) (c, many_plain P spell Q f (x ∷ xs) h) (last (count_is 0 (omega arith))))
+blocks_plain : (P : Grammar Slot) (encode : Slot → List ℕ) (Q : Slot → Type 0) → ((x : Slot) → Q x → P (encode x) x) → (xs : List Slot) → IsCounted xs → AllByRecursion Q xs → Blocks P (one_block encode xs) xs
+blocks_plain P encode Q f [] c h = last (count_is 0 (omega arith))
+blocks_plain P encode Q f (x ∷ xs) c h =
+    subst (λ (ys : List Slot). Blocks P (one_block encode (x ∷ xs)) ys) (append-nil (x ∷ xs))
+    (block (shortest (pos (suc (length xs)))) (flat_map encode (x ∷ xs)) (shortest (pos 0)) (pos (suc (length xs))) (x ∷ xs) [] (count_is (suc (length xs)) c) (c, many_plain P encode Q f (x ∷ xs) h) (last (count_is 0 (omega arith))))
 
 bytes_plain : (logical : Option BytesLogical) (x : Slot) → PairsBytes logical x → EncodesBytes logical (plain_bytes logical x) x
 bytes_plain None x h =
@@ -115,11 +115,11 @@ pairs_held (Map' shape value) x n h = absurd h
 abbrev EncodesUnion : {m : _} → Row_of-Schema m → Grammar Slot
 EncodesUnion members = Then Number (λ v back y. (k : ℕ) × (v ≡ pos k) × (k < 2) × EncodesMember members k back y)
 
-at_place : {m : _} (members : Row_of-Schema m) (k : ℕ) (back : List ℕ) (x : Slot) → k < 2 → EncodesMember members k back x → EncodesUnion members (shortest (pos k) ++ back) x
-at_place members k back x l h = record { prefix = shortest (pos k); back = back; joined = refl; value = pos k; first = count_is k (omega (arith, l)); second = (k, refl, l, h) }
+at_position : {m : _} (members : Row_of-Schema m) (k : ℕ) (back : List ℕ) (x : Slot) → k < 2 → EncodesMember members k back x → EncodesUnion members (shortest (pos k) ++ back) x
+at_position members k back x l h = record { prefix = shortest (pos k); back = back; joined = refl; value = pos k; first = count_is k (omega (arith, l)); second = (k, refl, l, h) }
 
 alone : {m : _} (members : Row_of-Schema m) (k : ℕ) (x : Slot) → k < 2 → EncodesMember members k [] x → EncodesUnion members (shortest (pos k)) x
-alone members k x l h = subst (λ (bytes : List ℕ). EncodesUnion members bytes x) (append-nil (shortest (pos k))) (at_place members k [] x l h)
+alone members k x l h = subst (λ (bytes : List ℕ). EncodesUnion members bytes x) (append-nil (shortest (pos k))) (at_position members k [] x l h)
 
 mutual
   pub plain_encodes : (s : Schema) (x : Slot) → Pairs s x → Encodes s (plain s x) x
@@ -165,14 +165,14 @@ mutual
   union_plain (more_of-Schema s (more_of-Schema u end_of-Schema)) x (inl (n, o, inl e)) =
       rw (null_told s n, e) (alone (more_of-Schema s (more_of-Schema u end_of-Schema)) 0 slot.Null (omega arith) (inr (n, refl, refl)))
   union_plain (more_of-Schema s (more_of-Schema u end_of-Schema)) x (inl (n, o, inr p)) =
-      rw (null_told s n, pairs_held u x o p) (at_place (more_of-Schema s (more_of-Schema u end_of-Schema)) 1 (plain u x) x (omega arith) (inl (plain_encodes u x p)))
+      rw (null_told s n, pairs_held u x o p) (at_position (more_of-Schema s (more_of-Schema u end_of-Schema)) 1 (plain u x) x (omega arith) (inl (plain_encodes u x p)))
   union_plain (more_of-Schema s (more_of-Schema u end_of-Schema)) x (inr (n, o, inl e)) =
       elim (null_or_not s) [
         | inl both ↦ rw (both.1, e) (alone (more_of-Schema s (more_of-Schema u end_of-Schema)) 0 slot.Null (omega arith) (inr (both.0, refl, refl)))
         | inr not_null ↦ rw (not_null, e) (alone (more_of-Schema s (more_of-Schema u end_of-Schema)) 1 slot.Null (omega arith) (inr (n, refl, refl)))
       ]
   union_plain (more_of-Schema s (more_of-Schema u end_of-Schema)) x (inr (n, o, inr p)) =
-      rw (pairs_no_null s x p, pairs_held s x o p) (at_place (more_of-Schema s (more_of-Schema u end_of-Schema)) 0 (plain s x) x (omega arith) (inl (plain_encodes s x p)))
+      rw (pairs_no_null s x p, pairs_held s x o p) (at_position (more_of-Schema s (more_of-Schema u end_of-Schema)) 0 (plain s x) x (omega arith) (inl (plain_encodes s x p)))
   union_plain _ x h = absurd h
 
 pub plain_tells : (s : Schema) (x y : Slot) → Pairs s x → Pairs s y → plain s x ≡ plain s y → x ≡ y

@@ -105,9 +105,9 @@ pub written_more : (xs all : List ℕ) (size done n : ℕ) → length xs ≡ 16 
     → high_first (size - (done + 1)) (n / 256) ++ drop (16 - (done + 1)) (set xs (15 - done) (n % 256)) ≡ all
 written_more xs all size done n l s h e =
     let left : size - done ≡ suc (size - (done + 1)) = omega (arith, h) in
-    let place : 16 - (done + 1) ≡ 15 - done = omega arith in
+    let index_is : 16 - (done + 1) ≡ 15 - done = omega arith in
     let next : suc (15 - done) ≡ 16 - done = omega (arith, h, s) in
-    ap (λ k. high_first (size - (done + 1)) (n / 256) ++ drop k (set xs (15 - done) (n % 256))) place
+    ap (λ k. high_first (size - (done + 1)) (n / 256) ++ drop k (set xs (15 - done) (n % 256))) index_is
     ∙ ap (λ (z : List ℕ). high_first (size - (done + 1)) (n / 256) ++ z) (drop_set xs (15 - done) (n % 256) (omega (arith, h, s, l)))
     ∙ ap (λ k. high_first (size - (done + 1)) (n / 256) ++ (n % 256 ∷ drop k xs)) next
     ∙ sym (append_assoc (high_first (size - (done + 1)) (n / 256)) (n % 256 ∷ []) (drop (16 - done) xs))

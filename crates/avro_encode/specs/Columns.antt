@@ -8,7 +8,7 @@ use Rattle.arrow_types.specs.declared.slot.Slot.{Slot}
 use Rattle.arrow_array.specs.Arrays.{array_slots, array_type}
 use Rattle.arrow_array.specs.Slots.{slot_at}
 use Rattle.avro_encode.specs.Flat.{FitsFlat, flat_plain}
-use Rattle.avro_encode.specs.Nullable.{FitsPlace, placed}
+use Rattle.avro_encode.specs.Nullable.{FitsNulls, nullable_encoding}
 use Rattle.avro_encode.specs.Pairs.{Pairs}
 use Rattle.avro_encode.specs.PairTypes.{PairsType}
 use Rattle.avro_encode.specs.Plain.{plain}
@@ -46,12 +46,12 @@ flat_kind (column.Nested a s) = physical.Null
 -- the encoding of a slot
 abbrev pub column_encoding : Nulls → ColumnKind → Slot → List ℕ
 column_encoding n (column.Nested a s) x = plain s x
-column_encoding n k x = placed n (flat_plain (flat_kind k)) x
+column_encoding n k x = nullable_encoding n (flat_plain (flat_kind k)) x
 
 -- the slot has one
 abbrev pub FitsColumn : Nulls → ColumnKind → Slot → Type 0
 FitsColumn n (column.Nested a s) x = PairsType s (array_type a.now) × Pairs s x
-FitsColumn n k x = FitsPlace n (FitsFlat (flat_kind k)) x
+FitsColumn n k x = FitsNulls n (FitsFlat (flat_kind k)) x
 
 -- each slot has one
 abbrev pub FitColumn : Nulls → ColumnKind → Type 0

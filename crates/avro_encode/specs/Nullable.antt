@@ -25,11 +25,11 @@ TellsNulls s nulls.Required = HasNoParts s
 TellsNulls s (nulls.Optional null_first) = IsOptionalOf s null_first
 
 -- the encoding of a slot by that of a value: in a union after the index of its member
-abbrev pub placed : Nulls → (Slot → List ℕ) → Slot → List ℕ
-placed nulls.Required encoding x = encoding x
-placed (nulls.Optional null_first) encoding x = index_byte null_first (is_held x) ∷ (if is_held x then encoding x else [])
+abbrev pub nullable_encoding : Nulls → (Slot → List ℕ) → Slot → List ℕ
+nullable_encoding nulls.Required encoding x = encoding x
+nullable_encoding (nulls.Optional null_first) encoding x = index_byte null_first (is_held x) ∷ (if is_held x then encoding x else [])
 
 -- a value fits, and a null stands only where it may
-abbrev pub FitsPlace : Nulls → (Slot → Type 0) → Slot → Type 0
-FitsPlace nulls.Required Fits x = IsTrue (is_held x) × Fits x
-FitsPlace (nulls.Optional null_first) Fits x = IsTrue (is_held x) → Fits x
+abbrev pub FitsNulls : Nulls → (Slot → Type 0) → Slot → Type 0
+FitsNulls nulls.Required Fits x = IsTrue (is_held x) × Fits x
+FitsNulls (nulls.Optional null_first) Fits x = IsTrue (is_held x) → Fits x

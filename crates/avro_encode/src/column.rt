@@ -5,7 +5,7 @@ ghost use Rattle.arrow_array.specs.Kinds.{array_kind};
 ghost use Rattle.arrow_array.specs.Slots.{is_held, slot_at};
 ghost use Rattle.avro_encode.specs.Columns.{FitColumn, FitsColumn, column_encoding, column_slots, flat_kind};
 ghost use Rattle.avro_encode.specs.Flat.{IsFlatKind};
-ghost use Rattle.avro_encode.specs.Nullable.{FitsPlace, placed};
+ghost use Rattle.avro_encode.specs.Nullable.{FitsNulls, nullable_encoding};
 ghost use Rattle.avro_encode.specs.Pairs.{Pairs};
 ghost use Rattle.avro_encode.specs.PairTypes.{PairsType};
 ghost use Rattle.avro_encode.specs.Plain.{plain};
@@ -72,7 +72,7 @@ fn append_optional<A: FlatArray>(
     requires fits { IsTrue (is_held (slot_at (A.slots array.now) i))
         → A.has_encoding (slot_at (A.slots array.now) i) }
     ensures ok { OnOk result (out.new.items ≡ out.old.items
-        ++ placed (nulls.Optional null_first) A.encoding (slot_at (A.slots array.now) i)) }
+        ++ nullable_encoding (nulls.Optional null_first) A.encoding (slot_at (A.slots array.now) i)) }
 {
     let held = array.has_value(i);
     let index = index_byte(null_first, held);
@@ -85,16 +85,16 @@ fn append_optional<A: FlatArray>(
 
 /// Appends slot `i`. `AllocError` alone.
 #[inline(always)]
-fn append_placed<A: FlatArray>(
+fn append_nullable<A: FlatArray>(
     array: &A,
     nulls: Nulls,
     i: usize,
     out: &mut Vec<u8>,
 ) -> Result<(), AllocError>
     requires within { i < length (A.slots array.now) }
-    requires fits { FitsPlace nulls A.has_encoding (slot_at (A.slots array.now) i) }
+    requires fits { FitsNulls nulls A.has_encoding (slot_at (A.slots array.now) i) }
     ensures ok { OnOk result (out.new.items
-        ≡ out.old.items ++ placed nulls A.encoding (slot_at (A.slots array.now) i)) }
+        ≡ out.old.items ++ nullable_encoding nulls A.encoding (slot_at (A.slots array.now) i)) }
 {
     match nulls {
         Nulls::Required => array.append_value(i, out),
@@ -112,12 +112,12 @@ fn append_run<A: FlatArray>(
 ) -> Result<(), AllocError>
     requires end { end ≡ length (A.slots array.now) }
     requires fit { (i : ℕ) → i < length (A.slots array.now)
-        → FitsPlace nulls A.has_encoding (slot_at (A.slots array.now) i) }
+        → FitsNulls nulls A.has_encoding (slot_at (A.slots array.now) i) }
     ensures ok { OnOk result (out.new.items
-        ≡ out.old.items ++ flat_map (placed nulls A.encoding) (drop start (A.slots array.now))) }
+        ≡ out.old.items ++ flat_map (nullable_encoding nulls A.encoding) (drop start (A.slots array.now))) }
 {
     for i in start..end {
-        append_placed(array, nulls, i, out)?;
+        append_nullable(array, nulls, i, out)?;
     }
     Ok(())
 }
@@ -153,16 +153,16 @@ impl<'a> ColumnKind<'a> {
             ≡ out.old.items ++ column_encoding nulls self.now (slot_at (column_slots self.now) i)) }
     {
         match self {
-            ColumnKind::Boolean(array) => append_placed(*array, nulls, i, out),
-            ColumnKind::Int32(array) => append_placed(*array, nulls, i, out),
-            ColumnKind::Int64(array) => append_placed(*array, nulls, i, out),
-            ColumnKind::Int128(array) => append_placed(*array, nulls, i, out),
-            ColumnKind::MonthDayNano(array) => append_placed(*array, nulls, i, out),
-            ColumnKind::Utf8(array) => append_placed(*array, nulls, i, out),
-            ColumnKind::LargeUtf8(array) => append_placed(*array, nulls, i, out),
-            ColumnKind::Binary(array) => append_placed(*array, nulls, i, out),
-            ColumnKind::LargeBinary(array) => append_placed(*array, nulls, i, out),
-            ColumnKind::FixedSizeBinary(array) => append_placed(*array, nulls, i, out),
+            ColumnKind::Boolean(array) => append_nullable(*array, nulls, i, out),
+            ColumnKind::Int32(array) => append_nullable(*array, nulls, i, out),
+            ColumnKind::Int64(array) => append_nullable(*array, nulls, i, out),
+            ColumnKind::Int128(array) => append_nullable(*array, nulls, i, out),
+            ColumnKind::MonthDayNano(array) => append_nullable(*array, nulls, i, out),
+            ColumnKind::Utf8(array) => append_nullable(*array, nulls, i, out),
+            ColumnKind::LargeUtf8(array) => append_nullable(*array, nulls, i, out),
+            ColumnKind::Binary(array) => append_nullable(*array, nulls, i, out),
+            ColumnKind::LargeBinary(array) => append_nullable(*array, nulls, i, out),
+            ColumnKind::FixedSizeBinary(array) => append_nullable(*array, nulls, i, out),
             ColumnKind::Nested(array, schema) => append_slot(array, i, schema, out),
         }
     }

@@ -40,9 +40,9 @@ or_false : (a b : Bool) → b ≡ false → (a || b) ≡ a
 or_false true b e = refl
 or_false false b e = e
 
-among_place : (xs : List ℕ) (n : ℕ) → is_among xs n ≡ true → (j : ℕ) × (j < length xs) × (get_or xs j 0 ≡ n)
-among_place [] n e = absurd cc
-among_place (x ∷ xs) n e = from (x == n) refl e (among_place xs n)
+among_index : (xs : List ℕ) (n : ℕ) → is_among xs n ≡ true → (j : ℕ) × (j < length xs) × (get_or xs j 0 ≡ n)
+among_index [] n e = absurd cc
+among_index (x ∷ xs) n e = from (x == n) refl e (among_index xs n)
   where
     from : (b : Bool) → (x == n) ≡ b → (b || is_among xs n) ≡ true → (is_among xs n ≡ true → (j : ℕ) × (j < length xs) × (get_or xs j 0 ≡ n)) → (j : ℕ) × (j < length (x ∷ xs)) × (get_or (x ∷ xs) j 0 ≡ n)
     from true q h rest = (0, omega arith, same_number x n q)
@@ -99,7 +99,7 @@ module _ (count : ℕ) (numbers : List ℕ) (i : ℕ) (flags : List Bool) (n : �
   too_large large h = omega (arith, h.within i 0 lt, is, large)
 
   pub named_twice : n < count → get_or flags n false ≡ true → AreNumbers count numbers → ⊥
-  named_twice below old h = from (among_place (take i numbers) n (sym (so.each n below) ∙ old))
+  named_twice below old h = from (among_index (take i numbers) n (sym (so.each n below) ∙ old))
     where
       from : (j : ℕ) × (j < length (take i numbers)) × (get_or (take i numbers) j 0 ≡ n) → ⊥
       from (j, small, e) =

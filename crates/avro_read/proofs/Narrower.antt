@@ -27,7 +27,7 @@ use Rattle.avro_container.specs.FileForms.{marked_block}
 use Rattle.avro_container.specs.Laws.{told}
 use Rattle.avro_container.specs.Taking.{State, Passed}
 use Rattle.avro_container.proofs.Complete.{block_is_read, end_is_end, no_bytes_are_end}
-use Rattle.avro_container.proofs.OneFile.{block_reads, block_some, front_none}
+use Rattle.avro_container.proofs.OneFile.{block_reads, block_some, prefix_none}
 use Rattle.avro_decode.specs.Columns.{columns, AreColumns, kept_types}
 use Rattle.avro_decode.specs.Decoder.{Projected, projected, CanBeDecoded}
 use Rattle.avro_decode.specs.Refusals.{FieldsRefused}
@@ -214,7 +214,7 @@ module _ (marker bytes : List ℕ) (wide_faults faults limit : ℕ) (new other :
   not_at_end : AtEnd (told bytes faults limit) other → ⊥
   not_at_end h =
       let t = left_is bytes passed.0 new.left passed.1.consumed in
-      block_some marker passed.0 block passed.2 (front_none passed.0 t.0 (sym t.2 ∙ end_is_end bytes faults limit other h))
+      block_some marker passed.0 block passed.2 (prefix_none passed.0 t.0 (sym t.2 ∙ end_is_end bytes faults limit other h))
 
   only_memory : (RoseOrFull faults other.faults → ⊥) → (e : Error) → NoBlock marker (told bytes faults limit) other e → e ≡ OutOfMemory
   only_memory steady =

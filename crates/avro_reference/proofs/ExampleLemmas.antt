@@ -105,7 +105,7 @@ arrays_hold = all_hold arrays (refl, (refl, (refl, (refl, (refl, (refl, (refl, (
 
 pub sizes_below_zero_hold : AllByRecursion Holds sizes_below_zero
 unfolding groups_at number_at int_at long_at push_one items block_items blocks array_at or_bad measured_at jump_at jump_counted skip_sized skip_items skip_stated skip_block_items skip_blocks skip_array row_after rows_after block shape-the_row-Schema-0 hidden-the_row-Schema-0 shape-the_row-Schema-1 hidden-the_row-Schema-1 denote.Hole.Carrier.hidden
-sizes_below_zero_hold = all_hold sizes_below_zero (refl, (refl, (refl, (refl, (refl, (refl, (refl, (refl, tt))))))))
+sizes_below_zero_hold = all_hold sizes_below_zero (refl, (refl, (refl, (refl, (refl, (refl, (refl, (refl, (refl, (refl, tt))))))))))
 
 pub false_counts_hold : AllByRecursion Holds false_counts
 unfolding groups_at number_at bytes_at counted_at sized_at int_at long_at string_at push_one items block_items blocks array_at or_bad measured_at jump_at jump_counted skip_number skip_items skip_stated skip_block_items skip_blocks skip_array row_after rows_after block roll-Record shape-the_row-Schema-0 hidden-the_row-Schema-0 shape-the_row-Schema-1 hidden-the_row-Schema-1 denote.Hole.Carrier.hidden

@@ -200,6 +200,9 @@ sizes_below_zero =
     -- what comes later is not looked at; but rows are no more than bytes
     ∷ first_skipped 2 (Array (Long None)) (0x03 ∷ 0x01 ∷ []) (Err Negative)
     ∷ first_skipped 3 (Array (Long None)) (0x03 ∷ 0x01 ∷ []) (Err Bad)
+    -- a count of -2^63 is no count, though its size is below 0; one above it is
+    ∷ first_skipped 1 (Array (Long None)) (least ++ 0x01 ∷ 0x02 ∷ []) (Err Bad)
+    ∷ first_skipped 1 (Array (Long None)) (0xfd ∷ replicate 8 0xff ++ 0x01 ∷ 0x01 ∷ 0x02 ∷ []) (Err Negative)
     -- in an array of arrays, after an empty one, and beneath a union
     ∷ first_skipped 1 (Array (Array (Long None))) (0x02 ∷ 0x03 ∷ 0x01 ∷ []) (Err Negative)
     ∷ first_skipped 1 (Array (Array (Long None))) (0x04 ∷ 0x00 ∷ 0x03 ∷ 0x01 ∷ []) (Err Negative)

@@ -43,10 +43,10 @@ binary_begins bytes part rest h = record { value = slot.Binary part; holds = (pa
 pub string_begins : (bytes part rest : List ℕ) → BeginsWithCounted bytes part rest → IsUtf8 part → BeginsWithSlot (String None) bytes rest
 string_begins bytes part rest h is = record { value = slot.String part; holds = (part, refl, is, h.counted); joined = h.joined }
 
-fixed_parts : (size : ℕ) (logical : Option FixedLogical) (bytes front back : List ℕ) → logical ≡ None → IsSplitAt bytes size front back → BeginsWith (PairsFixed size logical) (plain_fixed logical) bytes back
-fixed_parts size logical bytes front back e split =
-    let whole : bytes ≡ front ++ back = sym (take-append-drop size bytes) ∙ (λ i. sym split.1 i ++ sym split.2 i) in
-    subst (λ (l : Option FixedLogical). BeginsWith (PairsFixed size l) (plain_fixed l) bytes back) (sym e) (record { value = slot.Binary front; holds = (front, refl, split.3); joined = whole })
+fixed_parts : (size : ℕ) (logical : Option FixedLogical) (bytes prefix back : List ℕ) → logical ≡ None → IsSplitAt bytes size prefix back → BeginsWith (PairsFixed size logical) (plain_fixed logical) bytes back
+fixed_parts size logical bytes prefix back e split =
+    let whole : bytes ≡ prefix ++ back = sym (take-append-drop size bytes) ∙ (λ i. sym split.1 i ++ sym split.2 i) in
+    subst (λ (l : Option FixedLogical). BeginsWith (PairsFixed size l) (plain_fixed l) bytes back) (sym e) (record { value = slot.Binary prefix; holds = (prefix, refl, split.3); joined = whole })
 
-pub fixed_begins : (f : Fixed) (bytes front back : List ℕ) → f.logical ≡ None → IsSplitAt bytes f.size front back → BeginsWithSlot (FixedSchema f) bytes back
-fixed_begins f bytes front back e split = fixed_parts f.size f.logical bytes front back e split
+pub fixed_begins : (f : Fixed) (bytes prefix back : List ℕ) → f.logical ≡ None → IsSplitAt bytes f.size prefix back → BeginsWithSlot (FixedSchema f) bytes back
+fixed_begins f bytes prefix back e split = fixed_parts f.size f.logical bytes prefix back e split

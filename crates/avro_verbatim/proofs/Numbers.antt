@@ -83,8 +83,8 @@ many_bytes bytes prefix mid rest v n number joined count is some high =
     let last : length prefix ≡ suc k = omega (arith, all, count, some) in
     let high_end : EndsHigh prefix = ends_high prefix mid k last (λ z. high (ap (λ (xs : List ℕ). get_or xs k 0) joined ∙ z)) in
     let same : rest ≡ mid = is ∙ take_all n mid (omega (arith, count)) in
-    let spelled : shortest v ≡ prefix = ap shortest number.value ∙ shortest_of (unsigned prefix) ∙ are_shortest 9 prefix number.groups number.short high_end in
-    record { fits = subst Has64Bits (sym number.value) (has_64_bits (unsigned prefix) number.fits); joined = joined ∙ (λ i. sym spelled i ++ sym same i) }
+    let encoded : shortest v ≡ prefix = ap shortest number.value ∙ shortest_of (unsigned prefix) ∙ are_shortest 9 prefix number.groups number.short high_end in
+    record { fits = subst Has64Bits (sym number.value) (has_64_bits (unsigned prefix) number.fits); joined = joined ∙ (λ i. sym encoded i ++ sym same i) }
 
 -- ---- groups of seven bits, the last of which ends them
 

@@ -159,8 +159,8 @@ of_record s r fs bytes rest e x h =
     subst (λ (z : Schema). BeginsWithSlot z bytes rest) (sym e) (record_begins r bytes rest (subst (λ (gs : List AvroField). BeginsWithFields gs bytes rest) x h))
 
 -- the bytes from a place on, as a slice of them is told
-pub from_place : (bytes : List ℕ) (n : ℕ) → take (length bytes - n) (drop n bytes) ≡ drop n bytes
-from_place bytes n = take_all (length bytes - n) (drop n bytes) (omega (arith, length-drop n bytes))
+pub from_index : (bytes : List ℕ) (n : ℕ) → take (length bytes - n) (drop n bytes) ≡ drop n bytes
+from_index bytes n = take_all (length bytes - n) (drop n bytes) (omega (arith, length-drop n bytes))
 
 -- one row is the fields
 row_is_fields : (fs : List AvroField) (bytes rest : List ℕ) → BeginsWithRows fs 1 bytes rest → BeginsWithFields fs bytes rest
@@ -173,7 +173,7 @@ row_is_fields fs bytes rest h = from h.value h.holds.0 h.holds.1 h.joined
 
 pub record_taken : (s : Schema) (r : TheRecord) (fs : List AvroField) (bytes : List ℕ) (n : ℕ) → s ≡ Record r → fs ≡ (out-Record r).fields → BeginsWithRows fs 1 bytes (drop n bytes) → BeginsWithSlot s bytes (take (length bytes - n) (drop n bytes))
 record_taken s r fs bytes n e x h =
-    subst (λ (xs : List ℕ). BeginsWithSlot s bytes xs) (sym (from_place bytes n)) (of_record s r fs bytes (drop n bytes) e x (row_is_fields fs bytes (drop n bytes) h))
+    subst (λ (xs : List ℕ). BeginsWithSlot s bytes xs) (sym (from_index bytes n)) (of_record s r fs bytes (drop n bytes) e x (row_is_fields fs bytes (drop n bytes) h))
 
 -- rows are items of a record's schema
 module _ (r : TheRecord) where
@@ -201,7 +201,7 @@ module _ (r : TheRecord) where
 pub items_taken : (s : Schema) (r : TheRecord) (fs : List AvroField) (count : ℕ) (bytes : List ℕ) (n : ℕ) → s ≡ Record r → fs ≡ (out-Record r).fields → BeginsWithRows fs count bytes (drop n bytes) → BeginsWithItems s count bytes (take (length bytes - n) (drop n bytes))
 items_taken s r fs count bytes n e x h =
     subst (λ (z : Schema). BeginsWithItems z count bytes (take (length bytes - n) (drop n bytes))) (sym e)
-    (subst (λ (xs : List ℕ). BeginsWithItems (Record r) count bytes xs) (sym (from_place bytes n)) (rows_are_items r count bytes (drop n bytes) (subst (λ (gs : List AvroField). BeginsWithRows gs count bytes (drop n bytes)) x h)))
+    (subst (λ (xs : List ℕ). BeginsWithItems (Record r) count bytes xs) (sym (from_index bytes n)) (rows_are_items r count bytes (drop n bytes) (subst (λ (gs : List AvroField). BeginsWithRows gs count bytes (drop n bytes)) x h)))
 
 -- rows that are all of the bytes
 pub whole_rows : (n : ℕ) (fs : List AvroField) (bytes : List ℕ) (len : ℕ) → len ≡ length bytes → BeginsWithRows fs n bytes (drop len bytes) → AreCanonicalRows n fs bytes

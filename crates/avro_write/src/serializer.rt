@@ -37,7 +37,10 @@ impl<'a> Model for BoxSerializer<'a> {
 
     ghost coded = { serializing_code };
 
-    ghost view = { λ s. record { left = drop s.next s.column; shown = cond s.is_shown (Some s.buffer.items) None } };
+    ghost view = { λ s. record {
+      left = drop s.next s.column;
+      shown = cond s.is_shown (Some s.buffer.items) None;
+    } };
 
     ghost invariant = { λ s. s.next ≤ length s.column };
 }

@@ -35,7 +35,7 @@ only_memory source answer e is complete rises bound (bytes, values, tells, some,
     same_error answer e _ is (complete bytes values tells.told some (omega arith) (steady_count source tells.steady rises) (below_last source tells.steady bound)
     (omega (arith, tells.within, lines_size bytes)) utf8 rows)
 
--- whether it is another error than want of memory
+-- whether it is another error than out of memory
 abbrev IsOther : Error → Type 0
 IsOther OutOfMemory = ⊥
 IsOther _ = Unit {0}

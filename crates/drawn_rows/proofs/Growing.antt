@@ -10,7 +10,7 @@ use Rattle.arrow_core.specs.declared.error.Error.{Error}
 use Rattle.arrow_core.specs.declared.error.Error.TheVariants.{OutOfMemory}
 use Rattle.arrow_types.specs.declared.slot.Slot.{Slot}
 use Rattle.arrow_types.specs.declared.slot.Slot.TheVariants as slot
-use Rattle.arrow_builders.proofs.Staying.{lists_stay, drop_front}
+use Rattle.arrow_builders.proofs.Staying.{lists_stay, drop_prefix}
 use Rattle.arrow_flat.specs.Nested.{items_of, lists_from}
 use Rattle.drawn_rows.specs.Drawing.{next, drawn, after, user_of, user, tag_count, tag_of, tags, after_row, is_ok, before_row}
 
@@ -60,7 +60,7 @@ pub list_more : {T : Type 0} (r q : Result T Error) (lens : List (Option ℕ)) (
     → OnOk q (new ≡ lists_from 0 lens child ++ slot.List items ∷ [])
 list_more (Ok v) q lens child items grown new m tight e h =
     let stay : lists_from 0 lens grown ≡ lists_from 0 lens child = ap (lists_from 0 lens) e ∙ lists_stay 0 lens child items (omega (arith, tight)) in
-    let rest : drop (items_of lens) grown ≡ items = (λ i. drop (sym tight i) (e i)) ∙ drop_front child items in
+    let rest : drop (items_of lens) grown ≡ items = (λ i. drop (sym tight i) (e i)) ∙ drop_prefix child items in
     subst (λ z. OnOk z (new ≡ lists_from 0 lens child ++ slot.List items ∷ [])) (sym m) (h ∙ (λ i. stay i ++ slot.List (rest i) ∷ []))
 list_more (Err d) q lens child items grown new m tight e h = subst (λ z. OnOk z (new ≡ lists_from 0 lens child ++ slot.List items ∷ [])) (sym m) tt
 

@@ -46,7 +46,7 @@ pub size_lacks : (digits : List ℕ) (size : ℕ) → IsSize digits size → Lac
 size_lacks digits size h = digits_lack 44 digits (omega arith) h.0.1
 
 -- a text holds the byte at which it is cut
-pub holds : (c : ℕ) (front back : List ℕ) → Lacks c (front ++ (c ∷ back)) → ⊥
+pub holds : (c : ℕ) (prefix back : List ℕ) → Lacks c (prefix ++ (c ∷ back)) → ⊥
 holds c [] back lacks = lacks 0 (omega arith) refl
 holds c (b ∷ bs) back lacks = holds c bs back (λ i low. lacks (suc i) (omega (arith, low)))
 
@@ -54,8 +54,8 @@ head_or : ℕ → List ℕ → ℕ
 head_or d [] = d
 head_or d (x ∷ xs) = x
 
--- two texts cut at the same byte, which isn't in either front
-pub one_cut : (c : ℕ) (front other back more : List ℕ) → Lacks c front → Lacks c other → front ++ (c ∷ back) ≡ other ++ (c ∷ more) → (front ≡ other) × (back ≡ more)
+-- two texts cut at the same byte, which isn't in either prefix
+pub one_cut : (c : ℕ) (prefix other back more : List ℕ) → Lacks c prefix → Lacks c other → prefix ++ (c ∷ back) ≡ other ++ (c ∷ more) → (prefix ≡ other) × (back ≡ more)
 unfolding head_or
 one_cut c [] [] back more p q e = (refl, ap (drop 1) e)
 one_cut c [] (y ∷ ys) back more p q e = absurd (q 0 (omega arith) (sym (ap (head_or 0) e)))
@@ -70,11 +70,11 @@ one_cut c (x ∷ xs) (y ∷ ys) back more p q e =
 pub none_lacks : (c : ℕ) (word : List ℕ) → c < 128 → FindsChar c word None → Lacks c word
 none_lacks c word low none = λ i in_word. NoCharPasses-char c word i none low in_word
 
-pub split_is : (c : ℕ) (word front back : List ℕ) → c < 128 → SplitsAroundMatch (FindsChar c) word front back → word ≡ front ++ (c ∷ back)
-split_is c word front back ascii (i, j, (before, at), p, q, low, front_len, back_len) =
+pub split_is : (c : ℕ) (word prefix back : List ℕ) → c < 128 → SplitsAroundMatch (FindsChar c) word prefix back → word ≡ prefix ++ (c ∷ back)
+split_is c word prefix back ascii (i, j, (before, at), p, q, low, prefix_len, back_len) =
     let ending : drop i word ≡ c ∷ back = at.split ∙ ap (λ z. z ++ drop j word) (encode_ascii c ascii) ∙ ap (λ z. c ∷ z) (sym q) in
     sym (take-append-drop i word) ∙ ap (λ z. take i word ++ z) ending ∙ ap (λ z. z ++ (c ∷ back)) (sym p)
 
-pub split_lacks : (c : ℕ) (word front back : List ℕ) → c < 128 → SplitsAroundMatch (FindsChar c) word front back → Lacks c front
-split_lacks c word front back ascii (i, j, (before, at), p, q, low, front_len, back_len) =
-    subst (Lacks c) (sym p) (λ k in_front. NoCharPasses-char c (take i word) k before ascii in_front)
+pub split_lacks : (c : ℕ) (word prefix back : List ℕ) → c < 128 → SplitsAroundMatch (FindsChar c) word prefix back → Lacks c prefix
+split_lacks c word prefix back ascii (i, j, (before, at), p, q, low, prefix_len, back_len) =
+    subst (Lacks c) (sym p) (λ k in_prefix. NoCharPasses-char c (take i word) k before ascii in_prefix)

@@ -15,8 +15,8 @@ pub last_is : (d : ℕ) (xs : List ℕ) (x : ℕ) → last_or d (xs ++ (x ∷ []
 last_is d [] x = refl
 last_is d (y ∷ ys) x = last_is y ys x
 
-pub last_of : (word front : List ℕ) (x : ℕ) → word ≡ front ++ (x ∷ []) → last_or 0 word ≡ x
-last_of word front x e = ap (last_or 0) e ∙ last_is 0 front x
+pub last_of : (word prefix : List ℕ) (x : ℕ) → word ≡ prefix ++ (x ∷ []) → last_or 0 word ≡ x
+last_of word prefix x e = ap (last_or 0) e ∙ last_is 0 prefix x
 
 -- a letter
 abbrev IsLetter : ℕ → Type 0
@@ -110,7 +110,7 @@ module _ (Inner : List ℕ → Schema → Type 0) (word : List ℕ) where
 
   -- no bracket at either end, and no closing parenthesis: a type of one word
   pub only_plain : ((inside : List ℕ) → word ≢ (91 ∷ []) ++ (inside ++ (93 ∷ []))) → ((inside : List ℕ) → word ≢ (123 ∷ []) ++ (inside ++ (125 ∷ [])))
-      → ((inside : List ℕ) → word ≢ (60 ∷ []) ++ (inside ++ (62 ∷ []))) → ((front : List ℕ) → word ≢ front ++ (41 ∷ [])) → (s : Schema) → IsBase Inner word s → IsPlain word s
+      → ((inside : List ℕ) → word ≢ (60 ∷ []) ++ (inside ++ (62 ∷ []))) → ((prefix : List ℕ) → word ≢ prefix ++ (41 ∷ [])) → (s : Schema) → IsBase Inner word s → IsPlain word s
   only_plain no_list no_record no_enum no_sized s (inl p) = p
   only_plain no_list no_record no_enum no_sized s (inr (inl (text, inl (f, is)))) = absurd (no_sized (codes "fixed(" ++ text) is)
   only_plain no_list no_record no_enum no_sized s (inr (inl (text, inr (d, is)))) = absurd (no_sized (codes "decimal(" ++ text) is)
@@ -123,17 +123,17 @@ module _ (Inner : List ℕ → Schema → Type 0) (word : List ℕ) where
   pub no_null_first : (base : List ℕ) → word ≡ base ++ (63 ∷ []) → ((s : Schema) → IsBase Inner base s → ⊥)
       → (s : Schema) → IsBase Inner word s ⊎ (IsNullFirst Inner word s ⊎ IsNullSecond Inner word s) → ⊥
   no_null_first base e none s (inl b) = no_mark s 63 b (last_of word base 63 e) (inr refl)
-  no_null_first base e none s (inr (inl (front, item, b, is, u))) = none item (subst (λ z. IsBase Inner z item) (append_cancel_right front base (63 ∷ []) (sym is ∙ e)) b)
-  no_null_first base e none s (inr (inr (front, item, b, is, u))) = omega (arith, last_of word base 63 e, last_of word front 33 is)
+  no_null_first base e none s (inr (inl (prefix, item, b, is, u))) = none item (subst (λ z. IsBase Inner z item) (append_cancel_right prefix base (63 ∷ []) (sym is ∙ e)) b)
+  no_null_first base e none s (inr (inr (prefix, item, b, is, u))) = omega (arith, last_of word base 63 e, last_of word prefix 33 is)
 
   pub no_null_second : (base : List ℕ) → word ≡ base ++ (33 ∷ []) → ((s : Schema) → IsBase Inner base s → ⊥)
       → (s : Schema) → IsBase Inner word s ⊎ (IsNullFirst Inner word s ⊎ IsNullSecond Inner word s) → ⊥
   no_null_second base e none s (inl b) = no_mark s 33 b (last_of word base 33 e) (inl refl)
-  no_null_second base e none s (inr (inl (front, item, b, is, u))) = omega (arith, last_of word base 33 e, last_of word front 63 is)
-  no_null_second base e none s (inr (inr (front, item, b, is, u))) = none item (subst (λ z. IsBase Inner z item) (append_cancel_right front base (33 ∷ []) (sym is ∙ e)) b)
+  no_null_second base e none s (inr (inl (prefix, item, b, is, u))) = omega (arith, last_of word base 33 e, last_of word prefix 63 is)
+  no_null_second base e none s (inr (inr (prefix, item, b, is, u))) = none item (subst (λ z. IsBase Inner z item) (append_cancel_right prefix base (33 ∷ []) (sym is ∙ e)) b)
 
-  pub no_type : ((front : List ℕ) → word ≢ front ++ (63 ∷ [])) → ((front : List ℕ) → word ≢ front ++ (33 ∷ [])) → ((s : Schema) → IsBase Inner word s → ⊥)
+  pub no_type : ((prefix : List ℕ) → word ≢ prefix ++ (63 ∷ [])) → ((prefix : List ℕ) → word ≢ prefix ++ (33 ∷ [])) → ((s : Schema) → IsBase Inner word s → ⊥)
       → (s : Schema) → IsBase Inner word s ⊎ (IsNullFirst Inner word s ⊎ IsNullSecond Inner word s) → ⊥
   no_type p q none s (inl b) = none s b
-  no_type p q none s (inr (inl (front, item, b, is, u))) = p front is
-  no_type p q none s (inr (inr (front, item, b, is, u))) = q front is
+  no_type p q none s (inr (inl (prefix, item, b, is, u))) = p prefix is
+  no_type p q none s (inr (inr (prefix, item, b, is, u))) = q prefix is

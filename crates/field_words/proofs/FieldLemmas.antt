@@ -10,7 +10,7 @@ head_or d [] = d
 head_or d (x ∷ xs) = x
 
 -- two texts cut at the same byte, after as many bytes
-same_cut : (c : ℕ) (front other back more : List ℕ) → length front ≡ length other → front ++ (c ∷ back) ≡ other ++ (c ∷ more) → (front ≡ other) × (back ≡ more)
+same_cut : (c : ℕ) (prefix other back more : List ℕ) → length prefix ≡ length other → prefix ++ (c ∷ back) ≡ other ++ (c ∷ more) → (prefix ≡ other) × (back ≡ more)
 unfolding head_or
 same_cut c [] [] back more n e = (refl, ap (drop 1) e)
 same_cut c [] (y ∷ ys) back more n e = absurd (omega (arith, n))

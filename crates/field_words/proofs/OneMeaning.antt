@@ -163,8 +163,8 @@ module _ (depth : ℕ) (one : (word : List ℕ) (s u : Schema) → IsType depth 
   one_base word s u (inr (inr (inr (inr p)))) (inr (inr (inr (inl q)))) = absurd (omega (arith, list_ends (IsType depth) word s p, record_ends (IsType depth) word u q))
   one_base word s u (inr (inr (inr (inr p)))) (inr (inr (inr (inr q)))) = one_list word s u p q
 
-  marked : (word front back : List ℕ) (x : ℕ) (s u : Schema) → word ≡ front ++ (x ∷ []) → word ≡ back ++ (x ∷ []) → IsBase (IsType depth) front s → IsBase (IsType depth) back u → s ≡ u
-  marked word front back x s u p q b d = one_base front s u b (subst (λ z. IsBase (IsType depth) z u) (append_cancel_right back front (x ∷ []) (sym q ∙ p)) d)
+  marked : (word prefix back : List ℕ) (x : ℕ) (s u : Schema) → word ≡ prefix ++ (x ∷ []) → word ≡ back ++ (x ∷ []) → IsBase (IsType depth) prefix s → IsBase (IsType depth) back u → s ≡ u
+  marked word prefix back x s u p q b d = one_base prefix s u b (subst (λ z. IsBase (IsType depth) z u) (append_cancel_right back prefix (x ∷ []) (sym q ∙ p)) d)
 
   one_marked : (word : List ℕ) (s u : Schema) → IsBase (IsType depth) word s ⊎ (IsNullFirst (IsType depth) word s ⊎ IsNullSecond (IsType depth) word s)
       → IsBase (IsType depth) word u ⊎ (IsNullFirst (IsType depth) word u ⊎ IsNullSecond (IsType depth) word u) → s ≡ u

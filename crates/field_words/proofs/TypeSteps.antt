@@ -15,7 +15,7 @@ use Rattle.field_words.proofs.Ends.{last_of, only_list, only_record, only_enum, 
 -- ---- between brackets
 
 abbrev Ended : ℕ → List ℕ → Option (Bor (List ℕ)) → Type 0
-Ended c rest r = MatchOption r ((front : List ℕ) → rest ≢ front ++ (c ∷ [])) (λ x. rest ≡ x.now ++ (c ∷ []))
+Ended c rest r = MatchOption r ((prefix : List ℕ) → rest ≢ prefix ++ (c ∷ [])) (λ x. rest ≡ x.now ++ (c ∷ []))
 
 pub inside_some : (word rest : List ℕ) (o c : ℕ) (r : Option (Bor (List ℕ))) → word ≡ o ∷ rest → Ended c rest r → IfSome r (λ inside. word ≡ o ∷ (inside.now ++ (c ∷ [])))
 inside_some word rest o c None at m = tt
@@ -77,13 +77,13 @@ no_depth (suc depth) word s e h = omega (arith, e)
 pub no_mark_no_field : (Inner : List ℕ → Schema → Type 0) (word : List ℕ) → Lacks 61 word → (field : AvroField) → IsNamed Inner word field → ⊥
 no_mark_no_field Inner word lacks field (name, doc, (type, t, is)) = holds 61 field.name type (subst (Lacks 61) is lacks)
 
-pub named_parts : (Inner : List ℕ → Schema → Type 0) (word front back : List ℕ) → word ≡ front ++ (61 ∷ back) → Lacks 61 front → (field : AvroField) → IsNamed Inner word field → IsName front × Inner back field.schema
-named_parts Inner word front back at lacks field (name, doc, (type, t, is)) =
-    let same = one_cut 61 front field.name back type lacks (name_lacks 61 field.name refl name.1) (sym at ∙ is) in
+pub named_parts : (Inner : List ℕ → Schema → Type 0) (word prefix back : List ℕ) → word ≡ prefix ++ (61 ∷ back) → Lacks 61 prefix → (field : AvroField) → IsNamed Inner word field → IsName prefix × Inner back field.schema
+named_parts Inner word prefix back at lacks field (name, doc, (type, t, is)) =
+    let same = one_cut 61 prefix field.name back type lacks (name_lacks 61 field.name refl name.1) (sym at ∙ is) in
     (subst IsName (sym same.0) name, subst (λ z. Inner z field.schema) (sym same.1) t)
 
-pub named : (Inner : List ℕ → Schema → Type 0) (word front back : List ℕ) (field : AvroField) → word ≡ front ++ (61 ∷ back) → IsName front → field.name ≡ front → field.doc ≡ None → Inner back field.schema → IsNamed Inner word field
-named Inner word front back field at name is doc type = (subst IsName (sym is) name, doc, (back, type, at ∙ ap (λ z. z ++ (61 ∷ back)) (sym is)))
+pub named : (Inner : List ℕ → Schema → Type 0) (word prefix back : List ℕ) (field : AvroField) → word ≡ prefix ++ (61 ∷ back) → IsName prefix → field.name ≡ prefix → field.doc ≡ None → Inner back field.schema → IsNamed Inner word field
+named Inner word prefix back field at name is doc type = (subst IsName (sym is) name, doc, (back, type, at ∙ ap (λ z. z ++ (61 ∷ back)) (sym is)))
 
 -- ---- the tilde
 

@@ -94,15 +94,15 @@ module _ {K : Type 0} (same : K → K → Bool) where
     at_more (x ∷ ks) key k (suc i) h = elim (at_more ks key k i h) [ inl e ↦ inl e | inr e ↦ inr (ap suc e.0, e.1) ]
 
     once_more : (ks : List K) (key : K) → index_of same ks key ≡ None → ((i : ℕ) (k : K) → slice_get ks i ≡ Some k → index_of same ks k ≡ Some i) → (i : ℕ) (k : K) → slice_get (ks ++ key ∷ []) i ≡ Some k → index_of same (ks ++ key ∷ []) k ≡ Some i
-    once_more ks key a once i k h = by_place (at_more ks key k i h)
+    once_more ks key a once i k h = by_index (at_more ks key k i h)
       where
         old : (b : Bool) → same key k ≡ b → index_of same ks k ≡ Some i → index_of same (ks ++ key ∷ []) k ≡ Some i
         old true e o = let p : index_of same ks key ≡ index_of same ks k = alike 0 ks key k e in absurd cc
         old false e o = from_more 0 ks key k a ∙ ap (λ b. cond b (Some (0 + length ks)) (index_of same ks k)) e ∙ o
 
-        by_place : (slice_get ks i ≡ Some k) ⊎ ((i ≡ length ks) × (key ≡ k)) → index_of same (ks ++ key ∷ []) k ≡ Some i
-        by_place (inl e) = old (same key k) refl (once i k e)
-        by_place (inr e) = ap (index_of same (ks ++ key ∷ [])) (sym e.1) ∙ last ks (ks ++ key ∷ []) key i e.0 a refl
+        by_index : (slice_get ks i ≡ Some k) ⊎ ((i ≡ length ks) × (key ≡ k)) → index_of same (ks ++ key ∷ []) k ≡ Some i
+        by_index (inl e) = old (same key k) refl (once i k e)
+        by_index (inr e) = ap (index_of same (ks ++ key ∷ [])) (sym e.1) ∙ last ks (ks ++ key ∷ []) key i e.0 a refl
 
     -- the tree takes one more key
     pub indexed_more : (compare : K → K → Ordering) → ((x y : K) → same x y ≡ is_eq (compare x y)) → (m n : BTreeMap K ℕ) (ks seen new : List K) (key copy : K) (index : ℕ)

@@ -11,13 +11,13 @@ to_any P [] h = absurd h
 to_any P (x ∷ xs) (inl p) = (0, x, omega arith, refl, p)
 to_any P (x ∷ xs) (inr h) = let r = to_any P xs h in (suc r.0, r.1, omega (arith, r.2), r.3, r.4)
 
-at_place : {X : Type 0} (P : X → Type 0) (xs : List X) (k : ℕ) (x : X) → k < length xs → slice_index_or xs k x ≡ x → P x → AnyOf P xs
-at_place P [] k x l e p = absurd (omega (arith, l))
-at_place P (y ∷ ys) zero x l e p = inl (subst P (sym e) p)
-at_place P (y ∷ ys) (suc k) x l e p = inr (at_place P ys k x (omega (arith, l)) e p)
+at_position : {X : Type 0} (P : X → Type 0) (xs : List X) (k : ℕ) (x : X) → k < length xs → slice_index_or xs k x ≡ x → P x → AnyOf P xs
+at_position P [] k x l e p = absurd (omega (arith, l))
+at_position P (y ∷ ys) zero x l e p = inl (subst P (sym e) p)
+at_position P (y ∷ ys) (suc k) x l e p = inr (at_position P ys k x (omega (arith, l)) e p)
 
 pub from_any : {X : Type 0} (P : X → Type 0) (xs : List X) → Any P xs → AnyOf P xs
-from_any P xs h = at_place P xs h.0 h.1 h.2 h.3 h.4
+from_any P xs h = at_position P xs h.0 h.1 h.2 h.3 h.4
 
 pub weaker : {X : Type 0} (P Q : X → Type 0) (xs : List X) → ((x : X) → P x → Q x) → AnyOf P xs → AnyOf Q xs
 weaker P Q [] f h = absurd h

@@ -51,9 +51,9 @@ members_at [] (a ∷ columns) vs k v o h l is e = absurd h
 members_at (f ∷ fs) [] vs k v o h l is e = absurd h
 members_at (f ∷ fs) (a ∷ columns) vs k v o h l is e =
     let m : Json → Json = λ w. member_in f.name (out-Value w) in
-    let place : get_or (map m vs) k (m v) ≡ m v = get_or-map m vs k v (m v) l ∙ ap m is in
+    let found : get_or (map m vs) k (m v) ≡ m v = get_or-map m vs k v (m v) l ∙ ap m is in
     let first : means (reading f.data_type) (m v) ≡ slot_of (slot_at (array_slots a) k) =
-    slot_is (means (reading f.data_type)) (map m vs) (array_slots a) k (m v) h.0.1 (omega (arith, l, length-map vs m)) place in
+    slot_is (means (reading f.data_type)) (map m vs) (array_slots a) k (m v) h.0.1 (omega (arith, l, length-map vs m)) found in
     let same : means (reading f.data_type) (member_in f.name (layer.Object o)) ≡ means (reading f.data_type) (m v) = ap (λ x. means (reading f.data_type) (member_in f.name x)) (sym e) in
     λ i. (same ∙ first) i ∷ members_at fs columns vs k v o h.1 l is e i
 

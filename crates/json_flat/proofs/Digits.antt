@@ -64,11 +64,11 @@ drop-digits (suc n) (x ∷ a) h = drop-digits n a h.1
 -- without its last digits, a number is divided by as many tens
 pub cut : (p : ℕ) (ds : List ℕ) → AllDigits 10 ds → digits_value 10 (take p ds) ≡ digits_value 10 ds / 10 ^ (length ds - p)
 cut p ds h =
-    let front = take p ds in
+    let prefix = take p ds in
     let back = drop p ds in
-    let whole : digits_value 10 ds ≡ digits_value 10 front * 10 ^ length back + digits_value 10 back = ap (digits_value 10) (sym (take-append-drop p ds)) ∙ after-append 0 front back ∙ after-weight (digits_value 10 front) back in
+    let whole : digits_value 10 ds ≡ digits_value 10 prefix * 10 ^ length back + digits_value 10 back = ap (digits_value 10) (sym (take-append-drop p ds)) ∙ after-append 0 prefix back ∙ after-weight (digits_value 10 prefix) back in
     let small = digits_value-lt 10 back (drop-digits p ds h) in
-    let quotient = div-mul-add (digits_value 10 front) (10 ^ length back) (digits_value 10 back) small in
+    let quotient = div-mul-add (digits_value 10 prefix) (10 ^ length back) (digits_value 10 back) small in
     sym quotient ∙ ap (λ k. k / 10 ^ length back) (sym whole) ∙ ap (λ k. digits_value 10 ds / 10 ^ k) (length-drop p ds)
 
 -- one digit more

@@ -24,8 +24,8 @@ use Rattle.json_laws.proofs.Clean.{Clean, Feedless, clean-after}
 use Rattle.json_laws.proofs.Written.{Good, of_scalar}
 
 -- the digits of n, of which the first is 0 where n is alone
-abbrev pub Spelled : ℕ → List ℕ → Type 0
-Spelled n ds =
+abbrev pub IsNumeralOf : ℕ → List ℕ → Type 0
+IsNumeralOf n ds =
     ((n ≡ 0) × (ds ≡ 0x30 ∷ []))
     ⊎ ((digit : ℕ) × (more : List ℕ) × (is_digit digit ≡ true) × ((digit == 0x30) ≡ false) × Each is_digit more × (ds ≡ digit ∷ more))
 
@@ -37,19 +37,19 @@ pushed : (ds : List ℕ) (x : ℕ) → Each is_digit ds → is_digit x ≡ true 
 pushed [] x h e = (e, tt)
 pushed (d ∷ ds) x h e = (h.0, pushed ds x h.1 e)
 
-one_digit : (n : ℕ) → n < 10 → Spelled n ((48 + n) ∷ [])
+one_digit : (n : ℕ) → n < 10 → IsNumeralOf n ((48 + n) ∷ [])
 one_digit zero l = inl (refl, refl)
 one_digit (suc n) l = inr (48 + suc n, [], digit_test (suc n) l, grind (arith, nat_tests), tt, refl)
 
-last_digit : (n : ℕ) (ds : List ℕ) → 10 ≤ n → Spelled (n / 10) ds → Spelled n (ds ++ ((48 + n % 10) ∷ []))
+last_digit : (n : ℕ) (ds : List ℕ) → 10 ≤ n → IsNumeralOf (n / 10) ds → IsNumeralOf n (ds ++ ((48 + n % 10) ∷ []))
 last_digit n ds l (inl h) = absurd (omega (arith, h.0))
 last_digit n ds l (inr h) =
     inr (h.0, h.1 ++ ((48 + n % 10) ∷ []), h.2, h.3, pushed h.1 (48 + n % 10) h.4 (digit_test (n % 10) (omega arith)), ap (λ k. k ++ ((48 + n % 10) ∷ [])) h.5)
 
-pub spelled : (n : ℕ) → n < 10 ^ 64 → Spelled n (decimal n)
-spelled n l = decimal_by_steps_wide Spelled one_digit last_digit n l
+pub decimal_is_numeral : (n : ℕ) → n < 10 ^ 64 → IsNumeralOf n (decimal n)
+decimal_is_numeral n l = decimal_by_steps_wide IsNumeralOf one_digit last_digit n l
 
-is_integer : (n : ℕ) (ds : List ℕ) → Spelled n ds → IsInteger ds
+is_integer : (n : ℕ) (ds : List ℕ) → IsNumeralOf n ds → IsInteger ds
 is_integer n ds (inl h) = inl h.1
 is_integer n ds (inr h) = inr h
 
@@ -76,9 +76,9 @@ small-unsigned bits n l h = omega (arith, h, pow-le-pow_right {n = 2} (omega ari
 
 is-number : (n : ℤ) → IsSmall n → IsNumber (signed_decimal n) [] (signed_decimal n)
 is-number (pos n) l =
-    ([], decimal n, [], [], inl refl, is_integer n (decimal n) (spelled n l), inl refl, inl (refl, refl), sym (append-nil (decimal n)), sym (append-nil (decimal n)))
+    ([], decimal n, [], [], inl refl, is_integer n (decimal n) (decimal_is_numeral n l), inl refl, inl (refl, refl), sym (append-nil (decimal n)), sym (append-nil (decimal n)))
 is-number (negsuc n) l =
-    (0x2d ∷ [], decimal (suc n), [], [], inr refl, is_integer (suc n) (decimal (suc n)) (spelled (suc n) l), inl refl, inl (refl, refl), ap (λ ds. 0x2d ∷ ds) (sym (append-nil (decimal (suc n)))), sym (append-nil (0x2d ∷ decimal (suc n))))
+    (0x2d ∷ [], decimal (suc n), [], [], inr refl, is_integer (suc n) (decimal (suc n)) (decimal_is_numeral (suc n) l), inl refl, inl (refl, refl), ap (λ ds. 0x2d ∷ ds) (sym (append-nil (decimal (suc n)))), sym (append-nil (0x2d ∷ decimal (suc n))))
 
 -- ---- on one line
 
@@ -90,12 +90,12 @@ digits-feedless : (ds : List ℕ) → Each is_digit ds → Feedless ds
 digits-feedless [] h = tt
 digits-feedless (d ∷ ds) h = (digit-feedless d h.0, digits-feedless ds h.1)
 
-spelled-feedless : (n : ℕ) (ds : List ℕ) → Spelled n ds → Feedless ds
-spelled-feedless n ds (inl h) = subst Feedless (sym h.1) (refl, tt)
-spelled-feedless n ds (inr h) = subst Feedless (sym h.5) (digits-feedless (h.0 ∷ h.1) (h.2, h.4))
+numeral-feedless : (n : ℕ) (ds : List ℕ) → IsNumeralOf n ds → Feedless ds
+numeral-feedless n ds (inl h) = subst Feedless (sym h.1) (refl, tt)
+numeral-feedless n ds (inr h) = subst Feedless (sym h.5) (digits-feedless (h.0 ∷ h.1) (h.2, h.4))
 
 decimal-clean : (n : ℕ) → n < 10 ^ 64 → Clean (decimal n)
-decimal-clean n l = record { utf8 = IsUtf8-from_ascii (decimal n) (IsAscii-decimal_wide n l); one_line = spelled-feedless n (decimal n) (spelled n l) }
+decimal-clean n l = record { utf8 = IsUtf8-from_ascii (decimal n) (IsAscii-decimal_wide n l); one_line = numeral-feedless n (decimal n) (decimal_is_numeral n l) }
 
 numeral-clean : (n : ℤ) → IsSmall n → Clean (signed_decimal n)
 numeral-clean (pos n) l = decimal-clean n l
@@ -135,7 +135,7 @@ record IsPlainInteger (ds : List ℕ) : Type 0 where
   no_minus : starts_with_minus ds ≡ false
   no_point : (has_point ds ≡ false) × (after_first is_point ds ≡ []) × (before_first is_point ds ≡ ds)
 
-plain-integer : (n : ℕ) (ds : List ℕ) → Spelled n ds → IsPlainInteger ds
+plain-integer : (n : ℕ) (ds : List ℕ) → IsNumeralOf n ds → IsPlainInteger ds
 plain-integer n ds (inl h) = subst IsPlainInteger (sym h.1) (record { int = refl; no_minus = refl; no_point = (refl, refl, refl) })
 plain-integer n ds (inr h) =
     let zero_free : (not (h.0 == 0x30) || (length (h.0 ∷ h.1) == 1)) ≡ true = ap (λ b. not b || (length (h.0 ∷ h.1) == 1)) h.3 in
@@ -152,7 +152,7 @@ scaled-digits ds n e =
 
 module _ (n : ℕ) (l : n < 10 ^ 64) where
   plain : IsPlainInteger (decimal n)
-  plain = plain-integer n (decimal n) (spelled n l)
+  plain = plain-integer n (decimal n) (decimal_is_numeral n l)
 
   valued : digits_value 10 (decimal n) ≡ n
   valued = (decimal_is_IsNumeral_wide n l).1

@@ -107,7 +107,8 @@ fn append(buffer: &mut String, piece: &str) -> Result<(), JsonFault>
 
 // Appends a character. The fault is `Memory`.
 fn append_char(buffer: &mut String, c: char) -> Result<(), JsonFault>
-    ensures added { OnOk result (string_bytes buffer.new ≡ string_bytes buffer.old ++ encode_utf8 c) }
+    ensures added { OnOk result
+        (string_bytes buffer.new ≡ string_bytes buffer.old ++ encode_utf8 c) }
     ensures memory { IfErr result (λ e. e ≡ JsonFault.Memory) }
 {
     if buffer.push(c).is_err() {

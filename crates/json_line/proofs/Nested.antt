@@ -14,7 +14,7 @@ use Rattle.arrow_builders.specs.Tight.{AllTight, IsTight}
 use Rattle.arrow_builders.specs.declared.array.MutableArray.{MutableArray, Struct}
 use Rattle.arrow_builders.specs.declared.structs.DynMutableStructArray.{DynMutableStructArray}
 use Rattle.arrow_builders.proofs.Rows.{shape-record, slots-record, tight-record}
-use Rattle.arrow_builders.proofs.Staying.{drop_front, grown, lists_stay, record_last, records_stay, tight_long}
+use Rattle.arrow_builders.proofs.Staying.{drop_prefix, grown, lists_stay, record_last, records_stay, tight_long}
 use Rattle.arrow_types.specs.declared.physical.PhysicalType.{PhysicalType}
 use Rattle.arrow_types.specs.declared.physical.PhysicalType.TheVariants as physical
 use Rattle.arrow_types.specs.declared.physical.PrimitiveType.TheVariants as primitive
@@ -135,7 +135,7 @@ array_means f items ss e =
 list_more : (old new mid child items now : List Slot) (lens : List (Option ℕ)) → length child ≡ items_of lens → now ≡ child ++ items → old ≡ lists_from 0 lens child → mid ≡ lists_from 0 lens now → new ≡ mid ++ slot.List (drop (items_of lens) now) ∷ [] → new ≡ old ++ slot.List items ∷ []
 list_more old new mid child items now lens l e o m n =
     let s : mid ≡ old = m ∙ ap (λ (xs : List Slot). lists_from 0 lens xs) e ∙ lists_stay 0 lens child items (omega (arith, l)) ∙ sym o in
-    let d : drop (items_of lens) now ≡ items = ap (λ (xs : List Slot). drop (items_of lens) xs) e ∙ ap (λ (k : ℕ). drop k (child ++ items)) (sym l) ∙ drop_front child items in
+    let d : drop (items_of lens) now ≡ items = ap (λ (xs : List Slot). drop (items_of lens) xs) e ∙ ap (λ (k : ℕ). drop k (child ++ items)) (sym l) ∙ drop_prefix child items in
     n ∙ ap (λ (xs : List Slot). mid ++ slot.List xs ∷ []) d ∙ ap (λ (xs : List Slot). xs ++ slot.List items ∷ []) s
 
 -- a list of what the child took

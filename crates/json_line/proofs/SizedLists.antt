@@ -15,7 +15,7 @@ use Rattle.arrow_builders.specs.Tight.{IsTight}
 use Rattle.arrow_builders.specs.declared.array.MutableArray.{MutableArray, FixedSizeList}
 use Rattle.arrow_builders.specs.declared.fixed_size_list.MutableFixedSizeListArray.{MutableFixedSizeListArray}
 use Rattle.arrow_builders.proofs.NestedSlots.{slots_of-alike}
-use Rattle.arrow_builders.proofs.Staying.{drop_front}
+use Rattle.arrow_builders.proofs.Staying.{drop_prefix}
 use Rattle.arrow_types.specs.declared.slot.Slot.{Slot}
 use Rattle.arrow_types.specs.declared.slot.Slot.TheVariants as slot
 use Rattle.json_tree.specs.Tree.{Json, array}
@@ -41,10 +41,10 @@ sized_array_means f size items ss l e =
 
 -- ---- slots
 
-at_front : (xs ys : List Slot) (k : ℕ) → k < length xs → slot_at (xs ++ ys) k ≡ slot_at xs k
-at_front [] ys k lt = absurd (omega (arith, lt))
-at_front (x ∷ xs) ys zero lt = refl
-at_front (x ∷ xs) ys (suc k) lt = at_front xs ys k (omega (arith, lt))
+at_prefix : (xs ys : List Slot) (k : ℕ) → k < length xs → slot_at (xs ++ ys) k ≡ slot_at xs k
+at_prefix [] ys k lt = absurd (omega (arith, lt))
+at_prefix (x ∷ xs) ys zero lt = refl
+at_prefix (x ∷ xs) ys (suc k) lt = at_prefix xs ys k (omega (arith, lt))
 
 -- the lists stay while the child grows
 sized_stay : (size : ℕ) (booleans : List Bool) (xs ys : List Slot) → length xs ≡ length booleans * size → slots_where booleans (fixed_list_slot size (xs ++ ys)) ≡ slots_where booleans (fixed_list_slot size xs)
@@ -52,13 +52,13 @@ sized_stay size booleans xs ys l =
     slots_of-alike (fixed_list_slot size (xs ++ ys)) (fixed_list_slot size xs) (mask_of booleans) booleans (length booleans) (length booleans) refl refl (λ k h.
     let p : (k + 1) * size ≤ length booleans * size = mul-le-mul_right size (omega (arith, h)) in
     let q : (k + 1) * size ≡ k * size + size = omega arith in
-    ap slot.List (made_alike (slot_at (xs ++ ys)) (slot_at xs) (k * size) (k * size) size (λ i m. at_front xs ys (k * size + i) (omega (arith, m, p, q, l)))))
+    ap slot.List (made_alike (slot_at (xs ++ ys)) (slot_at xs) (k * size) (k * size) size (λ i m. at_prefix xs ys (k * size + i) (omega (arith, m, p, q, l)))))
 
 sized_more : (size : ℕ) (booleans : List Bool) (old new mid child items now : List Slot) → length child ≡ length booleans * size → now ≡ child ++ items → old ≡ slots_where booleans (fixed_list_slot size child) → mid ≡ slots_where booleans (fixed_list_slot size now)
     → new ≡ mid ++ slot.List (drop (length booleans * size) now) ∷ [] → new ≡ old ++ slot.List items ∷ []
 sized_more size booleans old new mid child items now l e o m n =
     let s : mid ≡ old = m ∙ ap (λ (xs : List Slot). slots_where booleans (fixed_list_slot size xs)) e ∙ sized_stay size booleans child items l ∙ sym o in
-    let d : drop (length booleans * size) now ≡ items = ap (λ (xs : List Slot). drop (length booleans * size) xs) e ∙ ap (λ (k : ℕ). drop k (child ++ items)) (sym l) ∙ drop_front child items in
+    let d : drop (length booleans * size) now ≡ items = ap (λ (xs : List Slot). drop (length booleans * size) xs) e ∙ ap (λ (k : ℕ). drop k (child ++ items)) (sym l) ∙ drop_prefix child items in
     n ∙ ap (λ (xs : List Slot). mid ++ slot.List xs ∷ []) d ∙ ap (λ (xs : List Slot). xs ++ slot.List items ∷ []) s
 
 -- a list of what the child took

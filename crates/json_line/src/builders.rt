@@ -47,7 +47,8 @@ impl Model for LineBuilders {
 
     ghost view = { λ b. b.fields.items };
 
-    ghost invariant = { λ b. AreLineBuilders b.fields.items b.names.items b.below.items b.builders.items };
+    ghost invariant = { λ b.
+        AreLineBuilders b.fields.items b.names.items b.below.items b.builders.items };
 }
 
 /// Drops the slots of each builder.

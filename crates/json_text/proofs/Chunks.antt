@@ -11,7 +11,7 @@ use Rattle.json_text.specs.Unescaped.{IsUnescaped}
 both_parts : (xs ys : List ℕ) → IsUnescaped xs → IsUnescaped ys → IsUnescaped (xs ++ ys)
 both_parts xs ys p q = rw (flat_map-append escaped xs ys, p, q) refl
 
--- a chunk at the front and the rest
+-- the first chunk and the rest
 pub chunk_then : (string chunk rest : List ℕ) (n : ℕ) → chunk ≡ take n string → rest ≡ drop n string → IsUnescaped chunk → IsUnescaped rest → IsUnescaped string
 chunk_then string chunk rest n e d p q =
     let whole : chunk ++ rest ≡ string = ap (λ (l : List ℕ). l ++ rest) e ∙ ap (λ (l : List ℕ). take n string ++ l) d ∙ take-append-drop n string in
@@ -27,12 +27,12 @@ longer : (string : List ℕ) → length string ≤ length (flat_map escaped stri
 longer [] = omega arith
 longer (byte ∷ string) = omega (arith, filled byte, longer string, length-append (escaped byte) (flat_map escaped string))
 
-after_first : (byte : ℕ) (front behind string : List ℕ) → 1 ≤ length front → length string ≤ length behind → front ++ behind ≡ byte ∷ string → behind ≡ string
+after_first : (byte : ℕ) (prefix behind string : List ℕ) → 1 ≤ length prefix → length string ≤ length behind → prefix ++ behind ≡ byte ∷ string → behind ≡ string
 after_first byte [] behind string l m h = absurd (omega (arith, l))
 after_first byte (a ∷ []) behind string l m h = ap (drop 1) h
-after_first byte (a ∷ b ∷ front) behind string l m h =
-    let same : suc (suc (length (front ++ behind))) ≡ suc (length string) = ap length h in
-    absurd (omega (arith, same, m, length-append front behind))
+after_first byte (a ∷ b ∷ prefix) behind string l m h =
+    let same : suc (suc (length (prefix ++ behind))) ≡ suc (length string) = ap length h in
+    absurd (omega (arith, same, m, length-append prefix behind))
 
 -- of a string that needs no escape, what stands behind some bytes needs none
 unescaped_behind : (n : ℕ) (string : List ℕ) → IsUnescaped string → IsUnescaped (drop n string)
@@ -56,9 +56,9 @@ on_false_both false false P Q R f h k = f h k
 pub passed_then : (string rest : List ℕ) → Passed string rest → IsUnescaped rest → IsUnescaped string
 passed_then string rest h q = ap (flat_map escaped) (sym h.splits) ∙ both_parts h.prefix rest h.plain q ∙ h.splits
 
--- the front of a key that was filled up
-pub front_kept : (key filled front zeros : List ℕ) (n : ℕ) → n ≡ length key → length key ≤ 16 → filled ≡ take 16 key ++ zeros → front ≡ take 16 filled → take n front ≡ key
-front_kept key filled front zeros n e l d h =
+-- the prefix of a key that was filled up
+pub prefix_kept : (key filled prefix zeros : List ℕ) (n : ℕ) → n ≡ length key → length key ≤ 16 → filled ≡ take 16 key ++ zeros → prefix ≡ take 16 filled → take n prefix ≡ key
+prefix_kept key filled prefix zeros n e l d h =
     let short : n ≤ 16 = omega (arith, e, l) in
     ap (λ (z : List ℕ). take n z) h ∙ take-take n 16 filled short
     ∙ ap (λ (z : List ℕ). take n z) (d ∙ ap (λ (z : List ℕ). z ++ zeros) (take_all 16 key l))

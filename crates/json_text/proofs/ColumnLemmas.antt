@@ -206,10 +206,10 @@ more_named b (m ∷ names) [] cs name t c w h k n f i = absurd h
 more_named b (m ∷ names) (u ∷ ts) [] name t c w h k n f i = absurd h
 more_named b (m ∷ names) (u ∷ ts) (d ∷ cs) name t c w h k n f i =
     let le : d.within ≤ length cs = h.0.1.0 in
-    let front : take d.within (cs ++ (c ∷ w)) ≡ take d.within cs = take-append-le d.within cs (c ∷ w) le in
+    let prefix : take d.within (cs ++ (c ∷ w)) ≡ take d.within cs = take-append-le d.within cs (c ∷ w) le in
     let back : drop d.within (cs ++ (c ∷ w)) ≡ drop d.within cs ++ (c ∷ w) = drop-append-le d.within cs (c ∷ w) le in
     let more = more_named false names ts (drop d.within cs) name t c w h.1 (k ∙ ap (λ z. key_of z name) (sym (later b (drop d.within cs)))) n f i in (
-      (h.0.0, (omega (arith, le, length-append cs (c ∷ w)), (h.0.1.1.0, subst (AreWithin u) (sym front) h.0.1.1.1))),
+      (h.0.0, (omega (arith, le, length-append cs (c ∷ w)), (h.0.1.1.0, subst (AreWithin u) (sym prefix) h.0.1.1.1))),
       subst (AreNamedFrom false (names ++ (name ∷ [])) (ts ++ (t ∷ []))) (sym back) more,
     )
 
@@ -343,9 +343,9 @@ here xs k x l e = rw add-one (drop-cons xs k x l ∙ ap (λ z. z ∷ drop (suc k
 abbrev pub others : List Column → List Column
 others rest = take (length rest - 1) (drop 1 rest)
 
-pub front_is : (rest : List Column) (c : Column) → 1 ≤ length rest → c ≡ get_or rest 0 c → rest ≡ c ∷ others rest
-front_is [] c l e = absurd (omega (arith, l))
-front_is (d ∷ rest) c l e =
+pub prefix_is : (rest : List Column) (c : Column) → 1 ≤ length rest → c ≡ get_or rest 0 c → rest ≡ c ∷ others rest
+prefix_is [] c l e = absurd (omega (arith, l))
+prefix_is (d ∷ rest) c l e =
     let n : suc (length rest) - 1 ≡ length rest = omega arith in
     ap (λ z. z ∷ rest) (sym e) ∙ ap (λ z. c ∷ z) (sym (ap (λ m. take m rest) n ∙ take-length rest))
 

@@ -15,19 +15,19 @@ use Rattle.json_text.proofs.Joined.{part_at, part_length}
 use Rattle.json_text.proofs.Records.{and_left, and_right, and_both}
 
 -- each of the places from a on, n of them
-pub each_place : (p : ℕ → Bool) (a n : ℕ) → ((i : ℕ) → a ≤ i → i < a + n → p i ≡ true) → list_all p (range_with_len a n) ≡ true
-each_place p a zero h = refl
-each_place p a (suc n) h = and_both (p a) _ (h a (omega arith) (omega arith)) (each_place p (a + 1) n (λ i l m. h i (omega (arith, l)) (omega (arith, m))))
+pub each_index : (p : ℕ → Bool) (a n : ℕ) → ((i : ℕ) → a ≤ i → i < a + n → p i ≡ true) → list_all p (range_with_len a n) ≡ true
+each_index p a zero h = refl
+each_index p a (suc n) h = and_both (p a) _ (h a (omega arith) (omega arith)) (each_index p (a + 1) n (λ i l m. h i (omega (arith, l)) (omega (arith, m))))
 
 -- one of them not
-pub not_each_place : (p : ℕ → Bool) (a n i : ℕ) → a ≤ i → i < a + n → p i ≡ false → list_all p (range_with_len a n) ≡ false
-not_each_place p a n i l m e =
+pub not_each_index : (p : ℕ → Bool) (a n i : ℕ) → a ≤ i → i < a + n → p i ≡ false → list_all p (range_with_len a n) ≡ false
+not_each_index p a n i l m e =
     let within : i - a < length (range_with_len a n) = omega (arith, l, m, length-range_with_len a n) in
     let at : get_or (range_with_len a n) (i - a) 0 ≡ i = get_or-range_with_len a n (i - a) 0 (omega (arith, l, m)) ∙ omega (arith, l) in
     list_all_at p (range_with_len a n) (i - a) 0 within (ap p at ∙ e)
 
-pub one_place : (p : ℕ → Bool) (i : ℕ) → list_all p (range_with_len i (i + 1 - i)) ≡ p i
-one_place p i =
+pub one_index : (p : ℕ → Bool) (i : ℕ) → list_all p (range_with_len i (i + 1 - i)) ≡ p i
+one_index p i =
     let one : i + 1 - i ≡ 1 = omega arith in
     ap (λ n. list_all p (range_with_len i n)) one ∙ and_true (p i)
   where
@@ -71,12 +71,12 @@ out_of_run p xs a b o w h =
     (a + out.0, (omega arith, (omega (arith, below), ap p (sym (part_at xs a b out.0 slot.Null o w below)) ∙ out.1.1.1)))
 
 -- a run by its places
-pub by_places : (p : Slot → Bool) (q : ℕ → Bool) (xs : List Slot) (a n : ℕ) → a + n ≤ length xs → ((i : ℕ) → a ≤ i → i < a + n → q i ≡ p (slot_at xs i)) → list_all q (range_with_len a n) ≡ list_all p (take n (drop a xs))
-by_places p q xs a zero l h = refl
-by_places p q xs a (suc n) l h =
+pub by_indices : (p : Slot → Bool) (q : ℕ → Bool) (xs : List Slot) (a n : ℕ) → a + n ≤ length xs → ((i : ℕ) → a ≤ i → i < a + n → q i ≡ p (slot_at xs i)) → list_all q (range_with_len a n) ≡ list_all p (take n (drop a xs))
+by_indices p q xs a zero l h = refl
+by_indices p q xs a (suc n) l h =
     let here : drop a xs ≡ slot_at xs a ∷ drop (a + 1) xs = drop_more xs a slot.Null (omega (arith, l)) in
     ap (λ b. b && list_all q (range_with_len (a + 1) n)) (h a (omega arith) (omega arith))
-    ∙ ap (λ b. p (slot_at xs a) && b) (by_places p q xs (a + 1) n (omega (arith, l)) (λ i g m. h i (omega (arith, g)) (omega (arith, m))))
+    ∙ ap (λ b. p (slot_at xs a) && b) (by_indices p q xs (a + 1) n (omega (arith, l)) (λ i g m. h i (omega (arith, g)) (omega (arith, m))))
     ∙ sym (ap (λ z. list_all p (take (suc n) z)) here)
 
 -- a run of all slots

@@ -30,7 +30,7 @@ pub fn push(out: &mut Vec<u8>, bytes: &[u8]) -> Appended
 ///
 /// `AllocError` where there is no memory.
 #[inline]
-pub(crate) fn push_front(out: &mut Vec<u8>, bytes: &[u8; 16], len: u8) -> Appended
+pub(crate) fn push_prefix(out: &mut Vec<u8>, bytes: &[u8; 16], len: u8) -> Appended
     ensures ok { OnOk result (out.new.items ≡ out.old.items ++ take len bytes.now) }
 {
     let start = out.len();

@@ -4,7 +4,7 @@ ghost use Rattle.arrow_base.specs.WrittenString.{json_string};
 ghost use Rattle.arrow_types.specs.declared.types.Field.{Field as TheField};
 ghost use Rattle.json_text.specs.Columns.{AddsColumn, AreWithin, AreFields, key_bytes, key_of};
 
-use crate::bytes::{Appended, push, push_front, push_string};
+use crate::bytes::{Appended, push, push_prefix, push_string};
 use crate::integers::{IntegerForm, integer_form};
 use arrow_types::{DataType, Field};
 use std::alloc::{AllocError, Global};
@@ -66,7 +66,7 @@ pub fn push_key(out: &mut Vec<u8>, key: &Key) -> Appended
     ensures ok { OnOk result (out.new.items ≡ out.old.items ++ key_bytes key.now) }
 {
     match key {
-        Key::Short(bytes, len) => push_front(out, bytes, *len),
+        Key::Short(bytes, len) => push_prefix(out, bytes, *len),
         Key::Long(bytes) => push(out, bytes.as_slice()),
     }
 }

@@ -39,7 +39,8 @@ impl<V> Model for Members<V> {
 
     ghost view = { λ m. m.pairs.items };
 
-    ghost invariant = { λ m. (distinct (keys_of m.pairs.items) ≡ true) × Indexed m.indices (drop 16 (keys_of m.pairs.items)) };
+    ghost invariant = { λ m. (distinct (keys_of m.pairs.items) ≡ true)
+        × Indexed m.indices (drop 16 (keys_of m.pairs.items)) };
 }
 
 // Whether two texts of the same length are the same, after a call, since they seldom begin alike.

@@ -66,7 +66,9 @@ where
 
     ghost can_advance = { λ s. MayAdvance (λ f. F.IsAlwaysCallable f) I.can_next I.remaining s };
 
-    ghost step = { λ before answer after. Advances (λ v. v.items) (λ f item lent answer left g. F.step f item lent answer left g) I.next_gives before answer after };
+    ghost step = { λ before answer after. Advances (λ v. v.items)
+        (λ f item lent answer left g. F.step f item lent answer left g)
+        I.next_gives before answer after };
 
     ghost shown = { λ s. shown_of s };
 
@@ -125,7 +127,9 @@ where
 
     ghost can_advance = { λ s. MayAdvance (λ f. F.IsAlwaysCallable f) I.can_next I.remaining s };
 
-    ghost step = { λ before answer after. Advances (λ v. v.items) (λ f item lent answer left g. F.step f item lent answer left g) I.next_gives before answer after };
+    ghost step = { λ before answer after. Advances (λ v. v.items)
+        (λ f item lent answer left g. F.step f item lent answer left g)
+        I.next_gives before answer after };
 
     ghost shown = { λ s. shown_of s };
 

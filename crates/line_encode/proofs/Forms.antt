@@ -53,8 +53,8 @@ record_form nullable names plans = λ i. OrNull nullable (λ v bytes. record_hel
 
 -- ---- what is appended
 
-pub adds_after : (Are Both : List ℕ → Type 0) (front old mid new : List ℕ) → ((bytes : List ℕ) → Are bytes → Both (front ++ bytes)) → mid ≡ old ++ front → Adds Are mid new → Adds Both old new
-adds_after Are Both front old mid new k e (bytes, a, h) = (front ++ bytes, a ∙ (ap (λ (xs : List ℕ). xs ++ bytes) e ∙ append_assoc old front bytes), k bytes h)
+pub adds_after : (Are Both : List ℕ → Type 0) (prefix old mid new : List ℕ) → ((bytes : List ℕ) → Are bytes → Both (prefix ++ bytes)) → mid ≡ old ++ prefix → Adds Are mid new → Adds Both old new
+adds_after Are Both prefix old mid new k e (bytes, a, h) = (prefix ++ bytes, a ∙ (ap (λ (xs : List ℕ). xs ++ bytes) e ∙ append_assoc old prefix bytes), k bytes h)
 
 -- a value behind its bracket and its index
 pub read_held : (r : Result (Unit {0}) GivenUp) (nullable : Bool) (W : Form) (read other : List ℕ → Outcome Json) (before behind after old mid new : List ℕ) → other before ≡ read behind → mid ≡ old ++ index nullable

@@ -71,13 +71,13 @@ some_items start (suc n) x old mid new some few is put e before items l o none =
 pub moved_items : (start count : ℕ) (n : ℤ) (old moved mid counted all new : List ℕ) → count ≢ 0 → n ≡ pos count → moved ≡ drop (start + 1) old → mid ≡ take start old → counted ≡ mid ++ shortest n → all ≡ counted ++ moved → new ≡ all ++ 0 ∷ [] → Blocks start count old new
 moved_items start zero n old moved mid counted all new some is m p c a e before items l o none = absurd (some refl)
 moved_items start (suc k) n old moved mid counted all new some is m p c a e before items l o none =
-    let front : take start old ≡ before =
+    let prefix : take start old ≡ before =
     ap (take start) (o ∙ append_assoc before (0 ∷ []) items) ∙ ap (λ (j : ℕ). take j (before ++ 0 ∷ items)) (sym l) ∙ take-append_seam before (0 ∷ items) in
     let long : length (before ++ 0 ∷ []) ≡ start + 1 = omega (arith, length-append before (0 ∷ []), l) in
     let back : drop (start + 1) old ≡ items = ap (drop (start + 1)) o ∙ ap (λ (j : ℕ). drop j ((before ++ 0 ∷ []) ++ items)) (sym long) ∙ drop-append_seam (before ++ 0 ∷ []) items in
     let number : shortest n ≡ shortest (pos (suc k)) = ap shortest is in
     e ∙ (λ i. a i ++ sym zero_byte i) ∙ ap (λ (xs : List ℕ). (xs ++ moved) ++ shortest (pos 0)) c
-    ∙ (λ i. (((p ∙ front) i ++ number i) ++ (m ∙ back) i) ++ shortest (pos 0))
+    ∙ (λ i. (((p ∙ prefix) i ++ number i) ++ (m ∙ back) i) ++ shortest (pos 0))
     ∙ ap (λ (xs : List ℕ). xs ++ shortest (pos 0)) (append_assoc before (shortest (pos (suc k))) items) ∙ append_assoc before (shortest (pos (suc k)) ++ items) (shortest (pos 0))
     ∙ ap (λ (xs : List ℕ). before ++ xs) (append_assoc (shortest (pos (suc k))) items (shortest (pos 0)))
 

@@ -58,11 +58,11 @@ whole_lines taken rest left is (inr ends) =
     let none : rest ≡ [] = subst IsAtEnd is ends in
     ap (λ (z : List ℕ). lines (taken ++ z)) none ∙ ap lines (append-nil taken) ∙ sym (append-nil (lines taken)) ∙ ap (λ (z : List (List ℕ)). lines taken ++ z) (sym (ap lines none ∙ no_lines))
 
-front_all : (P : List ℕ → Type 0) (front rest : List (List ℕ)) → All P (front ++ rest) → All P front
-front_all P front rest all = subst (All P) (take-append_seam front rest) (All-take P (length front) (front ++ rest) all)
+prefix_all : (P : List ℕ → Type 0) (prefix rest : List (List ℕ)) → All P (prefix ++ rest) → All P prefix
+prefix_all P prefix rest all = subst (All P) (take-append_seam prefix rest) (All-take P (length prefix) (prefix ++ rest) all)
 
-back_all : (P : List ℕ → Type 0) (front rest : List (List ℕ)) → All P (front ++ rest) → All P rest
-back_all P front rest all = subst (All P) (drop-append_seam front rest) (All-drop P (length front) (front ++ rest) all)
+back_all : (P : List ℕ → Type 0) (prefix rest : List (List ℕ)) → All P (prefix ++ rest) → All P rest
+back_all P prefix rest all = subst (All P) (drop-append_seam prefix rest) (All-drop P (length prefix) (prefix ++ rest) all)
 
 -- the source tells lines in UTF-8, no more of them than the limit, which are the last of these rows
 record Ahead (texts : List (List ℕ)) (s : State) : Type 0 where
@@ -76,9 +76,9 @@ record Ahead (texts : List (List ℕ)) (s : State) : Type 0 where
 -- rows that were taken are some of these, and what is left is ahead
 record Went (texts some : List (List ℕ)) (new : State) : Type 0 where
   ahead : Ahead texts new
-  front : List (List ℕ)
+  prefix : List (List ℕ)
   back : List (List ℕ)
-  rows : texts ≡ front ++ (some ++ back)
+  rows : texts ≡ prefix ++ (some ++ back)
 
 module _ (texts : List (List ℕ)) where
   goes : (old new : State) (some : List (List ℕ)) → Ahead texts old → TakesRows old new some → Went texts some new
@@ -98,7 +98,7 @@ module _ (texts : List (List ℕ)) where
           before = a.before ++ some;
           rows = all ∙ sym (append_assoc a.before some (rows_of l.0));
         };
-        front = a.before;
+        prefix = a.before;
         back = rows_of l.0;
         rows = all;
       }
@@ -112,7 +112,7 @@ module _ (texts : List (List ℕ)) where
   row_is_there old new (ExternalFormat reason.Utf8Line) a steady h =
       let l = left_of old.left new.left a.rest h.taken a.left h.takes.consumed in
       let split = ap lines l.2 ∙ whole_lines h.taken l.0 new.left l.1 h.whole in
-      absurd (h.wrong (front_all IsUtf8 (lines h.taken) (lines l.0) (subst (All IsUtf8) split a.utf8)))
+      absurd (h.wrong (prefix_all IsUtf8 (lines h.taken) (lines l.0) (subst (All IsUtf8) split a.utf8)))
   row_is_there old new OutOfMemory a steady h = refl
   row_is_there old new _ a steady h = absurd h
 
@@ -121,17 +121,17 @@ module _ (texts : List (List ℕ)) where
 -- all of some values are objects, as all of these are
 objects_within : (some all : List Json) → ArePart some all → All (λ v. is_object v ≡ true) all → Any (λ v. is_object v ≡ false) some → ⊥
 objects_within some all p objects (k, v, lt, is, other) =
-    let whole : All (λ v. is_object v ≡ true) (p.front ++ (some ++ p.back)) = subst (All (λ v. is_object v ≡ true)) p.joined objects in
-    let behind = json_back p.front (some ++ p.back) whole in
-    let own = json_front some p.back behind in
+    let whole : All (λ v. is_object v ≡ true) (p.prefix ++ (some ++ p.back)) = subst (All (λ v. is_object v ≡ true)) p.joined objects in
+    let behind = json_back p.prefix (some ++ p.back) whole in
+    let own = json_prefix some p.back behind in
     let yes : is_object v ≡ true = subst (λ z. is_object z ≡ true) is (own k v lt) in
     false≢true (sym other ∙ yes)
   where
-    json_front : (front rest : List Json) → All (λ v. is_object v ≡ true) (front ++ rest) → All (λ v. is_object v ≡ true) front
-    json_front front rest h = subst (All (λ v. is_object v ≡ true)) (take-append_seam front rest) (All-take (λ v. is_object v ≡ true) (length front) (front ++ rest) h)
+    json_prefix : (prefix rest : List Json) → All (λ v. is_object v ≡ true) (prefix ++ rest) → All (λ v. is_object v ≡ true) prefix
+    json_prefix prefix rest h = subst (All (λ v. is_object v ≡ true)) (take-append_seam prefix rest) (All-take (λ v. is_object v ≡ true) (length prefix) (prefix ++ rest) h)
 
-    json_back : (front rest : List Json) → All (λ v. is_object v ≡ true) (front ++ rest) → All (λ v. is_object v ≡ true) rest
-    json_back front rest h = subst (All (λ v. is_object v ≡ true)) (drop-append_seam front rest) (All-drop (λ v. is_object v ≡ true) (length front) (front ++ rest) h)
+    json_back : (prefix rest : List Json) → All (λ v. is_object v ≡ true) (prefix ++ rest) → All (λ v. is_object v ≡ true) rest
+    json_back prefix rest h = subst (All (λ v. is_object v ≡ true)) (drop-append_seam prefix rest) (All-drop (λ v. is_object v ≡ true) (length prefix) (prefix ++ rest) h)
 
 module _ (t : DataType) (root : Schema) (texts : List (List ℕ)) (slots : List Slot) (are : AreRows t root texts slots) (few : TooMany t are.values → ⊥)
     (grows : (some all : List Json) → ArePart some all → TooMany t some → TooMany t all) where
@@ -148,17 +148,17 @@ module _ (t : DataType) (root : Schema) (texts : List (List ℕ)) (slots : List 
   written some (InvalidArgumentError reason.NullUnderRequired) p (objects, (others, meant, lacks)) =
       let own = slots_within (reading t) some are.values slots p are.meant in
       let same : others ≡ own.own = same_slots others own.own (sym meant ∙ own.meant) in
-      let none : lacks_value root (own.front ++ (own.own ++ own.back)) ≡ false = sym (ap (lacks_value root) own.joined) ∙ are.complete in
-      absurd (none_within _ own.front own.own own.back none (sym (ap (lacks_value root) same) ∙ lacks))
+      let none : lacks_value root (own.prefix ++ (own.own ++ own.back)) ≡ false = sym (ap (lacks_value root) own.joined) ∙ are.complete in
+      absurd (none_within _ own.prefix own.own own.back none (sym (ap (lacks_value root) same) ∙ lacks))
   written some OutOfMemory p h = refl
   written some _ p h = absurd h
 
   -- each of the rows has a value
-  valued : (front some back : List (List ℕ)) (e : Error) → texts ≡ front ++ (some ++ back) → FirstWithout some e → e ≡ OutOfMemory
-  valued front some back e is f =
-      let split : texts ≡ (front ++ f.before) ++ f.text ∷ (f.after ++ back) =
-      is ∙ ap (λ (z : List (List ℕ)). front ++ (z ++ back)) f.split ∙ ap (λ (z : List (List ℕ)). front ++ z) (append_assoc f.before (f.text ∷ f.after) back) ∙ sym (append_assoc front f.before (f.text ∷ (f.after ++ back))) in
-      let found = has_value (front ++ f.before) f.text (f.after ++ back) are.values (subst (AllZip IsJson are.values) split are.have) in
+  valued : (prefix some back : List (List ℕ)) (e : Error) → texts ≡ prefix ++ (some ++ back) → FirstWithout some e → e ≡ OutOfMemory
+  valued prefix some back e is f =
+      let split : texts ≡ (prefix ++ f.before) ++ f.text ∷ (f.after ++ back) =
+      is ∙ ap (λ (z : List (List ℕ)). prefix ++ (z ++ back)) f.split ∙ ap (λ (z : List (List ℕ)). prefix ++ z) (append_assoc f.before (f.text ∷ f.after) back) ∙ sym (append_assoc prefix f.before (f.text ∷ (f.after ++ back))) in
+      let found = has_value (prefix ++ f.before) f.text (f.after ++ back) are.values (subst (AllZip IsJson are.values) split are.have) in
       from e found.0 found.1 f.fault
     where
       from : (d : Error) (v : Json) → IsJson v f.text → IsNoValue f.text d → d ≡ OutOfMemory
@@ -167,10 +167,10 @@ module _ (t : DataType) (root : Schema) (texts : List (List ℕ)) (slots : List 
       from OutOfMemory v is h = refl
       from _ v is h = absurd h
 
-  not_refused : (front some back : List (List ℕ)) (e : Error) → texts ≡ front ++ (some ++ back) → AreRefused t root some e → e ≡ OutOfMemory
-  not_refused front some back e is (inl f) = valued front some back e is f
-  not_refused front some back e is (inr (values, have, h)) =
-      written values e (values_within front some back are.values values (subst (AllZip IsJson are.values) is are.have) have) h
+  not_refused : (prefix some back : List (List ℕ)) (e : Error) → texts ≡ prefix ++ (some ++ back) → AreRefused t root some e → e ≡ OutOfMemory
+  not_refused prefix some back e is (inl f) = valued prefix some back e is f
+  not_refused prefix some back e is (inr (values, have, h)) =
+      written values e (values_within prefix some back are.values values (subst (AllZip IsJson are.values) is are.have) have) h
 
   -- ---- batches
 
@@ -183,7 +183,7 @@ module _ (t : DataType) (root : Schema) (texts : List (List ℕ)) (slots : List 
         inl (row_is_there texts f.between new e w.ahead (λ rose. firm (rose_from between.faults f.between.faults new.faults f.takes.takes.faults rose)) f.fails)
     batch_is_there between held e a firm (inl (keeps, inr (inr r))) =
         let w = goes texts between new r.texts a r.takes in
-        inl (not_refused w.front r.texts w.back e w.rows r.why)
+        inl (not_refused w.prefix r.texts w.back e w.rows r.why)
     batch_is_there between held e a firm (inr b) = inr (b.is, b.failed)
 
     all_are_there : (e : Error) → StopsAtBatch t root marker n old new sink e → CameFromOutside sink e

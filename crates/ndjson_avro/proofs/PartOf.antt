@@ -27,9 +27,9 @@ use Rattle.json_tree.proofs.TextLaws.{one_value}
 
 -- some of the values, which stand one after another
 pub record ArePart (some all : List Json) : Type 0 where
-  pub front : List Json
+  pub prefix : List Json
   pub back : List Json
-  pub joined : all ≡ front ++ (some ++ back)
+  pub joined : all ≡ prefix ++ (some ++ back)
 
 -- ---- values of texts
 
@@ -48,11 +48,11 @@ first_values (t ∷ texts) more (u ∷ all) (v ∷ some) h k =
     (rest.0, λ i. same i ∷ rest.1 i)
 
 pub values_within : (before texts after : List (List ℕ)) (all some : List Json) → AllZip IsJson all (before ++ (texts ++ after)) → AllZip IsJson some texts → ArePart some all
-values_within [] texts after all some h k = let f = first_values texts after all some h k in record { front = []; back = f.0; joined = f.1 }
+values_within [] texts after all some h k = let f = first_values texts after all some h k in record { prefix = []; back = f.0; joined = f.1 }
 values_within (b ∷ before) texts after [] some h k = absurd h
 values_within (b ∷ before) texts after (v ∷ all) some h k =
     let p = values_within before texts after all some h.1 k in
-    record { front = v ∷ p.front; back = p.back; joined = ap (λ (z : List Json). v ∷ z) p.joined }
+    record { prefix = v ∷ p.prefix; back = p.back; joined = ap (λ (z : List Json). v ∷ z) p.joined }
 
 -- a text among others has a value
 pub has_value : (before : List (List ℕ)) (text : List ℕ) (after : List (List ℕ)) (all : List Json) → AllZip IsJson all (before ++ text ∷ after) → (v : Json) × IsJson v text
@@ -96,18 +96,18 @@ means-append reading (x ∷ xs) ys = ap (λ (z : List Meaning). means reading x 
 
 -- the slots of a part
 pub record HasSlots (reading : Layer → Meaning) (some : List Json) (slots : List Slot) : Type 0 where
-  pub front : List Slot
+  pub prefix : List Slot
   pub own : List Slot
   pub back : List Slot
-  pub joined : slots ≡ front ++ (own ++ back)
+  pub joined : slots ≡ prefix ++ (own ++ back)
   pub meant : AreSlotsOf reading some own
 
 pub slots_within : (reading : Layer → Meaning) (some all : List Json) (slots : List Slot) → ArePart some all → AreSlotsOf reading all slots → HasSlots reading some slots
 slots_within reading some all slots p h =
-    let whole : map (means reading) p.front ++ map (means reading) (some ++ p.back) ≡ map slot_of slots = sym (means-append reading p.front (some ++ p.back)) ∙ ap (map (means reading)) (sym p.joined) ∙ h in
-    let first = parts (map (means reading) p.front) (map (means reading) (some ++ p.back)) slots whole in
+    let whole : map (means reading) p.prefix ++ map (means reading) (some ++ p.back) ≡ map slot_of slots = sym (means-append reading p.prefix (some ++ p.back)) ∙ ap (map (means reading)) (sym p.joined) ∙ h in
+    let first = parts (map (means reading) p.prefix) (map (means reading) (some ++ p.back)) slots whole in
     let second = parts (map (means reading) some) (map (means reading) p.back) first.second (sym (means-append reading some p.back) ∙ first.two) in
-    record { front = first.first; own = second.first; back = second.second; joined = first.joined ∙ ap (λ (z : List Slot). first.first ++ z) second.joined; meant = second.one }
+    record { prefix = first.first; own = second.first; back = second.second; joined = first.joined ∙ ap (λ (z : List Slot). first.first ++ z) second.joined; meant = second.one }
 
 -- a value that means a slot means nothing else
 meaning_at : (reading : Layer → Meaning) (values : List Json) (slots : List Slot) (k : ℕ) (v : Json) → AreSlotsOf reading values slots → k < length values → slice_index_or values k v ≡ v → (s : Slot) × (means reading v ≡ slot_of s)
@@ -153,9 +153,9 @@ either false true d none some = false≢true (sym none)
 either false false d none some = false≢true some
 
 -- where none of all passes, none of some does
-pub none_within : {X : Type 0} (test : X → Bool) (front own back : List X) → list_any test (front ++ (own ++ back)) ≡ false → list_any test own ≡ true → ⊥
-none_within test front own back none some =
-    either (list_any test front) (list_any test own) (list_any test back) (sym (any-append test front (own ++ back) ∙ ap (λ b. list_any test front || b) (any-append test own back)) ∙ none) some
+pub none_within : {X : Type 0} (test : X → Bool) (prefix own back : List X) → list_any test (prefix ++ (own ++ back)) ≡ false → list_any test own ≡ true → ⊥
+none_within test prefix own back none some =
+    either (list_any test prefix) (list_any test own) (list_any test back) (sym (any-append test prefix (own ++ back) ∙ ap (λ b. list_any test prefix || b) (any-append test own back)) ∙ none) some
 
 -- ---- how many they are
 
@@ -170,25 +170,25 @@ members-append name (x ∷ xs) ys = ap (λ (l : List Json). member_in name (out-
 
 items_within : (some all : List Json) → ArePart some all → ArePart (all_items some) (all_items all)
 items_within some all p = record {
-  front = all_items p.front;
+  prefix = all_items p.prefix;
   back = all_items p.back;
-  joined = ap all_items p.joined ∙ items-append p.front (some ++ p.back) ∙ ap (λ (z : List Json). all_items p.front ++ z) (items-append some p.back);
+  joined = ap all_items p.joined ∙ items-append p.prefix (some ++ p.back) ∙ ap (λ (z : List Json). all_items p.prefix ++ z) (items-append some p.back);
 }
 
 members_within : (name : List ℕ) (some all : List Json) → ArePart some all → ArePart (members_named name some) (members_named name all)
 members_within name some all p = record {
-  front = members_named name p.front;
+  prefix = members_named name p.prefix;
   back = members_named name p.back;
-  joined = ap (members_named name) p.joined ∙ members-append name p.front (some ++ p.back) ∙ ap (λ (z : List Json). members_named name p.front ++ z) (members-append name some p.back);
+  joined = ap (members_named name) p.joined ∙ members-append name p.prefix (some ++ p.back) ∙ ap (λ (z : List Json). members_named name p.prefix ++ z) (members-append name some p.back);
 }
 
 longer : (some all : List Json) → ArePart some all → length some ≤ length all
-longer some all p = omega (arith, ap length p.joined, length-append p.front (some ++ p.back), length-append some p.back)
+longer some all p = omega (arith, ap length p.joined, length-append p.prefix (some ++ p.back), length-append some p.back)
 
 larger : (reading : Layer → Meaning) (some all : List Json) → ArePart some all → total_size reading some ≤ total_size reading all
 larger reading some all p =
     let f : Json → ℕ = λ value. size_of (means reading value) in
-    omega (arith, ap (sum_by f) p.joined, sum_by-append f p.front (some ++ p.back), sum_by-append f some p.back)
+    omega (arith, ap (sum_by f) p.joined, sum_by-append f p.prefix (some ++ p.back), sum_by-append f some p.back)
 
 too_long : (greatest : ℕ) (reading : Layer → Meaning) (some all : List Json) → ArePart some all → IsTooLong greatest reading some → IsTooLong greatest reading all
 too_long greatest reading some all p h = omega (arith, h, larger reading some all p)

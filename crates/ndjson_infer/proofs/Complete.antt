@@ -44,8 +44,8 @@ filter_row before more row shown =
     let one : filter is_row (row ∷ more) ≡ row ∷ filter is_row more = rw shown refl in
     ap (filter is_row) (append_assoc before (row ∷ []) more) ∙ filter-append is_row before (row ∷ more) ∙ ap (λ (z : List (List ℕ)). filter is_row before ++ z) one
 
-front_all : (P : List ℕ → Type 0) (front rest : List (List ℕ)) → All P (front ++ rest) → All P front
-front_all P front rest all = subst (All P) (take-append_seam front rest) (All-take P (length front) (front ++ rest) all)
+prefix_all : (P : List ℕ → Type 0) (prefix rest : List (List ℕ)) → All P (prefix ++ rest) → All P prefix
+prefix_all P prefix rest all = subst (All P) (take-append_seam prefix rest) (All-take P (length prefix) (prefix ++ rest) all)
 
 -- so many rows tell the type, no more than there are lines for
 pub first_of_needed : (number : Option ℕ) (all : List (List ℕ)) → EachNeeded number all → first_rows number (filter is_row all) ≡ filter is_row all
@@ -65,12 +65,12 @@ continues_any : (some more : List ℕ) → 0 < length some → Continues some mo
 continues_any [] more h = absurd (omega (arith, h))
 continues_any (byte ∷ some) more h = continues byte some more
 
-front_needed : (number : Option ℕ) (front : List (List ℕ)) (last : List ℕ) → EachNeeded number (front ++ last ∷ []) → EachNeeded number front
-front_needed number front last each k below =
-    subst (IsNeeded number) (take-append-le k front (last ∷ []) (omega (arith, below))) (each k (omega (arith, below, length-append front (last ∷ []))))
+prefix_needed : (number : Option ℕ) (prefix : List (List ℕ)) (last : List ℕ) → EachNeeded number (prefix ++ last ∷ []) → EachNeeded number prefix
+prefix_needed number prefix last each k below =
+    subst (IsNeeded number) (take-append-le k prefix (last ∷ []) (omega (arith, below))) (each k (omega (arith, below, length-append prefix (last ∷ []))))
 
-pub next_needed : (number : Option ℕ) (front : List (List ℕ)) (last : List ℕ) → EachNeeded number (front ++ last ∷ []) → IsNeeded number front
-next_needed number front last each = subst (IsNeeded number) (take-append_seam front (last ∷ [])) (each (length front) (omega (arith, length-append front (last ∷ []))))
+pub next_needed : (number : Option ℕ) (prefix : List (List ℕ)) (last : List ℕ) → EachNeeded number (prefix ++ last ∷ []) → IsNeeded number prefix
+next_needed number prefix last each = subst (IsNeeded number) (take-append_seam prefix (last ∷ [])) (each (length prefix) (omega (arith, length-append prefix (last ∷ []))))
 
 still_due : (number : Option ℕ) (rows : ℕ) → Fewer rows number → Fewer 0 (due_after number rows)
 still_due None rows h = tt
@@ -97,7 +97,7 @@ module _ (number : Option ℕ) (byte_limit : ℕ) (old new : Told) (bytes : List
       )
 
   never_utf8 : LineNotUtf8 number byte_limit old new → ⊥
-  never_utf8 h = let r = read_lines h.taken h.takes.consumed h.whole h.each in h.wrong (front_all IsUtf8 (lines h.taken) r.0 (subst (All IsUtf8) r.1 utf8))
+  never_utf8 h = let r = read_lines h.taken h.takes.consumed h.whole h.each in h.wrong (prefix_all IsUtf8 (lines h.taken) r.0 (subst (All IsUtf8) r.1 utf8))
 
   row_stands : (Holds : List ℕ → Type 0) (h : EndsAtRow number byte_limit old new Holds) → (value : Value) × IsJson value h.row
   row_stands Holds h =
@@ -109,22 +109,22 @@ module _ (number : Option ℕ) (byte_limit : ℕ) (old new : Told) (bytes : List
   -- more bytes than the limit are no more than the lines that are read have
   past_by : 0 < byte_limit → (h : PassesLimit number byte_limit old new)
       → ((number ≡ Some 0) × (length (h.taken ++ h.byte ∷ []) ≤ 1)) ⊎ EachNeeded number (lines (h.taken ++ h.byte ∷ [])) → byte_limit < size_of_lines (needed_lines number (lines bytes))
-  past_by room h (inl none) = absurd (omega (arith, room, h.limit, none.1, length-append h.taken (h.byte ∷ [])))
-  past_by room h (inr each) =
+  past_by some_bytes h (inl none) = absurd (omega (arith, some_bytes, h.limit, none.1, length-append h.taken (h.byte ∷ [])))
+  past_by some_bytes h (inr each) =
       let some = h.taken ++ h.byte ∷ [] in
       let size = length-append h.taken (h.byte ∷ []) in
       let l = left_of old.left new.left bytes some told h.consumed in
       let k = continues_any some l.0 (omega (arith, size)) in
       let needed = subst (EachNeeded number) k.before each in
       let line = k.last ++ k.added in
-      let next = needed_next (due_after number (rows_in k.front)) line k.rest (still_due number (rows_in k.front) (next_needed number k.front k.last needed).fewer) in
-      let more = needed_lines (due_after (due_after number (rows_in k.front)) (rows_in (line ∷ []))) k.rest in
-      let read : needed_lines number (lines bytes) ≡ k.front ++ line ∷ more =
+      let next = needed_next (due_after number (rows_in k.prefix)) line k.rest (still_due number (rows_in k.prefix) (next_needed number k.prefix k.last needed).fewer) in
+      let more = needed_lines (due_after (due_after number (rows_in k.prefix)) (rows_in (line ∷ []))) k.rest in
+      let read : needed_lines number (lines bytes) ≡ k.prefix ++ line ∷ more =
       ap (λ (z : List ℕ). needed_lines number (lines z)) l.2 ∙ ap (needed_lines number) k.after
-      ∙ needed_more number k.front (line ∷ k.rest) (front_needed number k.front k.last needed) ∙ ap (λ (z : List (List ℕ)). k.front ++ z) next in
-      let whole = ap size_of_lines read ∙ size_of_lines-append k.front (line ∷ more) in
+      ∙ needed_more number k.prefix (line ∷ k.rest) (prefix_needed number k.prefix k.last needed) ∙ ap (λ (z : List (List ℕ)). k.prefix ++ z) next in
+      let whole = ap size_of_lines read ∙ size_of_lines-append k.prefix (line ∷ more) in
       let taken = sym (size_joined (lines some)) ∙ ap length (joined some) in
-      let split = ap size_of_lines k.before ∙ size_of_lines-append k.front (k.last ∷ []) in
+      let split = ap size_of_lines k.before ∙ size_of_lines-append k.prefix (k.last ∷ []) in
       omega (arith, whole, taken, split, size, h.limit, length-append k.last k.added)
 
   -- the rows that tell the type are those of the lines that are read
@@ -161,11 +161,11 @@ module _ (number : Option ℕ) (byte_limit : ℕ) (old new : Told) (bytes : List
       let none : l.0 ≡ [] = subst IsAtEnd l.1 h.end in
       omega (arith, some, ap length (l.2 ∙ none))
 
-  module _ (some : 0 < length bytes) (room : 0 < byte_limit) (same : new.faults ≡ old.faults) (below : new.faults < last_count)
+  module _ (some : 0 < length bytes) (some_bytes : 0 < byte_limit) (same : new.faults ≡ old.faults) (below : new.faults < last_count)
       (fits : size_of_lines (needed_lines number (lines bytes)) ≤ byte_limit) where
     only_memory : (e : Error) → NoType number byte_limit old new e → e ≡ OutOfMemory
     only_memory (ReadFault (Some line)) h = absurd (not_risen old.faults new.faults same below h.cause)
-    only_memory LimitExceeded (inl h) = absurd (omega (arith, fits, past_by room h (no_more_each number (h.taken ++ h.byte ∷ []) h.no_more)))
+    only_memory LimitExceeded (inl h) = absurd (omega (arith, fits, past_by some_bytes h (no_more_each number (h.taken ++ h.byte ∷ []) h.no_more)))
     only_memory LimitExceeded (inr h) = let v = row_stands HoldsTooMany h in absurd (within h.row v.0 v.1 h.holds)
     only_memory (ExternalFormat reason.Utf8Line) h = absurd (never_utf8 h)
     only_memory (ExternalFormat reason.Json) h = let v = row_stands _ h in absurd (h.holds.1 v.0 (as_text v.0 h.row v.1))
@@ -180,8 +180,8 @@ module _ (number : Option ℕ) (byte_limit : ℕ) (old new : Told) (bytes : List
 
 pub complete : (number : Option ℕ) (byte_limit : ℕ) (old new : Told) (result : Result DataType Error) → IfOk result (InfersType number byte_limit old new)
     → IfErr result (NoType number byte_limit old new) → IsComplete number byte_limit old new result
-complete number byte_limit old new result ok err bytes values told some room same below fits utf8 rows =
-    answers number byte_limit old new bytes values told utf8 rows some room same below fits result ok err
+complete number byte_limit old new result ok err bytes values told some some_bytes same below fits utf8 rows =
+    answers number byte_limit old new bytes values told utf8 rows some some_bytes same below fits result ok err
 
 -- the count of faults never falls
 type_rises : (number : Option ℕ) (byte_limit : ℕ) (old new : Told) (e : Error) → NoType number byte_limit old new e → old.faults ≤ new.faults

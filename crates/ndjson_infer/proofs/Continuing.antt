@@ -5,39 +5,39 @@ use Rattle.ndjson_read.specs.Lines.{onto_first, lines, is_line_feed}
 
 -- the last line of some bytes goes on where more bytes follow, and the lines before it stay
 pub record Continues (some more : List ℕ) : Type 0 where
-  pub front : List (List ℕ)
+  pub prefix : List (List ℕ)
   pub last : List ℕ
   pub added : List ℕ
   pub rest : List (List ℕ)
-  pub before : lines some ≡ front ++ last ∷ []
-  pub after : lines (some ++ more) ≡ front ++ (last ++ added) ∷ rest
+  pub before : lines some ≡ prefix ++ last ∷ []
+  pub after : lines (some ++ more) ≡ prefix ++ (last ++ added) ∷ rest
 
 onto_any : (byte : ℕ) (all : List (List ℕ)) → (added : List ℕ) × (rest : List (List ℕ)) × (onto_first byte all ≡ (byte ∷ added) ∷ rest)
 unfolding onto_first
 onto_any byte [] = ([], [], refl)
 onto_any byte (line ∷ all) = (line, all, refl)
 
-onto_front : (byte : ℕ) (front : List (List ℕ)) (last added : List ℕ) (rest : List (List ℕ))
-    → (new_front : List (List ℕ)) × (new_last : List ℕ) × (onto_first byte (front ++ last ∷ []) ≡ new_front ++ new_last ∷ [])
-    × (onto_first byte (front ++ (last ++ added) ∷ rest) ≡ new_front ++ (new_last ++ added) ∷ rest)
+onto_prefix : (byte : ℕ) (prefix : List (List ℕ)) (last added : List ℕ) (rest : List (List ℕ))
+    → (new_prefix : List (List ℕ)) × (new_last : List ℕ) × (onto_first byte (prefix ++ last ∷ []) ≡ new_prefix ++ new_last ∷ [])
+    × (onto_first byte (prefix ++ (last ++ added) ∷ rest) ≡ new_prefix ++ (new_last ++ added) ∷ rest)
 unfolding onto_first
-onto_front byte [] last added rest = ([], byte ∷ last, refl, refl)
-onto_front byte (line ∷ front) last added rest = ((byte ∷ line) ∷ front, last, refl, refl)
+onto_prefix byte [] last added rest = ([], byte ∷ last, refl, refl)
+onto_prefix byte (line ∷ prefix) last added rest = ((byte ∷ line) ∷ prefix, last, refl, refl)
 
 pub continues : (byte : ℕ) (some more : List ℕ) → Continues (byte ∷ some) more
 unfolding lines onto_first
 continues byte [] more =
     elim (cases_Bool (is_line_feed byte)) [
-      | inl is_feed ↦ record { front = []; last = byte ∷ []; added = []; rest = lines more; before = rw is_feed refl; after = rw is_feed refl }
+      | inl is_feed ↦ record { prefix = []; last = byte ∷ []; added = []; rest = lines more; before = rw is_feed refl; after = rw is_feed refl }
       | inr other ↦
           let s = onto_any byte (lines more) in
-          record { front = []; last = byte ∷ []; added = s.0; rest = s.1; before = rw other refl; after = rw other s.2 }
+          record { prefix = []; last = byte ∷ []; added = s.0; rest = s.1; before = rw other refl; after = rw other s.2 }
     ]
 continues byte (next ∷ some) more =
     let h = continues next some more in
     elim (cases_Bool (is_line_feed byte)) [
       | inl is_feed ↦ record {
-        front = (byte ∷ []) ∷ h.front;
+        prefix = (byte ∷ []) ∷ h.prefix;
         last = h.last;
         added = h.added;
         rest = h.rest;
@@ -45,9 +45,9 @@ continues byte (next ∷ some) more =
         after = rw is_feed (ap (λ (z : List (List ℕ)). (byte ∷ []) ∷ z) h.after);
       }
       | inr other ↦
-          let s = onto_front byte h.front h.last h.added h.rest in
+          let s = onto_prefix byte h.prefix h.last h.added h.rest in
           record {
-            front = s.0;
+            prefix = s.0;
             last = s.1;
             added = h.added;
             rest = h.rest;

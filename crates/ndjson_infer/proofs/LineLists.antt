@@ -32,9 +32,9 @@ join-append [] ys = refl
 join-append (x ∷ xs) ys = ap (λ (z : List ℕ). x ++ z) (join-append xs ys) ∙ sym (append_assoc x (join xs) (join ys))
 
 -- the bytes are those of the last line, after those of the others
-pub joined_last : (bytes : List ℕ) (front : List (List ℕ)) (last : List ℕ) → lines bytes ≡ front ++ last ∷ [] → bytes ≡ join front ++ last
-joined_last bytes front last split =
-    sym (joined bytes) ∙ ap join split ∙ join-append front (last ∷ []) ∙ ap (λ (z : List ℕ). join front ++ z) (append-nil last)
+pub joined_last : (bytes : List ℕ) (prefix : List (List ℕ)) (last : List ℕ) → lines bytes ≡ prefix ++ last ∷ [] → bytes ≡ join prefix ++ last
+joined_last bytes prefix last split =
+    sym (joined bytes) ∙ ap join split ∙ join-append prefix (last ∷ []) ∙ ap (λ (z : List ℕ). join prefix ++ z) (append-nil last)
 
 pub size_joined : (all : List (List ℕ)) → length (join all) ≡ size_of_lines all
 size_joined [] = refl
@@ -76,21 +76,21 @@ before_blank number line all blank each k below =
     omega (arith, next, split)
 
 -- lines before each of which another row is due are all among those that are read
-pub through_more : (number : ℕ) (front rest : List (List ℕ)) → EachBefore number front → through_rows number (front ++ rest) ≡ front ++ through_rows (number - rows_in front) rest
+pub through_more : (number : ℕ) (prefix rest : List (List ℕ)) → EachBefore number prefix → through_rows number (prefix ++ rest) ≡ prefix ++ through_rows (number - rows_in prefix) rest
 through_more number [] rest each = let same : number ≡ number - 0 = omega arith in ap (λ (z : ℕ). through_rows z rest) same
-through_more zero (line ∷ front) rest each = absurd (omega (arith, each 0 (omega arith)))
-through_more (suc number) (line ∷ front) rest each =
+through_more zero (line ∷ prefix) rest each = absurd (omega (arith, each 0 (omega arith)))
+through_more (suc number) (line ∷ prefix) rest each =
     elim (cases_Bool (is_row line)) [
       | inl row ↦
-          let due : number - rows_in front ≡ suc number - rows_in (line ∷ front) = omega (arith, rows_in-row line front row) in
-          let step : through_rows (suc number) (line ∷ (front ++ rest)) ≡ line ∷ through_rows number (front ++ rest) = rw row refl in
-          step ∙ ap (λ (z : List (List ℕ)). line ∷ z) (through_more number front rest (before_row number line front row each))
-          ∙ ap (λ (z : ℕ). line ∷ (front ++ through_rows z rest)) due
+          let due : number - rows_in prefix ≡ suc number - rows_in (line ∷ prefix) = omega (arith, rows_in-row line prefix row) in
+          let step : through_rows (suc number) (line ∷ (prefix ++ rest)) ≡ line ∷ through_rows number (prefix ++ rest) = rw row refl in
+          step ∙ ap (λ (z : List (List ℕ)). line ∷ z) (through_more number prefix rest (before_row number line prefix row each))
+          ∙ ap (λ (z : ℕ). line ∷ (prefix ++ through_rows z rest)) due
       | inr blank ↦
-          let due : suc number - rows_in front ≡ suc number - rows_in (line ∷ front) = omega (arith, rows_in-blank line front blank) in
-          let step : through_rows (suc number) (line ∷ (front ++ rest)) ≡ line ∷ through_rows (suc number) (front ++ rest) = rw blank refl in
-          step ∙ ap (λ (z : List (List ℕ)). line ∷ z) (through_more (suc number) front rest (before_blank (suc number) line front blank each))
-          ∙ ap (λ (z : ℕ). line ∷ (front ++ through_rows z rest)) due
+          let due : suc number - rows_in prefix ≡ suc number - rows_in (line ∷ prefix) = omega (arith, rows_in-blank line prefix blank) in
+          let step : through_rows (suc number) (line ∷ (prefix ++ rest)) ≡ line ∷ through_rows (suc number) (prefix ++ rest) = rw blank refl in
+          step ∙ ap (λ (z : List (List ℕ)). line ∷ z) (through_more (suc number) prefix rest (before_blank (suc number) line prefix blank each))
+          ∙ ap (λ (z : ℕ). line ∷ (prefix ++ through_rows z rest)) due
     ]
 
 -- such lines have no more rows than are due
@@ -110,9 +110,9 @@ abbrev pub due_after : Option ℕ → ℕ → Option ℕ
 due_after None rows = None
 due_after (Some number) rows = Some (number - rows)
 
-pub needed_more : (number : Option ℕ) (front rest : List (List ℕ)) → EachNeeded number front → needed_lines number (front ++ rest) ≡ front ++ needed_lines (due_after number (rows_in front)) rest
-needed_more None front rest each = refl
-needed_more (Some number) front rest each = through_more number front rest (λ k below. (each k below).fewer)
+pub needed_more : (number : Option ℕ) (prefix rest : List (List ℕ)) → EachNeeded number prefix → needed_lines number (prefix ++ rest) ≡ prefix ++ needed_lines (due_after number (rows_in prefix)) rest
+needed_more None prefix rest each = refl
+needed_more (Some number) prefix rest each = through_more number prefix rest (λ k below. (each k below).fewer)
 
 pub needed_none : (number : Option ℕ) → needed_lines number [] ≡ []
 needed_none None = refl

@@ -71,10 +71,10 @@ not_nothing [] shown = absurd (false_true (sym no_row ∙ shown))
     false_true e = cc
 not_nothing (byte ∷ row) shown = omega arith
 
-feed_behind : (before row front : List ℕ) → 0 < length row → before ++ row ≡ front ++ 10 ∷ [] → EndsInFeed row
-feed_behind [] row front some is = (front, is)
+feed_behind : (before row prefix : List ℕ) → 0 < length row → before ++ row ≡ prefix ++ 10 ∷ [] → EndsInFeed row
+feed_behind [] row prefix some is = (prefix, is)
 feed_behind (byte ∷ before) row [] some is = absurd (omega (arith, some, ap length is, length-append before row))
-feed_behind (byte ∷ before) row (first ∷ front) some is = feed_behind before row front some (ap (drop 1) is)
+feed_behind (byte ∷ before) row (first ∷ prefix) some is = feed_behind before row prefix some (ap (drop 1) is)
 
 -- a row with its line feed ends whole lines
 pub ends_whole : (taken row : List ℕ) → LastRow (lines taken) row → EndsInFeed row → EndsLine taken × (0 < length taken)

@@ -140,11 +140,11 @@ last_of [] = []
 last_of (line ∷ []) = line
 last_of (line ∷ next ∷ all) = last_of (next ∷ all)
 
-last_is : (front : List (List ℕ)) (last : List ℕ) → last_of (front ++ last ∷ []) ≡ last
+last_is : (prefix : List (List ℕ)) (last : List ℕ) → last_of (prefix ++ last ∷ []) ≡ last
 unfolding last_of
 last_is [] last = refl
 last_is (line ∷ []) last = refl
-last_is (line ∷ next ∷ front) last = last_is (next ∷ front) last
+last_is (line ∷ next ∷ prefix) last = last_is (next ∷ prefix) last
 
 one_fault : (row : List ℕ) (e d : Error) → NoValue row e → NoValue row d → e ≢ OutOfMemory → d ≢ OutOfMemory → e ≡ d
 one_fault row LimitExceeded LimitExceeded h k other also = refl
@@ -184,8 +184,8 @@ module _ (number : Option ℕ) (taken : List ℕ) (each : EachNeeded number (lin
   -- the lines before a faulty row are UTF-8, as it is
   utf8_in : (e : Error) → FaultyRow taken e → All IsUtf8 (lines taken)
   utf8_in e r =
-      let front = next_needed number r.before r.row (subst (EachNeeded number) r.last each) in
-      subst (All IsUtf8) (sym r.last) (All-append IsUtf8 r.before (r.row ∷ []) front.utf8 (All-cons IsUtf8 r.row [] r.utf8 (All-nil IsUtf8)))
+      let prefix = next_needed number r.before r.row (subst (EachNeeded number) r.last each) in
+      subst (All IsUtf8) (sym r.last) (All-append IsUtf8 r.before (r.row ∷ []) prefix.utf8 (All-cons IsUtf8 r.row [] r.utf8 (All-nil IsUtf8)))
 
   one_wrong : (e d : Error) → Wrong taken e → Wrong taken d → e ≡ d
   one_wrong e d (inl h) (inl k) = h.0 ∙ sym k.0

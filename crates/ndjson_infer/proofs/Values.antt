@@ -31,11 +31,11 @@ stand_for-append (row ∷ rows) others [] more p q = absurd p
 stand_for-append (row ∷ rows) others (value ∷ values) more p q = (p.0, stand_for-append rows others values more p.1 q)
 
 -- a row among them stands for a value
-pub stands_for : (front : List (List ℕ)) (row : List ℕ) (rest : List (List ℕ)) (values : List Value) → StandFor (front ++ row ∷ rest) values → (value : Value) × IsJson value row
+pub stands_for : (prefix : List (List ℕ)) (row : List ℕ) (rest : List (List ℕ)) (values : List Value) → StandFor (prefix ++ row ∷ rest) values → (value : Value) × IsJson value row
 stands_for [] row rest [] p = absurd p
 stands_for [] row rest (value ∷ values) p = (value, p.0)
-stands_for (other ∷ front) row rest [] p = absurd p
-stands_for (other ∷ front) row rest (value ∷ values) p = stands_for front row rest values p.1
+stands_for (other ∷ prefix) row rest [] p = absurd p
+stands_for (other ∷ prefix) row rest (value ∷ values) p = stands_for prefix row rest values p.1
 
 -- ---- the same rows in another order
 

@@ -16,7 +16,7 @@ use Rattle.ndjson_infer.specs.Inference.{Told, InfersType, HasNoByte, NoMemory}
 
 -- a line feed stands last
 abbrev pub EndsInFeed : List ℕ → Type 0
-EndsInFeed row = (front : List ℕ) × (row ≡ front ++ 10 ∷ [])
+EndsInFeed row = (prefix : List ℕ) × (row ≡ prefix ++ 10 ∷ [])
 
 -- lines were taken, of which at most one is a row. There may be more where these are whole lines; else the source has ended, or none was
 -- wanted.

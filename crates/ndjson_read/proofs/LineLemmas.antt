@@ -30,9 +30,9 @@ some_lines byte bytes =
       | inr other ↦ rw other (onto_some byte (lines bytes))
     ]
 
-some_before : (front rest : List ℕ) → Some_lines (lines (front ++ 10 ∷ rest))
+some_before : (prefix rest : List ℕ) → Some_lines (lines (prefix ++ 10 ∷ rest))
 some_before [] rest = some_lines 10 rest
-some_before (byte ∷ front) rest = some_lines byte (front ++ 10 ∷ rest)
+some_before (byte ∷ prefix) rest = some_lines byte (prefix ++ 10 ∷ rest)
 
 onto_more : (byte : ℕ) (all more : List (List ℕ)) → Some_lines all → onto_first byte (all ++ more) ≡ onto_first byte all ++ more
 unfolding onto_first
@@ -42,13 +42,13 @@ length_onto : (byte : ℕ) (all : List (List ℕ)) → Some_lines all → length
 unfolding onto_first
 length_onto byte all s = rw (s.split) refl
 
-lines_through : (front rest : List ℕ) → lines (front ++ 10 ∷ rest) ≡ lines (front ++ 10 ∷ []) ++ lines rest
+lines_through : (prefix rest : List ℕ) → lines (prefix ++ 10 ∷ rest) ≡ lines (prefix ++ 10 ∷ []) ++ lines rest
 unfolding lines
 lines_through [] rest = refl
-lines_through (byte ∷ front) rest =
+lines_through (byte ∷ prefix) rest =
     elim (cases_Bool (is_line_feed byte)) [
-      | inl is_feed ↦ rw is_feed (ap (λ (z : List (List ℕ)). (byte ∷ []) ∷ z) (lines_through front rest))
-      | inr other ↦ rw other (ap (onto_first byte) (lines_through front rest) ∙ onto_more byte _ (lines rest) (some_before front []))
+      | inl is_feed ↦ rw is_feed (ap (λ (z : List (List ℕ)). (byte ∷ []) ∷ z) (lines_through prefix rest))
+      | inr other ↦ rw other (ap (onto_first byte) (lines_through prefix rest) ∙ onto_more byte _ (lines rest) (some_before prefix []))
     ]
 
 -- the lines of whole lines and more
@@ -117,19 +117,19 @@ one_feed : length (lines (10 ∷ [])) ≡ 1
 unfolding lines
 one_feed = refl
 
-feeds_through : (front : List ℕ) → length (lines (front ++ 10 ∷ [])) ≡ line_feeds (front ++ 10 ∷ [])
+feeds_through : (prefix : List ℕ) → length (lines (prefix ++ 10 ∷ [])) ≡ line_feeds (prefix ++ 10 ∷ [])
 feeds_through [] = one_feed
-feeds_through (byte ∷ front) =
-    let rest = feeds_through front in
-    let all = feeds_cons byte (front ++ 10 ∷ []) in
+feeds_through (byte ∷ prefix) =
+    let rest = feeds_through prefix in
+    let all = feeds_cons byte (prefix ++ 10 ∷ []) in
     elim (cases_Bool (is_line_feed byte)) [
       | inl is_feed ↦
-          let more : line_feeds (byte ∷ (front ++ 10 ∷ [])) ≡ 1 + line_feeds (front ++ 10 ∷ []) = rw is_feed at all in
-          let size : length (lines (byte ∷ (front ++ 10 ∷ []))) ≡ 1 + length (lines (front ++ 10 ∷ [])) = ap length (lines_feed byte (front ++ 10 ∷ []) is_feed) ∙ omega arith in
+          let more : line_feeds (byte ∷ (prefix ++ 10 ∷ [])) ≡ 1 + line_feeds (prefix ++ 10 ∷ []) = rw is_feed at all in
+          let size : length (lines (byte ∷ (prefix ++ 10 ∷ []))) ≡ 1 + length (lines (prefix ++ 10 ∷ [])) = ap length (lines_feed byte (prefix ++ 10 ∷ []) is_feed) ∙ omega arith in
           omega (arith, rest, more, size)
       | inr other ↦
-          let more : line_feeds (byte ∷ (front ++ 10 ∷ [])) ≡ 0 + line_feeds (front ++ 10 ∷ []) = rw other at all in
-          let size = ap length (lines_other byte (front ++ 10 ∷ []) other) ∙ length_onto byte (lines (front ++ 10 ∷ [])) (some_before front []) in
+          let more : line_feeds (byte ∷ (prefix ++ 10 ∷ [])) ≡ 0 + line_feeds (prefix ++ 10 ∷ []) = rw other at all in
+          let size = ap length (lines_other byte (prefix ++ 10 ∷ []) other) ∙ length_onto byte (lines (prefix ++ 10 ∷ [])) (some_before prefix []) in
           omega (arith, rest, more, size)
     ]
 

@@ -22,7 +22,7 @@ line_feeds bytes = count_by is_line_feed bytes
 
 -- the bytes are whole lines: there are none, or a line feed stands last
 abbrev pub EndsLine : List ℕ → Type 0
-EndsLine bytes = (bytes ≡ []) ⊎ ((front : List ℕ) × (bytes ≡ front ++ 10 ∷ []))
+EndsLine bytes = (bytes ≡ []) ⊎ ((prefix : List ℕ) × (bytes ≡ prefix ++ 10 ∷ []))
 
 -- a line is a row where std's `trim`, which takes Unicode's white space off both ends, leaves something of it
 abbrev pub is_row : List ℕ → Bool

@@ -307,8 +307,8 @@ decode_fields-returns-in_err-decode_value-clause-has_capacity g t c = λ h.
     let n = suit_length fs bs us in
     let lt = c.loop-i-test.true in
     let p = err_from_is_err_and c.from_residual.result c.from_residual.ensures.1 in
-    let room = subst (λ (x : MutableArray). HaveSpare (mask false (get_or fs i f).schema) (length (g.C.Ahead.rest c.loop-i.cursor)) (nodes x)) (sym v) (spare_at _ fs bs i f b n lt (children_spare _ _ fs _ bs inv.forward inv.grows.each h)) in
-    rw (p.1, p.2) (c.in_err-decode_value.ensures.has_capacity room)
+    let spare = subst (λ (x : MutableArray). HaveSpare (mask false (get_or fs i f).schema) (length (g.C.Ahead.rest c.loop-i.cursor)) (nodes x)) (sym v) (spare_at _ fs bs i f b n lt (children_spare _ _ fs _ bs inv.forward inv.grows.each h)) in
+    rw (p.1, p.2) (c.in_err-decode_value.ensures.has_capacity spare)
 
 pub decode_fields-returns-in_err-decode_value-clause-moves : goal.decode_fields-returns-in_err-decode_value-clause-moves
 decode_fields-returns-in_err-decode_value-clause-moves g t c =

@@ -17,7 +17,7 @@ use Rattle.json_text.proofs.ColumnLemmas.{in_list, in_fixed_list, in_dictionary,
 use Rattle.json_text.proofs.Joined.{part_at, part_length}
 use Rattle.json_text.proofs.Records.{child_below, struct_children, fields_at, one_more_in_range, not_in_range, all_are_in_range, if_held_in_range, looked_up_at}
 use Rattle.json_text.proofs.Beneath.{all_of_list, list_in_range, fixed_list_in_range, struct_in_range, value_in_range}
-use Rattle.json_text.proofs.Runs.{by_places, each_place, not_each_place, of_run, one_place, out_of_run, slots_of_child}
+use Rattle.json_text.proofs.Runs.{by_indices, each_index, not_each_index, of_run, one_index, out_of_run, slots_of_child}
 use Rattle.json_text.proofs.range.+range.Goals as goal
 
 pub dates_in_range-returns-then-not-holds_dates : goal.dates_in_range-returns-then-not-holds_dates
@@ -52,7 +52,7 @@ run_in_range-returns-then-has_no_null t c =
     let same = λ (i : ℕ) (g : start ≤ i) (m : i < start + (end - start)).
     (let w : i < length a.slots = omega (arith, l, m, c.requires.order) in
     struct_in_range a.data_type fields (xs i) is ∙ ap (in_range a.data_type) (sym (c.values.ensures.slots i w (held i slot.Null w)))) in
-    rw c.in-Struct.is (c.children_in_range.ensures ∙ by_places (in_range a.data_type) (λ i. all_in_range fields (xs i)) a.slots start (end - start) (omega (arith, l, c.requires.order)) same)
+    rw c.in-Struct.is (c.children_in_range.ensures ∙ by_indices (in_range a.data_type) (λ i. all_in_range fields (xs i)) a.slots start (end - start) (omega (arith, l, c.requires.order)) same)
 
 pub slots_in_range-in_range-requires : goal.slots_in_range-in_range-requires
 slots_in_range-in_range-requires t c = (search rules, (omega (arith, c.requires.order, c.requires.within), c.requires.form))
@@ -87,7 +87,7 @@ children_in_range-returns-then-not-dates_in_range t c =
     let within = slots_of_child c.args.end children k child c.requires.slots (omega arith) c.child-item.is in
     let out = out_of_run (in_range (array_type child)) (array_slots child) c.args.start c.args.end c.requires.order within (sym c.dates_in_range.ensures ∙ c.if-not-dates_in_range.true) in
     let i = out.0 in
-    sym (not_each_place (λ j. all_in_range fields (fields_at children j)) c.args.start (c.args.end - c.args.start) i out.1.0 (omega (arith, out.1.1.0, c.requires.order))
+    sym (not_each_index (λ j. all_in_range fields (fields_at children j)) c.args.start (c.args.end - c.args.start) i out.1.0 (omega (arith, out.1.1.0, c.requires.order))
     (not_in_range _ fields children i k child c.requires.children.1 (omega arith) c.child-item.is out.1.1.1))
 
 pub children_in_range-loop-child-preserved : goal.children_in_range-loop-child-preserved
@@ -106,7 +106,7 @@ children_in_range-returns t c =
     let fields = c.args.fields.now in
     let k = c.loop-child.child-index in
     let all : k ≡ length children = omega arith in
-    sym (each_place (λ i. all_in_range fields (fields_at children i)) c.args.start (c.args.end - c.args.start)
+    sym (each_index (λ i. all_in_range fields (fields_at children i)) c.args.start (c.args.end - c.args.start)
     (λ i l m. all_are_in_range _ fields children i k c.requires.children.1 all (c.loop-child.invariant i l (omega (arith, m, c.requires.order)))))
 
 pub in_range-returns-in-Int32 : goal.in_range-returns-in-Int32
@@ -193,7 +193,7 @@ in_range-returns-in-Struct t c =
     let l = rw c.in-Struct.is at c.requires.within in
     let xs = fields_at c.values.result.now c.args.i in
     let held : IsTrue (is_held (slot_at a.slots c.args.i)) = search rules in
-    rw c.in-Struct.is (c.children_in_range.ensures ∙ one_place (λ i. all_in_range c.fields_of.result.now (fields_at c.values.result.now i)) c.args.i ∙ struct_in_range a.data_type c.fields_of.result.now xs (sym c.data_type-in-Struct.ensures.data_type ∙ c.fields_of.ensures) ∙ if_held_in_range a.data_type (slot_at a.slots c.args.i) _ held (c.values.ensures.slots c.args.i l))
+    rw c.in-Struct.is (c.children_in_range.ensures ∙ one_index (λ i. all_in_range c.fields_of.result.now (fields_at c.values.result.now i)) c.args.i ∙ struct_in_range a.data_type c.fields_of.result.now xs (sym c.data_type-in-Struct.ensures.data_type ∙ c.fields_of.ensures) ∙ if_held_in_range a.data_type (slot_at a.slots c.args.i) _ held (c.values.ensures.slots c.args.i l))
 
 pub in_range-returns-in-Some : goal.in_range-returns-in-Some
 in_range-returns-in-Some t c =

@@ -1,7 +1,7 @@
 use Rattle.std.proofs.Common.{◌≡◌, ◌∙◌, ap, sym, refl, arith, ◌+◌, ◌++◌, ◌∷◌, [], List, ℕ, pos, Option, None, map, length, false}
 use Rattle.std.proofs.lemmas.List.{length_push}
 use Rattle.arrow_flat.specs.Nested.{ListMarks, items_of, list_len, lens_of}
-use Rattle.arrow_flat.proofs.ListOffsets.{hold_count, hold_list, show_list, places-push, view_len}
+use Rattle.arrow_flat.proofs.ListOffsets.{hold_count, hold_list, show_list, numbers-push, view_len}
 use Rattle.arrow_flat.proofs.lists.MutableLists.push_null.Goals as goal
 
 abbrev lens : (g : _) (c : goal.After-push_reserved g) → List (Option ℕ)
@@ -10,19 +10,19 @@ lens g c = lens_of (map g.O.Offset.number c.self.inside.offsets.items) c.self.in
 ends : (g : _) (c : goal.After-push_reserved g) → c.end-end.result ≡ items_of (lens g c)
 ends g c = c.end-end.ensures.end ∙ ap (λ (m : ListMarks). items_of m.lens) (sym c.self.view_is)
 
-places : (g : _) (c : goal.After-push_reserved g) → map g.O.Offset.number c.push_reserved.new.self.items ≡ map g.O.Offset.number c.self.inside.offsets.items ++ pos c.end-end.result ∷ []
-places g c = places-push g.O.Offset.number _ _ c.in-Some.offset c.end-end.result (c.push_reserved.ensures.items ∙ ap (λ xs. xs ++ c.in-Some.offset ∷ []) c.reserve.ensures.items) c.in-Some.ensures.same
+numbers : (g : _) (c : goal.After-push_reserved g) → map g.O.Offset.number c.push_reserved.new.self.items ≡ map g.O.Offset.number c.self.inside.offsets.items ++ pos c.end-end.result ∷ []
+numbers g c = numbers-push g.O.Offset.number _ _ c.in-Some.offset c.end-end.result (c.push_reserved.ensures.items ∙ ap (λ xs. xs ++ c.in-Some.offset ∷ []) c.reserve.ensures.items) c.in-Some.ensures.same
 
 reach : (g : _) (c : goal.After-push_reserved g) → c.end-end.result ≡ items_of (lens g c) + list_len None
 reach g c = omega (arith, ends g c)
 
 pub invariant_of-self-2 : goal.invariant_of-self-2
 invariant_of-self-2 g c =
-    hold_list g.O.Offset.IS_LARGE _ _ _ _ (lens g c) None c.end-end.result c.self.invariant (places g c) c.in_ok-push.ensures.ok (reach g c) (c.in-Some.ensures.fits.0 refl)
+    hold_list g.O.Offset.IS_LARGE _ _ _ _ (lens g c) None c.end-end.result c.self.invariant (numbers g c) c.in_ok-push.ensures.ok (reach g c) (c.in-Some.ensures.fits.0 refl)
 
 pub returns-clause-ok : goal.returns-clause-ok
 returns-clause-ok g c =
-    rw (← c.self.view_is) (show_list g.O.Offset.IS_LARGE _ _ _ _ (lens g c) None c.end-end.result c.self.invariant (places g c) c.in_ok-push.ensures.ok (reach g c))
+    rw (← c.self.view_is) (show_list g.O.Offset.IS_LARGE _ _ _ _ (lens g c) None c.end-end.result c.self.invariant (numbers g c) c.in_ok-push.ensures.ok (reach g c))
 
 pub returns-in_err-reserve-clause-has_capacity : goal.returns-in_err-reserve-clause-has_capacity
 returns-in_err-reserve-clause-has_capacity g c = λ one.
