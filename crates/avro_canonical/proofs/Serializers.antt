@@ -30,7 +30,7 @@ accepted_at (g ∷ fields) [] k f a l is at h = absurd h
 accepted_at (g ∷ fields) (b ∷ columns) zero f a l is at h = subst (λ y. IsAccepted f.schema y) (sym at) (subst (λ (y : AvroField). IsAccepted y.schema b) (sym is) h.0)
 accepted_at (g ∷ fields) (b ∷ columns) (suc k) f a l is at h = accepted_at fields columns k f a (omega (arith, l)) is at h.1
 
--- a column that is accepted is refused by out of memory alone
+-- the only error of a column that is accepted is out of memory
 pub only_memory : (s : Schema) (a : Array) (e : Error) → IsAccepted s a → IsRefused s a e → e ≡ OutOfMemory
 only_memory s a (NotYetImplemented reason.SerializerPair) h r = absurd (r h.types)
 only_memory s a (InvalidArgumentError reason.NullUnderRequired) h r = absurd (false≢true (sym h.nulls ∙ r.1))

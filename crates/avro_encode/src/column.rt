@@ -72,7 +72,8 @@ fn append_optional<A: FlatArray>(
     requires fits { IsTrue (is_held (slot_at (A.slots array.now) i))
         → A.has_encoding (slot_at (A.slots array.now) i) }
     ensures ok { OnOk result (out.new.items ≡ out.old.items
-        ++ nullable_encoding (nulls.Optional null_first) A.encoding (slot_at (A.slots array.now) i)) }
+        ++ nullable_encoding (nulls.Optional null_first) A.encoding
+        (slot_at (A.slots array.now) i)) }
 {
     let held = array.has_value(i);
     let index = index_byte(null_first, held);
@@ -113,8 +114,8 @@ fn append_run<A: FlatArray>(
     requires end { end ≡ length (A.slots array.now) }
     requires fit { (i : ℕ) → i < length (A.slots array.now)
         → FitsNulls nulls A.has_encoding (slot_at (A.slots array.now) i) }
-    ensures ok { OnOk result (out.new.items
-        ≡ out.old.items ++ flat_map (nullable_encoding nulls A.encoding) (drop start (A.slots array.now))) }
+    ensures ok { OnOk result (out.new.items ≡ out.old.items
+        ++ flat_map (nullable_encoding nulls A.encoding) (drop start (A.slots array.now))) }
 {
     for i in start..end {
         append_nullable(array, nulls, i, out)?;

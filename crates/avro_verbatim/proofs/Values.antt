@@ -158,7 +158,7 @@ of_record : (s : Schema) (r : TheRecord) (fs : List AvroField) (bytes rest : Lis
 of_record s r fs bytes rest e x h =
     subst (λ (z : Schema). BeginsWithSlot z bytes rest) (sym e) (record_begins r bytes rest (subst (λ (gs : List AvroField). BeginsWithFields gs bytes rest) x h))
 
--- the bytes from a place on, as a slice of them is told
+-- the bytes from an index on, as a slice of them is told
 pub from_index : (bytes : List ℕ) (n : ℕ) → take (length bytes - n) (drop n bytes) ≡ drop n bytes
 from_index bytes n = take_all (length bytes - n) (drop n bytes) (omega (arith, length-drop n bytes))
 

@@ -86,7 +86,7 @@ module _ (t u : DataType) (columns : List Array) (ts : List Bool) (v : Packed) (
       let f : first_len columns ≡ length ts = first_is t columns (length ts) filled h in
       rw (ve, f) refl
 
--- parts that fit are refused by out of memory alone
+-- the only error of parts that fit is out of memory
 pub only_memory : (fits : Type 0) (e : Error) → fits → IsRefusalOf fits e → e ≡ OutOfMemory
 only_memory fits e h (inl m) = m
 only_memory fits e h (inr r) = absurd (r.1 h)

@@ -1,10 +1,12 @@
 -- Structs that name a field twice.
-use Rattle.std.specs.Prelude.{ℕ, Bool, false, ◌||◌, List, [], ◌∷◌}
+use Rattle.std.specs.Prelude.{◌≡◌, ℕ, Bool, false, ◌||◌, List, [], ◌∷◌}
 use Rattle.std.specs.List.{list_any}
+use Rattle.std.specs.Option.{is_some}
 use Rattle.std.specs.Str.{bytes_eq}
 use Rattle.arrow_types.specs.declared.types.Field.{Field}
 use Rattle.arrow_types.specs.declared.types.DataType.{DataType, Row_of-Field, end_of-Field, more_of-Field, Row_of-DataType, end_of-DataType, more_of-DataType}
 use Rattle.arrow_types.specs.declared.types.DataType as types
+use Rattle.first_seen.specs.Keys.{index_of}
 
 -- one of these names is the name
 abbrev pub is_among : List ℕ → List (List ℕ) → Bool
@@ -61,3 +63,9 @@ any_names_twice = list_any (λ (f : Field). names_twice f.data_type)
 -- the fields, or the type of one of them, do
 abbrev pub struct_names_twice : List Field → Bool
 struct_names_twice fields = repeats fields || any_names_twice fields
+
+-- ---- Contracts of private functions alone cite what follows.
+
+-- names among which each name of a field is found, and no other
+abbrev pub AreNames : List Field → List (List ℕ) → Type 0
+AreNames fields names = (key : List ℕ) → is_some (index_of bytes_eq names key) ≡ is_named key fields

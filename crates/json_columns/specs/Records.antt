@@ -92,10 +92,12 @@ IsRowsRefusal fields rows Overflow =
 IsRowsRefusal fields rows OutOfMemory = Unit {0}
 IsRowsRefusal fields rows _ = ⊥
 
--- why members aren't read under the types of fields: they, or a Struct in them, name a field twice; else the type of one has no reading, or holds more than lists
+-- Why members aren't read under the types of fields: they, or a Struct in them, name a field twice; else the type of one has no reading, or
+-- holds more than lists. Out of memory may come in place of either.
 abbrev pub IsFieldsRefusal : List Field → Error → Type 0
 IsFieldsRefusal fields (InvalidArgumentError reason.DuplicateName) = (struct_names_twice fields ≡ true)
 IsFieldsRefusal fields (NotYetImplemented reason.NoJsonReading) = (struct_names_twice fields ≡ false) × (are_of_record fields ≡ false)
+IsFieldsRefusal fields OutOfMemory = Unit {0}
 IsFieldsRefusal fields _ = ⊥
 
 -- Why there is no chunk, the first that applies: the fields are refused; the value is no array; the rows are refused.

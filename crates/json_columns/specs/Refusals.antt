@@ -46,8 +46,9 @@ IsListRefusal json t e =
 
 -- ---- Contracts of private functions alone cite what follows.
 
--- why values aren't read under a type
+-- why values aren't read under a type; out of memory may come in place of either
 abbrev pub IsTypeRefusal : DataType → Error → Type 0
 IsTypeRefusal t (InvalidArgumentError reason.DuplicateName) = (names_twice t ≡ true)
 IsTypeRefusal t (NotYetImplemented reason.NoJsonReading) = (names_twice t ≡ false) × (has_reading t ≡ false)
+IsTypeRefusal t OutOfMemory = Unit {0}
 IsTypeRefusal t _ = ⊥

@@ -1,82 +1,80 @@
-//! Structs that name a field twice.
-ghost use Rattle.std.specs.Prelude.{◌≡◌};
-ghost use Rattle.json_columns.specs.Names.{any_names_twice as any_names_twice_of, is_named as is_named_of, names_twice as names_twice_of, repeats as repeats_of, struct_names_twice as struct_names_twice_of};
+//! Structs that name a field twice, and names among which keys are looked up.
+ghost use Rattle.std.specs.Prelude.{◌≡◌, IfOk};
+ghost use Rattle.arrow_core.specs.Errors.{OnlyOutOfMemory};
+ghost use Rattle.json_columns.specs.Names.{any_names_twice as any_names_twice_of, AreNames, names_twice as names_twice_of, repeats as repeats_of, struct_names_twice as struct_names_twice_of};
 
-use arrow_core::Text;
+use arrow_core::{Result, Text};
 use arrow_types::{DataType, Field};
-
-/// Whether one of the fields has this name.
-fn is_named(fields: &[Field], name: &Text) -> bool
-    ensures { result ≡ is_named_of name.now fields.now }
-{
-    for field in fields {
-        if field.name == *name {
-            return true;
-        }
-    }
-    false
-}
-
-/// The same of a name that is mostly that of the field at the index `near`, which is looked at
-/// first.
-pub(crate) fn is_named_near(fields: &[Field], near: usize, name: &Text) -> bool
-    ensures { result ≡ is_named_of name.now fields.now }
-{
-    match fields.get(near) {
-        Some(field) if field.name == *name => true,
-        _ => is_named(fields, name),
-    }
-}
+use first_seen::FirstSeen;
+use json_flat::have_distinct_names;
+use std::alloc::Global;
 
 /// Whether two of the fields have the same name.
-fn repeats(fields: &[Field]) -> bool
-    ensures { result ≡ repeats_of fields.now }
+fn repeats(alloc: Global, fields: &[Field]) -> Result<bool>
+    ensures ok { IfOk result (λ b. b ≡ repeats_of fields.now) }
+    ensures memory { OnlyOutOfMemory result }
 {
-    for index in 0..fields.len() {
-        let later = &fields[index + 1..];
-        if is_named(later, &fields[index].name) {
-            return true;
-        }
-    }
-    false
+    Ok(!have_distinct_names(alloc, fields)?)
 }
 
-/// Whether a Struct, the type itself or one at any depth beneath it, names a field twice. It takes
-/// no memory.
+/// Whether a Struct, the type itself or one at any depth beneath it, names a field twice. n names
+/// take n log n comparisons, whatever names somebody picks. `OutOfMemory` alone.
 #[cycle(names)]
-pub fn names_twice(data_type: &DataType) -> bool
-    ensures { result ≡ names_twice_of data_type.now }
+pub fn names_twice(alloc: Global, data_type: &DataType) -> Result<bool>
+    ensures ok { IfOk result (λ b. b ≡ names_twice_of data_type.now) }
+    ensures memory { OnlyOutOfMemory result }
 {
     match data_type {
-        DataType::List(item) => names_twice(&item.get().data_type),
-        DataType::LargeList(item) => names_twice(&item.get().data_type),
-        DataType::FixedSizeList(item, _) => names_twice(&item.get().data_type),
-        DataType::Map(entries, _) => names_twice(&entries.get().data_type),
-        DataType::Struct(fields) => struct_names_twice(fields.as_slice()),
-        DataType::Union(fields, _, _) => any_names_twice(fields.as_slice()),
-        DataType::Dictionary(_, value, _) => names_twice(value.get()),
-        DataType::Extension(_, inner, _) => names_twice(inner.get()),
-        _ => false,
+        DataType::List(item) => names_twice(alloc, &item.get().data_type),
+        DataType::LargeList(item) => names_twice(alloc, &item.get().data_type),
+        DataType::FixedSizeList(item, _) => names_twice(alloc, &item.get().data_type),
+        DataType::Map(entries, _) => names_twice(alloc, &entries.get().data_type),
+        DataType::Struct(fields) => struct_names_twice(alloc, fields.as_slice()),
+        DataType::Union(fields, _, _) => any_names_twice(alloc, fields.as_slice()),
+        DataType::Dictionary(_, value, _) => names_twice(alloc, value.get()),
+        DataType::Extension(_, inner, _) => names_twice(alloc, inner.get()),
+        _ => Ok(false),
     }
 }
 
 /// Whether a Struct of these fields does.
 #[cycle(names)]
-pub(crate) fn struct_names_twice(fields: &[Field]) -> bool
-    ensures { result ≡ struct_names_twice_of fields.now }
+pub(crate) fn struct_names_twice(alloc: Global, fields: &[Field]) -> Result<bool>
+    ensures ok { IfOk result (λ b. b ≡ struct_names_twice_of fields.now) }
+    ensures memory { OnlyOutOfMemory result }
 {
-    repeats(fields) || any_names_twice(fields)
+    if repeats(alloc, fields)? {
+        return Ok(true);
+    }
+    any_names_twice(alloc, fields)
 }
 
 /// Whether the type of one of the fields does.
 #[cycle(names)]
-fn any_names_twice(fields: &[Field]) -> bool
-    ensures { result ≡ any_names_twice_of fields.now }
+fn any_names_twice(alloc: Global, fields: &[Field]) -> Result<bool>
+    ensures ok { IfOk result (λ b. b ≡ any_names_twice_of fields.now) }
+    ensures memory { OnlyOutOfMemory result }
 {
     for field in fields {
-        if names_twice(&field.data_type) {
-            return true;
+        if names_twice(alloc, &field.data_type)? {
+            return Ok(true);
         }
     }
-    false
+    Ok(false)
+}
+
+/// The names of the fields, each once.
+pub(crate) fn names_of(alloc: Global, fields: &[Field]) -> Result<FirstSeen<Text>>
+    ensures names { IfOk result (AreNames fields.now) }
+    ensures memory { OnlyOutOfMemory result }
+{
+    let mut names = FirstSeen::<Text>::new(alloc);
+    for field in fields {
+        if names.index_of(&field.name).is_none() {
+            let name = field.name.try_clone(alloc)?;
+            let copy = field.name.try_clone(alloc)?;
+            names.push(name, copy)?;
+        }
+    }
+    Ok(names)
 }

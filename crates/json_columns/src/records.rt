@@ -1,20 +1,23 @@
 //! Arrays of JSON objects as chunks of columns.
-ghost use Rattle.std.specs.Prelude.{◌≡◌, true, false, IfOk, IfErr, OnOk};
+ghost use Rattle.std.specs.Prelude.{◌≡◌, true, false, List, IfOk, IfErr, OnOk};
+ghost use Rattle.arrow_core.specs.Errors.{OnlyOutOfMemory};
 ghost use Rattle.arrow_core.specs.declared.error.Error.TheVariants.{Overflow};
+ghost use Rattle.arrow_types.specs.declared.types.Field.{Field};
 ghost use Rattle.json_tree.specs.declared.value.Value.{out-Value};
 ghost use Rattle.json_columns.specs.Faults.{AreMemberColumns, IsStructFault, TooManyFields};
 ghost use Rattle.json_columns.specs.Gathered.{all_have_reading};
-ghost use Rattle.json_columns.specs.Names.{struct_names_twice as struct_names_twice_of};
+ghost use Rattle.json_columns.specs.Names.{AreNames, struct_names_twice as struct_names_twice_of};
 ghost use Rattle.json_columns.specs.Records.{are_known, are_of_record as are_of_record_of, are_there, first_fault as first_fault_of, holds_more as holds_more_of, is_of_record as is_of_record_of, IsFieldsRefusal, IsRecordsRefusal, IsRowsRefusal, IsTableOf, row_fault as row_fault_of};
 
 use crate::column::read_fields;
 use crate::gather::lend_all;
-use crate::names::{is_named_near, struct_names_twice};
+use crate::names::{names_of, struct_names_twice};
 use crate::texts::any_row_has_text;
 use crate::types::has_json_reading;
 use arrow_array::Chunk;
-use arrow_core::{Error, Reason, Result};
+use arrow_core::{Error, Reason, Result, Text};
 use arrow_types::{DataType, Field, Schema};
+use first_seen::FirstSeen;
 use json_tree::{Object, Value};
 use std::alloc::Global;
 
@@ -53,12 +56,12 @@ fn are_of_record(fields: &[Field]) -> bool
 }
 
 /// Tells that members of records are read under these fields.
-fn check_fields(fields: &[Field]) -> Result<()>
+fn check_fields(alloc: Global, fields: &[Field]) -> Result<()>
     ensures distinct { OnOk result (struct_names_twice_of fields.now ≡ false) }
     ensures readable { OnOk result (are_of_record_of fields.now ≡ true) }
     ensures err { IfErr result (IsFieldsRefusal fields.now) }
 {
-    if struct_names_twice(fields) {
+    if struct_names_twice(alloc, fields)? {
         return Err(Error::InvalidArgumentError(Reason::DuplicateName));
     }
     if !are_of_record(fields) {
@@ -67,12 +70,14 @@ fn check_fields(fields: &[Field]) -> Result<()>
     Ok(())
 }
 
-/// Whether each key of the object is the name of a field.
-fn has_known_keys(fields: &[Field], object: &Object) -> bool
-    ensures { result ≡ are_known fields.now object.now.members }
+/// Whether each key of the object is one of `names`, those of the fields. A key's name mostly stands
+/// at the key's own index.
+fn has_known_keys(names: &FirstSeen<Text>, object: &Object) -> bool
+    ensures { (fields : List Field) → AreNames fields names.now
+        → result ≡ are_known fields object.now.members }
 {
     for (near, member) in object.members().iter().enumerate() {
-        if !is_named_near(fields, near, &member.0) {
+        if names.index_near(near, &member.0).is_none() {
             return false;
         }
     }
@@ -91,14 +96,15 @@ fn has_all_keys(fields: &[Field], object: &Object) -> bool
     true
 }
 
-/// What is wrong with a row, if anything.
-fn row_fault(fields: &[Field], row: &Value) -> Option<Reason>
+/// What is wrong with a row, if anything. `names` are those of the fields.
+fn row_fault(fields: &[Field], names: &FirstSeen<Text>, row: &Value) -> Option<Reason>
+    requires names { AreNames fields.now names.now }
     ensures { result ≡ row_fault_of fields.now (out-Value row.now) }
 {
     let Value::Object(object) = row else {
         return Some(Reason::NotAnObject);
     };
-    if !has_known_keys(fields, object) {
+    if !has_known_keys(names, object) {
         return Some(Reason::UnknownKey);
     }
     if !has_all_keys(fields, object) {
@@ -107,16 +113,26 @@ fn row_fault(fields: &[Field], row: &Value) -> Option<Reason>
     None
 }
 
-/// What is wrong with the first row with which anything is.
-fn first_fault(fields: &[Field], rows: &[Value]) -> Option<Reason>
+/// What is wrong with the first row with which anything is. `names` are those of the fields.
+fn find_fault(fields: &[Field], names: &FirstSeen<Text>, rows: &[Value]) -> Option<Reason>
+    requires names { AreNames fields.now names.now }
     ensures { result ≡ first_fault_of fields.now rows.now }
 {
     for row in rows {
-        if let Some(fault) = row_fault(fields, row) {
+        if let Some(fault) = row_fault(fields, names, row) {
             return Some(fault);
         }
     }
     None
+}
+
+/// The same by the fields alone.
+fn first_fault(alloc: Global, fields: &[Field], rows: &[Value]) -> Result<Option<Reason>>
+    ensures ok { IfOk result (λ fault. fault ≡ first_fault_of fields.now rows.now) }
+    ensures memory { OnlyOutOfMemory result }
+{
+    let names = names_of(alloc, fields)?;
+    Ok(find_fault(fields, &names, rows))
 }
 
 /// The columns of the members of rows.
@@ -166,7 +182,7 @@ fn read_rows(alloc: Global, fields: &[Field], rows: &[Value]) -> Result<Chunk>
     ensures counted { OnOk result (TooManyFields fields.now rows.now → ⊥) }
     ensures err { IfErr result (IsRowsRefusal fields.now rows.now) }
 {
-    if let Some(fault) = first_fault(fields, rows) {
+    if let Some(fault) = first_fault(alloc, fields, rows)? {
         return Err(Error::ExternalFormat(fault));
     }
     match read_columns(alloc, fields, rows) {
@@ -191,7 +207,7 @@ pub fn deserialize_records(alloc: Global, json: &Value, schema: &Schema) -> Resu
     ensures err { IfErr result (IsRecordsRefusal json.now schema.now.fields) }
 {
     let fields = schema.fields.as_slice();
-    check_fields(fields)?;
+    check_fields(alloc, fields)?;
     match json {
         Value::Array(rows) => read_rows(alloc, fields, rows.as_slice()),
         _ => Err(Error::ExternalFormat(Reason::OuterNotArray)),

@@ -22,12 +22,12 @@ use json_tree::Value;
 use std::alloc::Global;
 
 /// Tells that values are read under a type.
-fn check_type(data_type: &DataType) -> Result<()>
+fn check_type(alloc: Global, data_type: &DataType) -> Result<()>
     ensures distinct { OnOk result (names_twice_of data_type.now ≡ false) }
     ensures readable { OnOk result (has_reading data_type.now ≡ true) }
     ensures err { IfErr result (IsTypeRefusal data_type.now) }
 {
-    if names_twice(data_type) {
+    if names_twice(alloc, data_type)? {
         return Err(Error::InvalidArgumentError(Reason::DuplicateName));
     }
     if !has_json_reading(data_type) {
@@ -73,7 +73,7 @@ pub fn read_values(alloc: Global, values: &[Value], data_type: &DataType) -> Res
     ensures counted { OnOk result (TooMany data_type.now values.now → ⊥) }
     ensures err { IfErr result (IsRefusal data_type.now values.now) }
 {
-    check_type(data_type)?;
+    check_type(alloc, data_type)?;
     match read_all(alloc, values, data_type) {
         Ok(array) => Ok(array),
         Err(error) => Err(first_fault(data_type, values, error)),

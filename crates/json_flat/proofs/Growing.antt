@@ -5,12 +5,12 @@ use Rattle.std.specs.Prelude.{Result, Ok, Err, IfOk, IfErr}
 use Rattle.std.proofs.lemmas.List.Sums.{sum_by_more_le}
 use Rattle.std.proofs.lemmas.List.{map-append, map_more, length-map, get_or-map, take-map}
 use Rattle.arrow_core.specs.declared.error.Error.{Error}
-use Rattle.arrow_core.specs.declared.error.Error.TheVariants.{OutOfMemory, Overflow, NotYetImplemented}
+use Rattle.arrow_core.specs.declared.error.Error.TheVariants.{OutOfMemory, Overflow}
 use Rattle.arrow_types.specs.declared.slot.Slot.{Slot}
 use Rattle.arrow_types.specs.declared.types.DataType.{DataType}
 use Rattle.json_tree.specs.Tree.{Json}
-use Rattle.json_flat.specs.Meaning.{Meaning, Layer, slot_of, text_timestamp, unfit}
-use Rattle.json_flat.specs.Columns.{AreSlotsOf, Has, HasNoSlot, IsNoSlot, Pushes, IsPushFault, IsColumnFault, IsTextFault, IsTooLong, lent, means, size_of, total_size}
+use Rattle.json_flat.specs.Meaning.{Meaning, Layer, slot_of, unfit}
+use Rattle.json_flat.specs.Columns.{AreSlotsOf, Has, IsNoSlot, Pushes, IsPushFault, IsColumnFault, IsTextFault, IsTooLong, lent, means, size_of, total_size}
 
 -- the values lent so far, and one more
 lent_more : (vs : List (Bor Json)) (i : ℕ) (v : Bor Json) → i < length vs → v ≡ get_or vs i v → lent (take (i + 1) vs) ≡ lent (take i vs) ++ v.now ∷ []

@@ -1,6 +1,7 @@
 pub mod Bounds
 pub mod Counting
 pub mod Digits
+pub mod DistinctNames
 pub mod Growing
 pub mod Integers
 pub mod Layers

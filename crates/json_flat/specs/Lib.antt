@@ -1,5 +1,6 @@
 pub mod Columns
 pub mod Meaning
+pub mod Names
 pub mod Parts
 pub mod Reading
 pub mod Whole

@@ -19,7 +19,8 @@ use std::marker::Model;
 /// The types of rows that came so far, as far as they matter to the type of all: two distinct ones
 /// at most, or the distinct types of each member. What is kept grows only with a row that brings a
 /// new type, a new name, or a new type of a name. A row takes time linear in its size, times the
-/// logarithm of how many names, or types of one name, came before.
+/// logarithm of how many names, or types of one name, came before, and at worst times the square of how
+/// deep its arrays nest.
 #[derive(Drop)]
 pub struct RowTypes {
     alloc: Global,

@@ -8,6 +8,7 @@
 #![tactic(auto)]
 
 mod array;
+mod given_up;
 mod lent;
 mod members;
 mod name;
@@ -19,6 +20,7 @@ mod strings;
 mod texts;
 mod values;
 
+pub use given_up::GivenUp;
 pub use lent::{EscapedString, Lent, LentArray, LentObject};
 pub use members::{lend_members, read_name};
 pub use name::Name;

@@ -7,9 +7,10 @@ ghost use Rattle.json_tree.specs.Tree.{null};
 ghost use Rattle.json_lend.specs.Standing.{lent_value};
 ghost use Rattle.json_lend.specs.Fields.{BeginsMember, PutAt, ReadsMembers, values_of};
 
+use crate::given_up::GivenUp;
 use crate::lent::{Lent, LentObject};
 use crate::name::Name;
-use crate::names::key_index;
+use crate::names::{bounded_index, key_index};
 use crate::skip::skip_value;
 use crate::values::lend;
 use json_tree::JsonFault;
@@ -17,21 +18,23 @@ use json_tree::grammar::{closes, goes_on, name_separator};
 use json_tree::reader::Reader;
 
 /// Reads the name of a member and the colon after it, with the white space around them, and tells
-/// the name's index among `names`, which is first looked for at `guess`. The value is next. `Text`
-/// where no name and colon stand there.
+/// the name's index among `names`, which is first looked for at `guess`. The value is next.
+///
+/// `GivenUp` where no name and colon stand there. Among more than 256 names also at a name that has
+/// an escape, or is none of those from `guess` on: so where `guess` is the index after that of the
+/// member before, an object takes time linear in its members and the names.
 #[inline(always)]
 pub fn read_name<'a>(
     reader: &mut Reader<'a>,
     names: &[Name],
     guess: usize,
-) -> Result<Option<usize>, JsonFault>
+) -> Result<Option<usize>, GivenUp>
     requires { distinct names.now ≡ true }
     ensures reads { IfOk result (λ at. BeginsMember names.now at reader.old reader.new) }
     ensures forward { length reader.new ≤ length reader.old }
-    ensures no_memory { IfErr result (λ e. e ≢ JsonFault.Memory) }
 {
     reader.skip_spaces();
-    let at = key_index(reader, names, guess)?;
+    let at = bounded_index(reader, names, guess)?;
     name_separator(reader)?;
     reader.skip_spaces();
     Ok(at)
@@ -75,7 +78,8 @@ fn clear<'a>(found: &mut [Lent<'a>])
 /// Reads what follows the opening bracket of an object, in whose members at most `depth` brackets
 /// are open at once. The value of each name is lent to `found`, at the name's index: `null` where no
 /// member has the name, and the last value where several have it. A member that has none of the
-/// names is checked and skipped. After a fault `found` has any values.
+/// names is checked and skipped. After a fault `found` has any values. A key that isn't the next name
+/// is compared with each name.
 ///
 /// `Depth` where one bracket more is open, else `Text` where no such members stand there.
 #[inline(never)]

@@ -1,15 +1,20 @@
 //! Names of fields, among which keys are looked up.
-ghost use Rattle.std.specs.Prelude.{◌≡◌, ◌≢◌, ◌<◌, ◌≤◌, length, true, false, Ok, Some, IfErr, MatchOption};
+ghost use Rattle.std.specs.Prelude.{◌≡◌, ◌≢◌, ◌<◌, ◌≤◌, length, true, false, Ok, Some, IfErr, IfOk, MatchOption};
 ghost use Rattle.std.specs.Str.{bytes_eq};
 ghost use Rattle.json_tree.specs.Layout.{key_index as key_index_of, meets, distinct};
 ghost use Rattle.json_tree.specs.Reading.{string_at};
 ghost use Rattle.json_lend.specs.Fields.{AreOthers, IsIndex, ReadsIndex};
 
+use crate::given_up::GivenUp;
 use crate::lent::EscapedString;
 use crate::name::Name;
 use crate::strings::skip_escaped;
 use json_tree::JsonFault;
 use json_tree::reader::Reader;
+
+// `read_name` compares a key with at most so many names, but for keys in the names' order;
+// `lend_members` compares it with all.
+const MOST_SCANNED: usize = 256;
 
 #[inline(always)]
 fn are_same(one: &str, other: &str) -> bool
@@ -100,6 +105,24 @@ fn passes_at<'a>(reader: &mut Reader<'a>, names: &[Name], i: usize) -> bool
     names[i].passes(reader)
 }
 
+// Reads a key that isn't the name at `guess`, and tells its index among the names.
+#[inline(always)]
+fn other_index<'a>(
+    reader: &mut Reader<'a>,
+    names: &[Name],
+    guess: usize,
+) -> Result<Option<usize>, JsonFault>
+    requires { distinct names.now ≡ true }
+    ensures reads { ReadsIndex names.now result reader.new (string_at reader.old) }
+    ensures forward { length reader.new ≤ length reader.old }
+    ensures no_memory { IfErr result (λ e. e ≢ JsonFault.Memory) }
+{
+    if let Some(key) = reader.plain_string() {
+        return Ok(look_up(names, guess, key));
+    }
+    escaped_index(reader, names)
+}
+
 /// Reads a key, and tells its index among the names. It is first looked for at `guess`.
 #[inline(always)]
 pub(crate) fn key_index<'a>(
@@ -115,10 +138,53 @@ pub(crate) fn key_index<'a>(
     if passes_at(reader, names, guess) {
         return Ok(Some(guess));
     }
-    if let Some(key) = reader.plain_string() {
-        return Ok(look_up(names, guess, key));
+    other_index(reader, names, guess)
+}
+
+// Reads a key among many names, and tells its index, where it has no escape and is a name from
+// `guess` on; any other is given up. So all keys of an object take time linear in keys and names.
+#[inline(never)]
+fn later_index<'a>(
+    reader: &mut Reader<'a>,
+    names: &[Name],
+    guess: usize,
+) -> Result<Option<usize>, GivenUp>
+    requires { distinct names.now ≡ true }
+    ensures reads { IfOk result
+        (λ at. ReadsIndex names.now (Ok at) reader.new (string_at reader.old)) }
+    ensures forward { length reader.new ≤ length reader.old }
+{
+    let Some(key) = reader.plain_string() else {
+        return Err(GivenUp);
+    };
+    match scan(names, guess.min(names.len()), names.len(), key) {
+        Some(i) => Ok(Some(i)),
+        None => Err(GivenUp),
     }
-    escaped_index(reader, names)
+}
+
+/// The same as `key_index`, but among more than `MOST_SCANNED` names: there a key that has an escape,
+/// or is none of the names from `guess` on, is given up, since each key would else be compared with
+/// each name.
+#[inline(always)]
+pub(crate) fn bounded_index<'a>(
+    reader: &mut Reader<'a>,
+    names: &[Name],
+    guess: usize,
+) -> Result<Option<usize>, GivenUp>
+    requires { distinct names.now ≡ true }
+    ensures reads { IfOk result
+        (λ at. ReadsIndex names.now (Ok at) reader.new (string_at reader.old)) }
+    ensures forward { length reader.new ≤ length reader.old }
+{
+    if passes_at(reader, names, guess) {
+        return Ok(Some(guess));
+    }
+    if names.len() > MOST_SCANNED {
+        return later_index(reader, names, guess);
+    }
+    let at = other_index(reader, names, guess)?;
+    Ok(at)
 }
 
 // Whether the key is one of the names.
@@ -135,7 +201,7 @@ fn has(names: &[Name], key: &str) -> bool
     false
 }
 
-/// Whether no name stands twice.
+/// Whether no name stands twice. Each is compared with each, so n names take n² comparisons.
 pub fn are_distinct(names: &[Name]) -> bool
     ensures { result ≡ distinct names.now }
 {

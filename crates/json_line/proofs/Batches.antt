@@ -22,9 +22,10 @@ use Rattle.json_flat.specs.Meaning.{Layer, Meaning, slot_of}
 use Rattle.json_flat.specs.Reading.{reading}
 use Rattle.json_lend.specs.Fields.{value_named}
 use Rattle.json_line.specs.declared.field_names.FieldNames.{FieldNames}
-use Rattle.json_line.specs.declared.given_up.GivenUp.{GivenUp}
+use Rattle.json_lend.specs.declared.given_up.GivenUp.{GivenUp}
 use Rattle.json_line.specs.Builders.{line_shape, shape_reading, shapes_of, AllSuit, AreLineBuilders, ReadsInto, ReadsItems, Takes, TakesAll, TakesRow, TakesRows}
-use Rattle.json_line.specs.Lines.{are_line_fields, have_line_readings, names_of, values_named, AreColumnsOf, AreObjects, IsColumnOf}
+use Rattle.json_flat.specs.Names.{names_of}
+use Rattle.json_line.specs.Lines.{are_line_fields, have_line_readings, values_named, AreColumnsOf, AreObjects, IsColumnOf}
 use Rattle.json_line.specs.Types.{has_line_reading}
 use Rattle.json_line.proofs.Shapes.{same_reading, same_type as type_of_shape}
 

@@ -13,7 +13,8 @@ use Rattle.arrow_types.specs.declared.types.Field.{Field}
 use Rattle.json_tree.specs.Layout.{distinct}
 use Rattle.json_line.specs.declared.field_names.FieldNames.{FieldNames, Fields}
 use Rattle.json_line.specs.Builders.{line_shape, shapes_of, AllSuit, Suits}
-use Rattle.json_line.specs.Lines.{are_line_fields, names_of}
+use Rattle.json_flat.specs.Names.{names_of}
+use Rattle.json_line.specs.Lines.{are_line_fields}
 use Rattle.json_line.proofs.Batches.{are-distinct}
 use Rattle.json_line.proofs.Shapes.{large_list_shape, list_shape, size_is, sized_list_shape, struct_named, struct_shape}
 use Rattle.json_line.proofs.Suited.{suits_fields}

@@ -25,7 +25,7 @@ use Rattle.json_flat.specs.Columns.{means, Pushes}
 use Rattle.json_lend.specs.declared.lent.Lent.{Lent}
 use Rattle.json_lend.specs.declared.lent.Lent.TheVariants as lent
 use Rattle.json_lend.specs.Standing.{lent_value}
-use Rattle.json_line.specs.declared.given_up.GivenUp.{GivenUp}
+use Rattle.json_lend.specs.declared.given_up.GivenUp.{GivenUp}
 use Rattle.json_line.specs.Builders.{is_timestamp, kind_reading, shape_reading, IsGiven, Takes}
 
 -- the slot that was pushed is what the value means

@@ -32,7 +32,7 @@ use Rattle.json_lend.specs.declared.lent.Lent.TheVariants as lent
 use Rattle.json_lend.specs.Fields.{value_named}
 use Rattle.json_lend.specs.Standing.{lent_value}
 use Rattle.json_line.specs.declared.field_names.FieldNames.{FieldNames}
-use Rattle.json_line.specs.declared.given_up.GivenUp.{GivenUp}
+use Rattle.json_lend.specs.declared.given_up.GivenUp.{GivenUp}
 use Rattle.json_line.specs.Builders.{is_timestamp, kind_reading, shape_members, shape_reading, struct_names, IsOfLists, ReadsInto, SuitsFields, Takes, TakesRow}
 
 -- ---- several slots

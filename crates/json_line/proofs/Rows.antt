@@ -15,7 +15,7 @@ use Rattle.arrow_builders.specs.Tight.{AllTight, IsTight}
 use Rattle.arrow_builders.proofs.Upto.{Upto}
 use Rattle.json_lend.specs.Fields.{value_named, values_of, BeginsMember, IsIndex}
 use Rattle.json_lend.proofs.NameLaws.{values-turn}
-use Rattle.json_line.specs.declared.given_up.GivenUp.{GivenUp}
+use Rattle.json_lend.specs.declared.given_up.GivenUp.{GivenUp}
 use Rattle.json_line.specs.Builders.{AllTakeOrWait, AreTight, Fills, ReadsInto, ReadsMember, ReadsObject, Takes, TakesAt, TakesOrWaits, TakesRow}
 
 -- a builder that is set keeps its shape

@@ -19,7 +19,8 @@ use Rattle.json_tree.specs.declared.value.Value.{out-Value}
 use Rattle.json_flat.specs.Reading.{has_field, item_meaning, list_in, member_meanings, or_null, reading, sized_list_in, struct_in}
 use Rattle.json_lend.specs.Fields.{or_null as or_null_lent}
 use Rattle.json_line.specs.Builders.{IsNotNested, item_shape, line_shape, row_shapes, shapes_of, shape_members, shape_reading, struct_names}
-use Rattle.json_line.specs.Lines.{are_line_fields, are_sized_items, are_struct_fields, have_line_readings, names_of}
+use Rattle.json_flat.specs.Names.{names_of}
+use Rattle.json_line.specs.Lines.{are_line_fields, are_sized_items, are_struct_fields, have_line_readings}
 use Rattle.json_line.specs.Types.{has_line_reading, row_has_readings, row_names}
 
 pub and_first : (a b : Bool) → (a && b) ≡ true → a ≡ true

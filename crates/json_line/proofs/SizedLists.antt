@@ -24,7 +24,7 @@ use Rattle.json_tree.specs.declared.value.Value.TheVariants as variant
 use Rattle.json_flat.specs.Columns.{means, AreSlotsOf, Pushes}
 use Rattle.json_flat.specs.Meaning.{Layer, Meaning, slot_of}
 use Rattle.json_flat.specs.Reading.{made_of, sized_list_in, together}
-use Rattle.json_line.specs.declared.given_up.GivenUp.{GivenUp}
+use Rattle.json_lend.specs.declared.given_up.GivenUp.{GivenUp}
 use Rattle.json_line.proofs.Nested.{slots_are}
 
 -- ---- meaning

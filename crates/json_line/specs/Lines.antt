@@ -8,6 +8,7 @@ use Rattle.json_tree.specs.Layout.{distinct}
 use Rattle.json_tree.specs.Tree.{Json, object}
 use Rattle.json_tree.specs.Meaning.{IsJson}
 use Rattle.json_flat.specs.Columns.{AreSlotsOf}
+use Rattle.json_flat.specs.Names.{names_of}
 use Rattle.json_flat.specs.Reading.{reading}
 use Rattle.json_lend.specs.Fields.{value_named}
 use Rattle.json_line.specs.Types.{has_line_reading}
@@ -30,9 +31,6 @@ pub record AreColumnsOf (fields : List Field) (lines : List (List ℕ)) (columns
   pub rows : List (List (List ℕ × Json))
   pub objects : AreObjects rows lines
   pub members : AllZip (IsColumnOf rows) fields columns
-
-abbrev pub names_of : List Field → List (List ℕ)
-names_of fields = map (λ (f : Field). f.name) fields
 
 -- lines are read into columns of each field's type
 abbrev pub have_line_readings : List Field → Bool

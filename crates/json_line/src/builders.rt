@@ -10,7 +10,6 @@ ghost use Rattle.json_line.specs.Builders.{AreLineBuilders};
 ghost use Rattle.json_line.specs.Lines.{are_line_fields as are_line_fields_of, AreColumnsOf};
 
 use crate::field_names::{FieldNames, names_below, names_of};
-use crate::given_up::GivenUp;
 use crate::line::push_lines;
 use crate::made::make_builders;
 use crate::types::are_line_fields;
@@ -18,7 +17,7 @@ use arrow_array::Array;
 use arrow_builders::MutableArray;
 use arrow_core::{Result, Text};
 use arrow_types::Field;
-use json_lend::Name;
+use json_lend::{GivenUp, Name};
 use std::alloc::Global;
 use std::marker::Model;
 
@@ -109,7 +108,7 @@ impl LineBuilders {
             (λ builders. (builders ≡ fields.items) × (are_line_fields_of fields.items ≡ true))) }
         ensures memory { OnlyOutOfMemory result }
     {
-        if !are_line_fields(fields.as_slice()) {
+        if !are_line_fields(alloc, fields.as_slice())? {
             return Ok(None);
         }
         let names = names_of(alloc, fields.as_slice())?;

@@ -6,10 +6,9 @@ ghost use Rattle.json_flat.specs.Meaning.{bytes_in, text_in};
 ghost use Rattle.json_flat.specs.Columns.{Pushes};
 ghost use Rattle.json_lend.specs.Standing.{lent_value};
 
-use crate::given_up::GivenUp;
 use arrow_builders::{Content, MutableBinaryArray, MutableContentArray, MutableUtf8Array};
 use arrow_types::Offset;
-use json_lend::{EscapedString, Lent};
+use json_lend::{EscapedString, GivenUp, Lent};
 
 #[inline(always)]
 fn push_str<O: Offset>(builder: &mut MutableUtf8Array<O>, value: &str) -> Result<(), GivenUp>

@@ -9,11 +9,11 @@ ghost use Rattle.arrow_builders.specs.declared.array.MutableArray.{FixedSizeList
 ghost use Rattle.arrow_flat.specs.Nested.{items_of};
 ghost use Rattle.arrow_types.specs.declared.slot.Slot.TheVariants.{List as ListSlot, Null as NullSlot};
 
-use crate::given_up::GivenUp;
 use arrow_builders::{
     DynMutableLargeListArray, DynMutableListArray, DynMutableStructArray, MutableArray,
     MutableFixedSizeListArray,
 };
+use json_lend::GivenUp;
 
 /// Appends a null.
 pub(crate) fn push_null(builder: &mut MutableArray) -> Result<(), GivenUp>

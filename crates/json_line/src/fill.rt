@@ -6,8 +6,8 @@ ghost use Rattle.arrow_builders.specs.Tight.{IsTight};
 ghost use Rattle.json_line.specs.Builders.{AreTight, Fills};
 
 use crate::ends::push_null;
-use crate::given_up::GivenUp;
 use arrow_builders::{DynMutableStructArray, MutableArray};
+use json_lend::GivenUp;
 
 // Appends a null to the builder where it has `count` slots: JSON's null means that under each type.
 // Where it has another number of slots, it stays.

@@ -3,10 +3,9 @@ ghost use Rattle.json_lend.specs.Standing.{lent_value};
 ghost use Rattle.json_line.specs.Builders.{IsGiven};
 
 use crate::content::{push_bytes, push_text};
-use crate::given_up::GivenUp;
 use crate::plain::{push_as_null, push_boolean, push_int64, push_integer};
 use arrow_builders::MutableArray;
-use json_lend::Lent;
+use json_lend::{GivenUp, Lent};
 
 /// Appends the slot that a value means under the builder's type, to a builder without children.
 ///

@@ -10,7 +10,6 @@ mod ends;
 mod field_names;
 mod fill;
 mod flat;
-mod given_up;
 mod line;
 mod made;
 mod plain;
@@ -19,4 +18,4 @@ mod single;
 mod types;
 
 pub use builders::LineBuilders;
-pub use given_up::GivenUp;
+pub use json_lend::GivenUp;

@@ -11,11 +11,10 @@ ghost use Rattle.json_line.specs.Lines.{AreObjects};
 
 use crate::field_names::FieldNames;
 use crate::fill::fill_columns;
-use crate::given_up::GivenUp;
 use crate::push::push_once;
 use arrow_builders::MutableArray;
 use arrow_core::Text;
-use json_lend::{Name, read_name, skip_value};
+use json_lend::{GivenUp, Name, read_name, skip_value};
 use json_tree::grammar::{closes, goes_on};
 use json_tree::reader::Reader;
 

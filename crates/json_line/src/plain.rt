@@ -7,12 +7,11 @@ ghost use Rattle.json_flat.specs.Columns.{Pushes, means};
 ghost use Rattle.json_lend.specs.Standing.{lent_value};
 ghost use Rattle.json_line.specs.Builders.{is_timestamp as is_timestamp_of};
 
-use crate::given_up::GivenUp;
 use crate::types::is_timestamp;
 use arrow_builders::{MutableBooleanArray, MutableNullArray, MutablePrimitiveArray};
 use arrow_types::DataType;
 use json_flat::IntegerText;
-use json_lend::Lent;
+use json_lend::{GivenUp, Lent};
 
 /// Appends a null, which each value means under Null, also one that isn't null.
 #[inline(always)]

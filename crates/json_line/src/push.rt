@@ -13,13 +13,12 @@ ghost use Rattle.json_line.specs.Builders.{struct_names, AllSuit, AreTight, Read
 use crate::ends::{end_large_list, end_list, end_sized_list, end_struct};
 use crate::field_names::FieldNames;
 use crate::fill::fill_fields;
-use crate::given_up::GivenUp;
 use crate::single::{push_null_list, push_null_struct, push_single};
 use arrow_builders::{
     DynMutableLargeListArray, DynMutableListArray, DynMutableStructArray, MutableArray,
     MutableFixedSizeListArray,
 };
-use json_lend::{Name, read_name, skip_value};
+use json_lend::{GivenUp, Name, read_name, skip_value};
 use json_tree::grammar::{closes, goes_on};
 use json_tree::reader::Reader;
 
@@ -37,8 +36,8 @@ fn opens<'a>(reader: &mut Reader<'a>, bracket: u8, depth: usize) -> bool
 // type. `buffer` takes the text of each string that has escapes.
 //
 // `GivenUp` may come at any time, and then the builder has any slots: where no value stands there,
-// where it doesn't fit the builder, where a key stands twice in an object, and where there is no
-// memory.
+// where it doesn't fit the builder, where a key stands twice in an object, where `read_name` gives a
+// key up, and where there is no memory.
 #[cycle(push)]
 #[inline(always)]
 fn push_value<'a>(

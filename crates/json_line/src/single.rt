@@ -8,9 +8,8 @@ ghost use Rattle.json_line.specs.Builders.{IsOfLists, ReadsInto, SuitsFields};
 
 use crate::ends::push_null;
 use crate::flat::push_flat;
-use crate::given_up::GivenUp;
 use arrow_builders::MutableArray;
-use json_lend::{Lent, lend};
+use json_lend::{GivenUp, Lent, lend};
 use json_tree::reader::Reader;
 
 /// Reads a value, to a builder without children.

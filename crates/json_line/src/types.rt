@@ -1,55 +1,23 @@
 //! Types that lines are read into.
-ghost use Rattle.std.specs.Prelude.{◌≡◌};
-ghost use Rattle.std.specs.Str.{bytes_eq};
-ghost use Rattle.json_tree.specs.Layout.{distinct, meets};
+ghost use Rattle.std.specs.Prelude.{◌≡◌, IfOk};
+ghost use Rattle.arrow_core.specs.Errors.{OnlyOutOfMemory};
 ghost use Rattle.json_line.specs.Builders.{is_timestamp as is_timestamp_of};
-ghost use Rattle.json_line.specs.Lines.{are_line_fields as are_line_fields_of, are_sized_items as are_sized_items_of, are_struct_fields as are_struct_fields_of, have_line_readings as have_line_readings_of, names_of};
+ghost use Rattle.json_line.specs.Lines.{are_line_fields as are_line_fields_of, are_sized_items as are_sized_items_of, are_struct_fields as are_struct_fields_of, have_line_readings as have_line_readings_of};
 ghost use Rattle.json_line.specs.Types.{has_line_reading as has_line_reading_of};
 
+use arrow_core::Result;
 use arrow_types::{DataType, Field, IntervalUnit};
-
-#[inline(always)]
-fn are_same(one: &str, other: &str) -> bool
-    ensures { result ≡ bytes_eq one.now other.now }
-{
-    one == other
-}
-
-// Whether one of the fields has the name.
-fn has_name(fields: &[Field], name: &str) -> bool
-    ensures { result ≡ meets name.now (names_of fields.now) }
-{
-    let mut rest = fields;
-    while let Some((first, others)) = rest.split_first() {
-        if are_same(name, first.name.as_str()) {
-            return true;
-        }
-        rest = others;
-    }
-    false
-}
-
-// Whether no two of the fields have the same name.
-fn are_distinct(fields: &[Field]) -> bool
-    ensures { result ≡ distinct (names_of fields.now) }
-{
-    let mut rest = fields;
-    while let Some((first, others)) = rest.split_first() {
-        if has_name(others, first.name.as_str()) {
-            return false;
-        }
-        rest = others;
-    }
-    true
-}
+use json_flat::have_distinct_names;
+use std::alloc::Global;
 
 /// Whether lines are read into columns of this type: Null, Boolean, integers of 8 to 64 bits, dates,
 /// times, timestamps, durations, intervals of months, Utf8, Binary and their large forms, List and
 /// LargeList of these, FixedSizeList of at least one item of these, and Struct of at least one field,
-/// each of these, with no name twice. It takes no memory.
+/// each of these, with no name twice. `OutOfMemory` alone.
 #[cycle(readable)]
-fn has_line_reading(data_type: &DataType) -> bool
-    ensures { result ≡ has_line_reading_of data_type.now }
+fn has_line_reading(alloc: Global, data_type: &DataType) -> Result<bool>
+    ensures ok { IfOk result (λ b. b ≡ has_line_reading_of data_type.now) }
+    ensures memory { OnlyOutOfMemory result }
 {
     match data_type {
         DataType::Null
@@ -72,51 +40,64 @@ fn has_line_reading(data_type: &DataType) -> bool
         | DataType::Utf8
         | DataType::LargeUtf8
         | DataType::Binary
-        | DataType::LargeBinary => true,
-        DataType::List(item) => has_line_reading(&item.get().data_type),
-        DataType::LargeList(item) => has_line_reading(&item.get().data_type),
-        DataType::FixedSizeList(item, size) => are_sized_items(item.get(), *size),
-        DataType::Struct(fields) => are_struct_fields(fields.as_slice()),
-        _ => false,
+        | DataType::LargeBinary => Ok(true),
+        DataType::List(item) => has_line_reading(alloc, &item.get().data_type),
+        DataType::LargeList(item) => has_line_reading(alloc, &item.get().data_type),
+        DataType::FixedSizeList(item, size) => are_sized_items(alloc, item.get(), *size),
+        DataType::Struct(fields) => are_struct_fields(alloc, fields.as_slice()),
+        _ => Ok(false),
     }
 }
 
 /// Whether lists have items, and lines are read into columns of their type.
 #[cycle(readable)]
-fn are_sized_items(item: &Field, size: usize) -> bool
-    ensures { result ≡ are_sized_items_of size item.now }
+fn are_sized_items(alloc: Global, item: &Field, size: usize) -> Result<bool>
+    ensures ok { IfOk result (λ b. b ≡ are_sized_items_of size item.now) }
+    ensures memory { OnlyOutOfMemory result }
 {
-    size != 0 && has_line_reading(&item.data_type)
+    if size == 0 {
+        return Ok(false);
+    }
+    has_line_reading(alloc, &item.data_type)
 }
 
 /// Whether there are fields, no two of them have the same name, and lines are read into columns of
 /// each type.
 #[cycle(readable)]
-fn are_struct_fields(fields: &[Field]) -> bool
-    ensures { result ≡ are_struct_fields_of fields.now }
+fn are_struct_fields(alloc: Global, fields: &[Field]) -> Result<bool>
+    ensures ok { IfOk result (λ b. b ≡ are_struct_fields_of fields.now) }
+    ensures memory { OnlyOutOfMemory result }
 {
-    !fields.is_empty() && are_line_fields(fields)
+    if fields.is_empty() {
+        return Ok(false);
+    }
+    are_line_fields(alloc, fields)
 }
 
 /// Whether no two fields have the same name, and lines are read into columns of each type.
 #[cycle(readable)]
-pub(crate) fn are_line_fields(fields: &[Field]) -> bool
-    ensures { result ≡ are_line_fields_of fields.now }
+pub(crate) fn are_line_fields(alloc: Global, fields: &[Field]) -> Result<bool>
+    ensures ok { IfOk result (λ b. b ≡ are_line_fields_of fields.now) }
+    ensures memory { OnlyOutOfMemory result }
 {
-    are_distinct(fields) && have_line_readings(fields)
+    if !have_distinct_names(alloc, fields)? {
+        return Ok(false);
+    }
+    have_line_readings(alloc, fields)
 }
 
 /// Whether lines are read into columns of each field's type.
 #[cycle(readable)]
-fn have_line_readings(fields: &[Field]) -> bool
-    ensures { result ≡ have_line_readings_of fields.now }
+fn have_line_readings(alloc: Global, fields: &[Field]) -> Result<bool>
+    ensures ok { IfOk result (λ b. b ≡ have_line_readings_of fields.now) }
+    ensures memory { OnlyOutOfMemory result }
 {
     for field in fields {
-        if !has_line_reading(&field.data_type) {
-            return false;
+        if !has_line_reading(alloc, &field.data_type)? {
+            return Ok(false);
         }
     }
-    true
+    Ok(true)
 }
 
 /// Whether it is the type of timestamps.

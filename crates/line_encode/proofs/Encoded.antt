@@ -11,11 +11,12 @@ use Rattle.json_flat.specs.Columns.{AreSlotsOf}
 use Rattle.json_flat.specs.Reading.{reading}
 use Rattle.json_lend.specs.Fields.{IsObject}
 use Rattle.json_tree.specs.Tree.{Json, object}
-use Rattle.line_encode.specs.declared.given_up.GivenUp.{GivenUp}
+use Rattle.json_lend.specs.declared.given_up.GivenUp.{GivenUp}
 use Rattle.line_encode.specs.declared.lines.LinePlan.{LinePlan}
 use Rattle.line_encode.specs.declared.plan.Plan.{Plan}
 use Rattle.line_encode.specs.Lines.{EncodesLines}
-use Rattle.line_encode.specs.Makes.{names_of, ArePlansOf, IsLinePlanOf, IsReadable}
+use Rattle.json_flat.specs.Names.{names_of}
+use Rattle.line_encode.specs.Makes.{ArePlansOf, IsLinePlanOf, IsReadable}
 use Rattle.line_encode.specs.Plans.{AreObjects, PushesLines, WritesAll, WritesMembers}
 use Rattle.line_encode.proofs.Making.{row_encoded}
 use Rattle.line_encode.proofs.Readable.{struct_readable}

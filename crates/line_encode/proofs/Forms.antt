@@ -9,7 +9,7 @@ use Rattle.json_flat.specs.Whole.{whole_value, within}
 use Rattle.json_tree.specs.Reading.{Outcome, found}
 use Rattle.json_tree.specs.Tree.{Json, null, number, object}
 use Rattle.json_lend.specs.Fields.{values_of}
-use Rattle.line_encode.specs.declared.given_up.GivenUp.{GivenUp}
+use Rattle.json_lend.specs.declared.given_up.GivenUp.{GivenUp}
 use Rattle.line_encode.specs.declared.plan.Primitive.{Primitive}
 use Rattle.line_encode.specs.declared.plan.Plan.{Plan, Primitive as PrimitivePlan, List as ListPlan, Record as RecordPlan, Record', Row_of-Plan, end_of-Plan, more_of-Plan, items-the_row-Plan, items_hidden-the_row-Plan-0}
 use Rattle.line_encode.specs.Plans.{index, Adds, Form, OrNull, Reads, Writes, WritesAll, WritesFields, WritesHeld, WritesInteger, WritesList, WritesPrimitive, WritesRecord, WritesRow}

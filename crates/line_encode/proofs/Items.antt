@@ -8,7 +8,7 @@ use Rattle.avro_encode.proofs.Groups.{one_group}
 use Rattle.json_tree.specs.Reading.{found, array_at, skip, value_at, First}
 use Rattle.json_tree.specs.Tree.{Json, array}
 use Rattle.json_tree.proofs.Turns.{array-empty, array-end, array-next, array-start, skip-length, ArrayTurn}
-use Rattle.line_encode.specs.declared.given_up.GivenUp.{GivenUp}
+use Rattle.json_lend.specs.declared.given_up.GivenUp.{GivenUp}
 use Rattle.line_encode.specs.Plans.{block, Adds, Blocks, Form, Reads, ReadsItems, WritesAll, WritesList}
 use Rattle.line_encode.proofs.Forms.{all_nil, all_push}
 

@@ -30,7 +30,8 @@ use Rattle.json_tree.specs.Tree.{Json, array, null, object}
 use Rattle.json_tree.specs.declared.value.Value.{out-Value}
 use Rattle.json_tree.specs.declared.value.Value.TheVariants as variant
 use Rattle.line_encode.specs.declared.plan.Plan.{Plan, List as ListPlan, Record as RecordPlan}
-use Rattle.line_encode.specs.Makes.{names_of, AreNamed, ArePlansOf, Encodes, EncodesHeld, IsHeldPlanOf, IsListPlanOf, IsPlanOf, IsReadable, IsRecordPlanOf, IsStructPlanOf}
+use Rattle.json_flat.specs.Names.{names_of}
+use Rattle.line_encode.specs.Makes.{AreNamed, ArePlansOf, Encodes, EncodesHeld, IsHeldPlanOf, IsListPlanOf, IsPlanOf, IsReadable, IsRecordPlanOf, IsStructPlanOf}
 use Rattle.line_encode.specs.Plans.{block, OrNull, Writes, WritesAll, WritesFields, WritesHeld, WritesList, WritesMembers}
 use Rattle.line_encode.proofs.Forms.{record_held}
 use Rattle.line_encode.proofs.Readable.{large_list_readable, list_readable, struct_readable}

@@ -8,7 +8,7 @@ use Rattle.json_tree.specs.Tree.{Json, object}
 use Rattle.json_tree.proofs.Turns.{object-empty, object-end, object-next, object-start, ObjectTurn}
 use Rattle.json_lend.specs.Fields.{values_of, BeginsMember, IsIndex}
 use Rattle.json_lend.proofs.NameLaws.{values-turn}
-use Rattle.line_encode.specs.declared.given_up.GivenUp.{GivenUp}
+use Rattle.json_lend.specs.declared.given_up.GivenUp.{GivenUp}
 use Rattle.line_encode.specs.declared.plan.Plan.{Plan}
 use Rattle.line_encode.specs.Plans.{Adds, AddsField, Fills, Reads, ReadsField, Writes, WritesFirst, WritesRecord}
 use Rattle.line_encode.proofs.FieldLaws.{first_all, first_none, first_set}

@@ -7,7 +7,8 @@ use Rattle.avro_schema.specs.declared.schema.AvroField.{AvroField}
 use Rattle.json_flat.specs.Reading.{has_field, has_reading, have_reading}
 use Rattle.json_tree.specs.Layout.{distinct}
 use Rattle.line_encode.specs.declared.plan.Plan.{Plan}
-use Rattle.line_encode.specs.Makes.{names_of, AreNamed, ArePlansOf, IsReadable}
+use Rattle.json_flat.specs.Names.{names_of}
+use Rattle.line_encode.specs.Makes.{AreNamed, ArePlansOf, IsReadable}
 use Rattle.line_encode.specs.Types.{names_differ, row_names, row_names_differ}
 
 -- ---- lists

@@ -17,6 +17,7 @@ use Rattle.avro_schema.specs.declared.schema.Schema.{Schema, Boolean, Int, Long,
 use Rattle.avro_schema.specs.declared.schema.StringLogical.{StringLogical}
 use Rattle.json_flat.specs.Columns.{means}
 use Rattle.json_flat.specs.Meaning.{bytes_in, int64_in, moment_in, slot_of, text_in, boolean_in}
+use Rattle.json_flat.specs.Names.{names_of}
 use Rattle.json_flat.specs.Reading.{has_reading, int32_in, reading}
 use Rattle.json_tree.specs.Layout.{distinct}
 use Rattle.json_tree.specs.Tree.{Json, null, object}
@@ -65,9 +66,6 @@ pub record IsListPlanOf (nullable : Bool) (t : DataType) (s : Schema) (plan : Pl
   pub encodes : (value : Json) (bytes : List ℕ) → WritesHeld plan value bytes → WritesList (Encodes t s) value bytes
 
 -- ---- structs
-
-abbrev pub names_of : List Field → List (List ℕ)
-names_of fields = map (λ (f : Field). f.name) fields
 
 -- there is a field, and no two have the same name
 abbrev pub AreNamed : List Field → Type 0

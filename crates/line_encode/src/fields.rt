@@ -2,9 +2,9 @@
 ghost use Rattle.std.specs.Prelude.{◌≡◌, ◌≤◌, length, OnOk};
 ghost use Rattle.line_encode.specs.Plans.{Fills};
 
-use crate::given_up::GivenUp;
 use crate::plan::{Plan, is_nullable};
 use crate::primitive::push_null;
+use json_lend::GivenUp;
 
 /// Appends null for each of the fields from `from` to before `to`. A field where null may not stand
 /// is given up.

@@ -6,7 +6,6 @@
 #![tactic(auto)]
 
 mod fields;
-mod given_up;
 mod lines;
 mod make;
 mod names;
@@ -14,5 +13,5 @@ mod plan;
 mod primitive;
 mod push;
 
-pub use given_up::GivenUp;
+pub use json_lend::GivenUp;
 pub use lines::LinePlan;

@@ -7,7 +7,6 @@ ghost use Rattle.line_encode.specs.Plans.{PushesLine, PushesLines};
 ghost use Rattle.line_encode.specs.Makes.{IsLinePlanOf};
 ghost use Rattle.line_encode.specs.Lines.{EncodesLines};
 
-use crate::given_up::GivenUp;
 use crate::make::{make_names, make_plans};
 use crate::names::Names;
 use crate::plan::Plan;
@@ -15,7 +14,7 @@ use crate::push::push_record;
 use arrow_core::Text;
 use arrow_types::Field;
 use avro_schema::Record;
-use json_lend::Name;
+use json_lend::{GivenUp, Name};
 use json_tree::reader::Reader;
 use std::alloc::Global;
 
@@ -90,10 +89,11 @@ impl LinePlan {
     /// at once; a missing member is as null, and a member that no field names is passed over.
     ///
     /// `GivenUp` may come at any time, and `out` may then hold any bytes: at a line that is no such
-    /// object; where fields' keys stand twice or in another order than the fields; at a null or a
-    /// missing member where the record requires a value; at a value of another kind than its type's
-    /// own, though it may mean a slot (a number under a string), or one that doesn't fit; at a list of
-    /// more than 2147483647 items; and where there is no memory.
+    /// object; where fields' keys stand twice or in another order than the fields; under more than 256
+    /// fields at a key that is none of theirs or has an escape; at a null or a missing member where
+    /// the record requires a value; at a value of another kind than its type's own, though it may mean
+    /// a slot (a number under a string), or one that doesn't fit; at a list of more than 2147483647
+    /// items; and where there is no memory.
     pub fn encode_lines(
         &self,
         alloc: Global,

@@ -1,13 +1,15 @@
 //! Plans are made by data types and schemas.
 ghost use Rattle.std.specs.Prelude.{◌≡◌, true, IfOk, IfSome};
 ghost use Rattle.avro_schema.specs.declared.schema.Schema.{Array, Null, Union};
-ghost use Rattle.line_encode.specs.Makes.{names_of as names_of_fields, AreNamed, ArePlansOf, IsHeldPlanOf, IsListPlanOf, IsPlanOf, IsPrimitiveOf, IsReadable, IsRecordPlanOf, IsStructPlanOf};
+ghost use Rattle.json_flat.specs.Names.{names_of as names_of_fields};
+ghost use Rattle.line_encode.specs.Makes.{AreNamed, ArePlansOf, IsHeldPlanOf, IsListPlanOf, IsPlanOf, IsPrimitiveOf, IsReadable, IsRecordPlanOf, IsStructPlanOf};
 
 use crate::names::Names;
 use crate::plan::{Plan, Primitive};
 use arrow_core::Result;
 use arrow_types::{DataType, Field};
 use avro_schema::{AvroField, AvroSchema};
+use json_flat::have_distinct_names;
 use json_lend::Name;
 use std::alloc::Global;
 
@@ -63,15 +65,18 @@ fn is_null(schema: &AvroSchema) -> bool
     matches!(schema, AvroSchema::Null)
 }
 
-/// The names of fields, where there is a field and no two have the same name.
+/// The names of fields, where there is a field and no two have the same name. `None` also where there
+/// is no memory.
 pub(crate) fn make_names(alloc: Global, fields: &[Field]) -> Option<Names>
     ensures names { IfSome result (λ names. names ≡ names_of_fields fields.now) }
     ensures named { IfSome result (λ _. AreNamed fields.now) }
 {
-    if fields.is_empty() {
+    let distinct = have_distinct_names(alloc, fields).ok()?;
+    if fields.is_empty() || !distinct {
         return None;
     }
-    Names::new(names_of(alloc, fields).ok()?)
+    let names = names_of(alloc, fields).ok()?;
+    Some(Names::new(names))
 }
 
 /// The names of fields. `OutOfMemory` alone.

@@ -1,8 +1,8 @@
 //! Names of which no two are the same.
-ghost use Rattle.std.specs.Prelude.{◌≡◌, true, IfSome};
+ghost use Rattle.std.specs.Prelude.{◌≡◌, true};
 ghost use Rattle.json_tree.specs.Layout.{distinct};
 
-use json_lend::{Name, are_distinct};
+use json_lend::Name;
 use std::marker::Model;
 
 /// The names of a record's fields, no two of which are the same.
@@ -26,16 +26,12 @@ impl Model for Names {
 }
 
 impl Names {
-    /// These names, where no two are the same.
-    pub(crate) fn new(names: Vec<Name>) -> Option<Names>
-        ensures names { IfSome result (λ made. made ≡ names.items) }
-        ensures distinct { IfSome result (λ made. distinct made ≡ true) }
+    /// These names.
+    pub(crate) fn new(names: Vec<Name>) -> Names
+        requires distinct { distinct names.items ≡ true }
+        ensures { result ≡ names.items }
     {
-        if are_distinct(names.as_slice()) {
-            Some(Names { names })
-        } else {
-            None
-        }
+        Names { names }
     }
 
     /// The names in order.

@@ -5,11 +5,10 @@ ghost use Rattle.json_tree.specs.Tree.{boolean, null, number, string};
 ghost use Rattle.json_lend.specs.Standing.{lent_value};
 ghost use Rattle.line_encode.specs.Plans.{index, Adds, OrNull, Reads, WritesBoolean, WritesBytes, WritesPrimitive};
 
-use crate::given_up::GivenUp;
 use crate::plan::Primitive;
 use avro_encode::{append_counted, append_counted_after, append_number};
 use json_flat::IntegerText;
-use json_lend::{EscapedString, Lent, lend};
+use json_lend::{EscapedString, GivenUp, Lent, lend};
 use json_tree::reader::Reader;
 use std::alloc::Global;
 

@@ -5,11 +5,10 @@ ghost use Rattle.json_tree.specs.Reading.{array_at, object_at, value_at};
 ghost use Rattle.line_encode.specs.Plans.{Blocks, OrNull, Reads, ReadsField, ReadsItems, Writes, WritesList, WritesRecord};
 
 use crate::fields::{push_all_null, push_nulls};
-use crate::given_up::GivenUp;
 use crate::plan::Plan;
 use crate::primitive::{push_index, push_primitive, read_null};
 use avro_encode::append_number;
-use json_lend::{Name, read_name, skip_value};
+use json_lend::{GivenUp, Name, read_name, skip_value};
 use json_tree::grammar::{closes, goes_on};
 use json_tree::reader::Reader;
 use std::alloc::Global;
@@ -42,8 +41,8 @@ fn opens<'a>(reader: &mut Reader<'a>, bracket: u8, depth: usize) -> bool
 /// encoding by the plan.
 ///
 /// `GivenUp` may come at any time, and `out` may then hold any bytes: where no value stands there,
-/// where it isn't of the plan's kind, where members stand in another order than the fields, and where
-/// there is no memory.
+/// where it isn't of the plan's kind, where members stand in another order than the fields, where
+/// `read_name` gives a name up, and where there is no memory.
 #[cycle(push)]
 #[inline(always)]
 fn push_value<'a>(

@@ -26,7 +26,7 @@ use Rattle.json_lend.specs.Fields.{IsObject}
 use Rattle.json_tree.specs.Meaning.{IsJson}
 use Rattle.json_tree.specs.Tree.{Json}
 use Rattle.json_tree.specs.declared.value.Value.{out-Value}
-use Rattle.line_encode.specs.declared.given_up.GivenUp.{GivenUp}
+use Rattle.json_lend.specs.declared.given_up.GivenUp.{GivenUp}
 use Rattle.line_encode.specs.declared.lines.LinePlan.{LinePlan}
 use Rattle.line_encode.specs.Lines.{EncodesLines}
 use Rattle.line_encode.specs.Makes.{IsLinePlanOf}

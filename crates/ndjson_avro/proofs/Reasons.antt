@@ -43,7 +43,7 @@ memory_target fields e is = subst (HasNoTarget fields) (sym is) tt
 
 -- ---- a block
 
--- columns of the root are refused for a null, or by out of memory
+-- columns of the root are refused for a null alone, out of memory aside
 pub not_encoded : (root : Schema) (a : Array) (e : Error) → IsRootOf root (array_type a) → IsRefused root a e → IsNotEncoded root (array_slots a) e
 not_encoded root a (NotYetImplemented reason.SerializerPair) is h = absurd (h is.pairs)
 not_encoded root a (InvalidArgumentError reason.NullUnderRequired) is h = inr (refl, h.1)

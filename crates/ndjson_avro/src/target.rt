@@ -28,7 +28,7 @@ pub(crate) fn make_target(
     ensures ok { IfOk result (HasTarget schema.now.fields name.now) }
     ensures err { IfErr result (HasNoTarget schema.now.fields) }
 {
-    if names_twice(row_type) {
+    if names_twice(alloc, row_type)? {
         return Err(Error::InvalidArgumentError(Reason::DuplicateName));
     }
     if schema.fields.as_slice().is_empty() {

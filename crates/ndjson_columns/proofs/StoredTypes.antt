@@ -1,21 +1,19 @@
 -- The types that columns are first read under: values mean the same there, and lines are read into them where the columns' own are readable.
 use Rattle.std.proofs.Common.{◌≡◌, ◌∙◌, ℕ, suc, Bool, true, false, not, ◌&&◌, ◌||◌, eqb, List, [], ◌∷◌, length, refl, sym, ap}
-use Rattle.std.specs.Bool.{one_answer}
-use Rattle.std.specs.Str.{bytes_eq}
 use Rattle.std.proofs.lemmas.Bool.{false≢true}
-use Rattle.std.proofs.lemmas.Slice.Eq.{bytes_eq-Decides}
 use Rattle.arrow_types.specs.declared.types.DataType.{DataType}
 use Rattle.arrow_types.specs.declared.types.DataType as layout
 use Rattle.arrow_types.specs.declared.types.DataType.TheVariants as types
 use Rattle.arrow_types.specs.declared.types.Field.{Field}
 use Rattle.arrow_types.specs.declared.types.IntegerType.{IntegerType}
-use Rattle.json_tree.specs.Layout.{distinct, meets}
+use Rattle.json_tree.specs.Layout.{distinct}
 use Rattle.json_flat.specs.Reading.{has_reading, is_value_type, reading}
 use Rattle.json_columns.specs.Gathered.{all_have_reading}
-use Rattle.json_columns.specs.Names.{any_names_twice, is_named, names_twice, repeats}
+use Rattle.json_columns.specs.Names.{any_names_twice, names_twice, repeats}
 use Rattle.json_columns.proofs.ByFields as column
-use Rattle.json_columns.proofs.FieldNames.{fixed_list_names, large_list_names, list_names, struct_names}
-use Rattle.json_line.specs.Lines.{are_line_fields, have_line_readings, names_of}
+use Rattle.json_columns.proofs.FieldNames.{fixed_list_names, large_list_names, list_names, repeated, struct_names}
+use Rattle.json_flat.specs.Names.{names_of}
+use Rattle.json_line.specs.Lines.{are_line_fields, have_line_readings}
 use Rattle.json_line.specs.Types.{has_line_reading}
 use Rattle.json_line.proofs.Shapes as line
 use Rattle.ndjson_columns.specs.LineColumns.{AreStoredFor, is_readable, IsStoredType}
@@ -43,24 +41,18 @@ readable_as t u r n = λ i. (r i && not (n i))
 
 -- ---- names
 
-same_test : (a b : List ℕ) → bytes_eq a b ≡ bytes_eq b a
-same_test a b = one_answer {P = a ≡ b} (bytes_eq a b) (bytes_eq b a) (bytes_eq-Decides a b) ((λ e. sym ((bytes_eq-Decides b a).0 e)), (λ e. (bytes_eq-Decides b a).1 (sym e)))
-
 names_stored : (fs gs : List Field) → AreStoredFor fs gs → names_of gs ≡ names_of fs
 names_stored [] [] h = refl
 names_stored [] (g ∷ gs) h = absurd h
 names_stored (f ∷ fs) [] h = absurd h
 names_stored (f ∷ fs) (g ∷ gs) h = λ i. h.0.name i ∷ names_stored fs gs h.1 i
 
-met : (name : List ℕ) (fs : List Field) → meets name (names_of fs) ≡ is_named name fs
-met name [] = refl
-met name (f ∷ fs) = λ i. (same_test name f.name i || met name fs i)
-
 apart : (fs : List Field) → repeats fs ≡ false → distinct (names_of fs) ≡ true
-apart [] h = refl
-apart (f ∷ fs) h =
-    let p = neither (is_named f.name fs) (repeats fs) h in
-    λ i. (not ((met f.name fs ∙ p.0) i) && apart fs p.1 i)
+apart fs h = is_so (distinct (names_of fs)) (repeated fs ∙ h)
+  where
+    is_so : (b : Bool) → not b ≡ false → b ≡ true
+    is_so true e = refl
+    is_so false e = absurd cc
 
 -- ---- fields
 

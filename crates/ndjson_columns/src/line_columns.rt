@@ -55,22 +55,29 @@ pub(crate) fn struct_fields(row_type: DataType) -> Option<Vec<Field>>
 }
 
 /// Whether values are read under the type, and no Struct in it names a field twice.
-fn is_readable(data_type: &DataType) -> bool
-    ensures { result ≡ is_readable_type data_type.now }
+fn is_readable(alloc: Global, data_type: &DataType) -> Result<bool>
+    ensures ok { IfOk result (λ b. b ≡ is_readable_type data_type.now) }
+    ensures memory { OnlyOutOfMemory result }
 {
-    has_json_reading(data_type) && !names_twice(data_type)
+    if !has_json_reading(data_type) {
+        return Ok(false);
+    }
+    Ok(!names_twice(alloc, data_type)?)
 }
 
 /// The fields, where values are read under a Struct of them, in which none names a field twice.
-fn readable_fields(fields: Vec<Field>) -> Option<Vec<Field>>
-    ensures { MatchOption result (is_readable_type (Struct fields.items) ≡ false)
-        (λ kept. (kept.items ≡ fields.items) × (is_readable_type (Struct fields.items) ≡ true)) }
+fn readable_fields(alloc: Global, fields: Vec<Field>) -> Result<Option<Vec<Field>>>
+    ensures ok { IfOk result
+        (λ readable. MatchOption readable (is_readable_type (Struct fields.items) ≡ false)
+        (λ kept. (kept.items ≡ fields.items)
+        × (is_readable_type (Struct fields.items) ≡ true))) }
+    ensures memory { OnlyOutOfMemory result }
 {
     let row_type = DataType::Struct(Items::from_vec(fields));
-    if !is_readable(&row_type) {
-        return None;
+    if !is_readable(alloc, &row_type)? {
+        return Ok(None);
     }
-    struct_fields(row_type)
+    Ok(struct_fields(row_type))
 }
 
 impl LineColumns {
@@ -85,7 +92,7 @@ impl LineColumns {
             × (is_readable_type (Struct fields.items) ≡ true))) }
         ensures memory { OnlyOutOfMemory result }
     {
-        let Some(fields) = readable_fields(fields) else {
+        let Some(fields) = readable_fields(alloc, fields)? else {
             return Ok(None);
         };
         let stored = stored_fields(alloc, fields.as_slice())?;

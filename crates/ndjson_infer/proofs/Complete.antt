@@ -109,8 +109,8 @@ module _ (number : Option ℕ) (byte_limit : ℕ) (old new : Told) (bytes : List
   -- more bytes than the limit are no more than the lines that are read have
   past_by : 0 < byte_limit → (h : PassesLimit number byte_limit old new)
       → ((number ≡ Some 0) × (length (h.taken ++ h.byte ∷ []) ≤ 1)) ⊎ EachNeeded number (lines (h.taken ++ h.byte ∷ [])) → byte_limit < size_of_lines (needed_lines number (lines bytes))
-  past_by some_bytes h (inl none) = absurd (omega (arith, some_bytes, h.limit, none.1, length-append h.taken (h.byte ∷ [])))
-  past_by some_bytes h (inr each) =
+  past_by may_take h (inl none) = absurd (omega (arith, may_take, h.limit, none.1, length-append h.taken (h.byte ∷ [])))
+  past_by may_take h (inr each) =
       let some = h.taken ++ h.byte ∷ [] in
       let size = length-append h.taken (h.byte ∷ []) in
       let l = left_of old.left new.left bytes some told h.consumed in
@@ -161,11 +161,11 @@ module _ (number : Option ℕ) (byte_limit : ℕ) (old new : Told) (bytes : List
       let none : l.0 ≡ [] = subst IsAtEnd l.1 h.end in
       omega (arith, some, ap length (l.2 ∙ none))
 
-  module _ (some : 0 < length bytes) (some_bytes : 0 < byte_limit) (same : new.faults ≡ old.faults) (below : new.faults < last_count)
+  module _ (some : 0 < length bytes) (may_take : 0 < byte_limit) (same : new.faults ≡ old.faults) (below : new.faults < last_count)
       (fits : size_of_lines (needed_lines number (lines bytes)) ≤ byte_limit) where
     only_memory : (e : Error) → NoType number byte_limit old new e → e ≡ OutOfMemory
     only_memory (ReadFault (Some line)) h = absurd (not_risen old.faults new.faults same below h.cause)
-    only_memory LimitExceeded (inl h) = absurd (omega (arith, fits, past_by some_bytes h (no_more_each number (h.taken ++ h.byte ∷ []) h.no_more)))
+    only_memory LimitExceeded (inl h) = absurd (omega (arith, fits, past_by may_take h (no_more_each number (h.taken ++ h.byte ∷ []) h.no_more)))
     only_memory LimitExceeded (inr h) = let v = row_stands HoldsTooMany h in absurd (within h.row v.0 v.1 h.holds)
     only_memory (ExternalFormat reason.Utf8Line) h = absurd (never_utf8 h)
     only_memory (ExternalFormat reason.Json) h = let v = row_stands _ h in absurd (h.holds.1 v.0 (as_text v.0 h.row v.1))
@@ -180,8 +180,8 @@ module _ (number : Option ℕ) (byte_limit : ℕ) (old new : Told) (bytes : List
 
 pub complete : (number : Option ℕ) (byte_limit : ℕ) (old new : Told) (result : Result DataType Error) → IfOk result (InfersType number byte_limit old new)
     → IfErr result (NoType number byte_limit old new) → IsComplete number byte_limit old new result
-complete number byte_limit old new result ok err bytes values told some some_bytes same below fits utf8 rows =
-    answers number byte_limit old new bytes values told utf8 rows some some_bytes same below fits result ok err
+complete number byte_limit old new result ok err bytes values told some may_take same below fits utf8 rows =
+    answers number byte_limit old new bytes values told utf8 rows some may_take same below fits result ok err
 
 -- the count of faults never falls
 type_rises : (number : Option ℕ) (byte_limit : ℕ) (old new : Told) (e : Error) → NoType number byte_limit old new e → old.faults ≤ new.faults

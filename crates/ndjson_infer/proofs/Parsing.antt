@@ -28,12 +28,12 @@ with_value row value Said (Err e) json said = tt
 -- of no rows one byte was taken
 pub one_byte : (byte_limit : ℕ) (old new : Told) (n : ℕ) (buffer : List ℕ) → Consumes old.left new.left (take n buffer) → n ≢ 0 → n ≤ 1 → length buffer ≡ 1 → 0 < byte_limit → old.faults ≤ new.faults
     → InfersType (Some 0) byte_limit old new data_type.Null
-one_byte byte_limit old new n buffer consumed some few size some_bytes faults =
+one_byte byte_limit old new n buffer consumed some few size may_take faults =
     let one : length (take n buffer) ≡ 1 = omega (arith, length-take n buffer, some, few, size) in
     record {
       taken = take n buffer;
       values = [];
-      takes = record { consumed = consumed; limit = omega (arith, one, some_bytes); faults = faults };
+      takes = record { consumed = consumed; limit = omega (arith, one, may_take); faults = faults };
       some = omega (arith, one);
       no_more = omega (arith, one);
       utf8 = All-nil IsUtf8;

@@ -208,9 +208,9 @@ module _ (number : Option ℕ) (a b c : State) (values : List Value) (so : RowsS
         ended : all_taken ≡ [] → IsAtEnd c.left ⊎ (wanted_after number (length values) ≡ 0) → IsAtEnd c.left
         ended no_bytes (inl end) = end
         ended no_bytes (inr none) =
-            let prefix : so.taken ≡ [] = sym (append-nil so.taken) ∙ ap (λ (z : List ℕ). so.taken ++ z) (sym (nothing_more none)) ∙ no_bytes in
+            let nothing_taken : so.taken ≡ [] = sym (append-nil so.taken) ∙ ap (λ (z : List ℕ). so.taken ++ z) (sym (nothing_more none)) ∙ no_bytes in
             let count = stand_for-length (rows_of so.taken) values so.rows in
-            let zero_rows : length values ≡ 0 = sym count ∙ ap (λ (z : List ℕ). length (rows_of z)) prefix ∙ ap (λ (z : List (List ℕ)). length (filter is_row z)) no_lines in
+            let zero_rows : length values ≡ 0 = sym count ∙ ap (λ (z : List ℕ). length (rows_of z)) nothing_taken ∙ ap (λ (z : List (List ℕ)). length (filter is_row z)) no_lines in
             absurd (some (none_wanted number (length values) (lines so.taken) none so.each count ∙ ap Some zero_rows))
 
   -- ---- errors
@@ -218,8 +218,8 @@ module _ (number : Option ℕ) (a b c : State) (values : List Value) (so : RowsS
   module _ (some : number ≢ Some 0) (fresh : a.lines ≡ 0) where
     feeds : (part : List ℕ) → line_feeds (so.taken ++ part) ≡ length (lines so.taken) + line_feeds part
     feeds part =
-        let prefix = ap line_feeds (sym (append-nil so.taken)) ∙ line_feeds-part so.taken [] so.whole refl in
-        sum_by-append (λ byte. cond (is_line_feed byte) 1 0) so.taken part ∙ ap (λ (z : ℕ). z + line_feeds part) prefix
+        let feeds_taken = ap line_feeds (sym (append-nil so.taken)) ∙ line_feeds-part so.taken [] so.whole refl in
+        sum_by-append (λ byte. cond (is_line_feed byte) 1 0) so.taken part ∙ ap (λ (z : ℕ). z + line_feeds part) feeds_taken
 
     read_fails : (line : ℕ) → reading.ReadFails (wanted_after number (length values)) b c line → ReadFails number a.limit (told a) (told c) line
     read_fails line h = record {

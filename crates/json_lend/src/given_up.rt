@@ -1,10 +1,10 @@
-//! What is answered where lines aren't read the fast path.
+//! What is answered where a text isn't read the fast path.
 use arrow_core::Error;
 use json_tree::JsonFault;
 use std::alloc::{AllocError, AllocFailed};
 
-/// The lines are to be read another way, which decides what is refused. It may be answered at any
-/// time, and says nothing of the lines.
+/// The text is to be read another way, which decides what is refused. It may be answered at any time,
+/// and says nothing of the text.
 #[derive(Clone, Copy, PartialEq, Eq, Debug)]
 pub struct GivenUp;
 

@@ -1,0 +1,7 @@
+-- Names of fields.
+use Rattle.std.specs.Prelude.{ℕ, List, map}
+use Rattle.arrow_types.specs.declared.types.Field.{Field}
+
+-- the fields' names, in order
+abbrev pub names_of : List Field → List (List ℕ)
+names_of fields = map (λ (f : Field). f.name) fields
