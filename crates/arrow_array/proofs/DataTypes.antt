@@ -7,7 +7,7 @@ use Rattle.arrow_bitmap.specs.Bits.{Packed}
 use Rattle.arrow_array.specs.declared.array.Array.{Array}
 use Rattle.arrow_array.specs.Dictionaries.{IsDictionaryOf}
 use Rattle.arrow_array.specs.FixedLists.{FixedListFits}
-use Rattle.arrow_array.specs.Kinds.{IsFixedListType, IsFixedBinaryType, IsStructType, IsDictionaryType, key_type}
+use Rattle.arrow_array.specs.Kinds.{IsFixedListType, IsFixedBinaryType, IsStructType, key_type}
 use Rattle.arrow_array.specs.Parts.{byte_width}
 use Rattle.arrow_array.specs.Structs.{StructParts}
 use Rattle.arrow_array.proofs.Records.{as_many}
@@ -27,6 +27,3 @@ key_is key t value h = ap key_type h.1
 
 pub dictionary_over : (key : IntegerType) (t value : DataType) → IsDictionaryOf key t value → IsDictionaryOf (key_type t) t value
 dictionary_over key t value h = (h.0, h.1 ∙ ap (λ k. types.Dictionary k value h.0) (sym (key_is key t value h)))
-
-pub dictionary_type : (key : IntegerType) (t value : DataType) → IsDictionaryOf key t value → IsDictionaryType t
-dictionary_type key t value h = let d = dictionary_over key t value h in (value, d.0, d.1)

@@ -210,10 +210,6 @@ unfolding shape-the_row-Field-0 hidden-the_row-Field-0 denote.Hole.Carrier.hidde
 items_of_list false field x h = h
 items_of_list true field x h = h
 
-pub items_of_fixed_list : (field : Field) (size : ℕ) (x : Slot) → SlotOf (types.FixedSizeList field size) x → IfHeld (IsFixedListOfSlots size (SlotOf field.data_type)) x
-unfolding shape-the_row-Field-0 hidden-the_row-Field-0 denote.Hole.Carrier.hidden
-items_of_fixed_list field size x h = h
-
 slots_of_row : (fields : List Field) (ys : List Slot) → FieldsOf (hidden-the_row-Field-1 fields) ys → AllZip (λ field y. SlotOf field.data_type y) fields ys
 unfolding shape-the_row-Field-1 hidden-the_row-Field-1 denote.Hole.Carrier.hidden
 slots_of_row [] [] h = tt
@@ -224,7 +220,3 @@ slots_of_row (f ∷ fields) (y ∷ ys) h = (h.0, slots_of_row fields ys h.1)
 pub fields_of_struct : (fields : List Field) (x : Slot) → SlotOf (types.Struct fields) x → IfHeld (IsStructOfSlots (AllZip (λ field y. SlotOf field.data_type y) fields)) x
 unfolding shape-the_row-Field-1 hidden-the_row-Field-1 denote.Hole.Carrier.hidden
 fields_of_struct fields x h d = let s = h d in (s.0, s.1, slots_of_row fields s.0 s.2)
-
-pub value_of_dictionary : (key : IntegerType) (value : DataType) (is_sorted : Bool) (x : Slot) → SlotOf (types.Dictionary key value is_sorted) x → SlotOf value x
-unfolding hidden-the_row-DataType-2 denote.Hole.Carrier.hidden
-value_of_dictionary key value is_sorted x h = h

@@ -1,6 +1,6 @@
 -- Runs of bytes that need no escape.
-use Rattle.std.proofs.Common.{◌≡◌, ℕ, ◌≤◌, ◌<◌, ◌+◌, List, [], ◌∷◌, ◌++◌, take, drop, length, flat_map, get_or, refl, sym, ◌∙◌, ap, append-nil, append_assoc, ◌-◌, arith, drop-cons, add-one}
-use Rattle.std.proofs.lemmas.Grind.{common_steps, flat_map-append}
+use Rattle.std.proofs.Common.{◌≡◌, ℕ, ◌≤◌, ◌<◌, ◌+◌, List, [], ◌∷◌, ◌++◌, take, drop, length, flat_map, get_or, refl, sym, ◌∙◌, ap, append-nil, append_assoc, ◌-◌, drop-cons, add-one}
+use Rattle.std.proofs.lemmas.Grind.{flat_map-append}
 use Rattle.std.proofs.lemmas.List.{take-append-drop}
 use Rattle.arrow_base.specs.WrittenString.{escaped}
 
@@ -15,18 +15,6 @@ pub byte-next : (rest : List ℕ) (n : ℕ) → n < length rest → flat_map esc
 byte-next rest n h =
     let e : drop n rest ≡ get_or rest n 0 ∷ drop (n + 1) rest = rw (add-one, drop-cons rest n 0) refl in
     ap (λ (l : List ℕ). flat_map escaped l) e
-
--- the run goes on
-pub run-more : (rest : List ℕ) (n : ℕ) → n < length rest → flat_map escaped (take n rest) ≡ take n rest → escaped (get_or rest n 0) ≡ get_or rest n 0 ∷ [] → flat_map escaped (take (n + 1) rest) ≡ take (n + 1) rest
-run-more rest n h p e =
-    let t : take (n + 1) rest ≡ take n rest ++ get_or rest n 0 ∷ [] = grind (arith, common_steps) in
-    rw (t, flat_map-append escaped (take n rest) (get_or rest n 0 ∷ []), p, e) refl
-
--- a run to the end is all
-pub run-all : (rest : List ℕ) (n : ℕ) → length rest ≤ n → flat_map escaped (take n rest) ≡ take n rest → flat_map escaped rest ≡ rest
-run-all rest n h p =
-    let t : take n rest ≡ rest = grind (arith, common_steps) in
-    ap (λ (l : List ℕ). flat_map escaped l) (sym t) ∙ p ∙ t
 
 -- what needs no escape is written as it is, and nothing after it
 pub nothing-behind : (written rest : List ℕ) → written ≡ rest → written ≡ rest ++ []
@@ -50,11 +38,3 @@ passed-block whole rest block more n h prefix behind p =
       splits = append_assoc h.prefix block more ∙ ap (λ (l : List ℕ). h.prefix ++ l) e ∙ h.splits;
       plain = rw (flat_map-append escaped h.prefix block, h.plain, p) refl;
     }
-
-pub passed-take : (whole rest : List ℕ) → Passed whole rest → flat_map escaped (take (length whole - length rest) whole) ≡ take (length whole - length rest) whole
-passed-take whole rest h =
-    let is : take (length whole - length rest) whole ≡ h.prefix = grind (arith, common_steps, h.splits) in
-    ap (λ (l : List ℕ). flat_map escaped l) is ∙ h.plain ∙ sym is
-
-pub passed-length : (whole rest : List ℕ) → Passed whole rest → length rest ≤ length whole
-passed-length whole rest h = grind (arith, common_steps, h.splits)

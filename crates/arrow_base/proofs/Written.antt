@@ -37,9 +37,6 @@ prefix-longer a b x y h = record {
   appended = h.appended;
 }
 
-pub prefix-kept : (old new : Option (List ℕ)) (x : List ℕ) → Keeps old new → AppendsPrefix old new x
-prefix-kept old new x h = record { taken = []; left_out = x; splits = refl; appended = Appends-kept old new h }
-
 -- of the whole, the rest is still to be written
 pub record Underway (old new : Option (List ℕ)) (whole rest : List ℕ) : Type 0 where
   pub done : List ℕ
@@ -59,10 +56,6 @@ underway-part a b c whole rest part more e h k = record {
 
 pub underway-take : (a b c : Option (List ℕ)) (whole rest : List ℕ) (n : ℕ) → Underway a b whole rest → Appends b c (take n rest) → Underway a c whole (drop n rest)
 underway-take a b c whole rest n h k = underway-part a b c whole rest (take n rest) (drop n rest) (sym (take-append-drop n rest)) h k
-
--- the rest is written too
-pub underway-end : (a b c : Option (List ℕ)) (whole rest : List ℕ) → Underway a b whole rest → Appends b c rest → Appends a c whole
-underway-end a b c whole rest h k = subst (λ (l : List ℕ). Appends a c l) h.splits (Appends-append a b c h.done rest h.appended k)
 
 -- the write of one part stops on the way
 pub underway-stop : (a b c : Option (List ℕ)) (whole rest part more : List ℕ) → rest ≡ part ++ more → Underway a b whole rest → AppendsPrefix b c part → AppendsPrefix a c whole

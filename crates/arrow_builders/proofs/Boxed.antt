@@ -7,7 +7,6 @@ use Rattle.std.proofs.Math.ListN.{drop_of_length-le}
 use Rattle.std.proofs.Math.Nat.{mul-div_cancel}
 use Rattle.std.proofs.lemmas.List.{map-append, append-nil}
 use Rattle.arrow_core.specs.declared.error.Error.{Error}
-use Rattle.arrow_core.specs.declared.error.Error.TheVariants.{OutOfMemory}
 use Rattle.arrow_types.specs.declared.slot.Slot.{Slot}
 use Rattle.arrow_types.specs.declared.types.DataType.{DataType}
 use Rattle.arrow_bitmap.specs.Bits.{Packed}
@@ -47,11 +46,6 @@ accepted P Q (Err e) f h = tt
 pub shown_slots : {A : Type 0} (slots : A → List Slot) (P : Type 0) (r : Result A Error) (xs ys : List Slot) → IfOk r (λ a. slots a ≡ xs) → IfOk r (λ a. P) → (P → xs ≡ ys) → IfOk r (λ a. slots a ≡ ys)
 shown_slots slots P (Ok a) xs ys h p f = h ∙ f p
 shown_slots slots P (Err e) xs ys h p f = tt
-
--- out of memory is a refusal of anything
-pub memory_refuses : {A : Type 0} (P : Type 0) (r : Result A Error) → IfErr r (λ e. e ≡ OutOfMemory) → IfErr r (IsRefusalOf P)
-memory_refuses P (Ok a) h = tt
-memory_refuses P (Err e) h = inl h
 
 -- ---- lists
 

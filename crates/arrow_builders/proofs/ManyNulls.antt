@@ -4,7 +4,7 @@ use Rattle.std.specs.List.{AllZip}
 use Rattle.arrow_builders.specs.Children.{all_nodes, fields_of}
 use Rattle.arrow_builders.specs.MutableArrays.{nodes}
 use Rattle.arrow_flat.specs.Nested.{marks_node}
-use Rattle.arrow_flat.specs.Nodes.{Node, Takes}
+use Rattle.arrow_flat.specs.Nodes.{Node}
 use Rattle.arrow_builders.specs.Shapes.{Added, AllTake, FitsIn, nulls_in, nulls_at, shape}
 use Rattle.arrow_builders.specs.declared.structs.DynMutableStructArray.{DynMutableStructArray}
 use Rattle.arrow_builders.specs.declared.array.MutableArray.{MutableArray, Struct}
@@ -44,13 +44,6 @@ child_fits n zero (b ∷ bs) x l r = AllFitsIn-prefix (nulls_in n (shape b)) (nu
 child_fits n (suc i) (b ∷ bs) x l r = child_fits n i bs x (omega (arith, l)) (AllFitsIn-back (nulls_in n (shape b)) (nulls_in n (fields_of (map shape bs))) (nodes b) (all_nodes bs) (nulls-fit n b) r)
 
 -- ---- a null of a builder of structs
-
-pub record_takes : (b d : DynMutableStructArray) → Takes 1 0 (marks_node b.marks) (marks_node d.marks) → AllTake (nulls_in 1 (fields_of (map shape b.values.items))) (all_nodes b.values.items) (all_nodes d.values.items)
-    → AllTake (nulls_at 1 (Struct b)) (nodes (Struct b)) (nodes (Struct d))
-record_takes b d h k =
-    subst (λ z. AllTake (nulls_in 1 z) (nodes (Struct b)) (nodes (Struct d))) (sym (shape-record b))
-    (subst (λ (xs : List Node). AllTake (record { slots = 1; bytes = 0 } ∷ nulls_in 1 (fields_of (map shape b.values.items))) xs (nodes (Struct d))) (sym (nodes-record b))
-    (subst (λ (ys : List Node). AllTake (record { slots = 1; bytes = 0 } ∷ nulls_in 1 (fields_of (map shape b.values.items))) (marks_node b.marks ∷ all_nodes b.values.items) ys) (sym (nodes-record d)) (h, k)))
 
 pub record_fits : (b : DynMutableStructArray) → AllZip FitsIn (nulls_at 1 (Struct b)) (nodes (Struct b)) → FitsIn (record { slots = 1; bytes = 0 }) (marks_node b.marks) × AllZip FitsIn (nulls_in 1 (fields_of (map shape b.values.items))) (all_nodes b.values.items)
 record_fits b r =

@@ -34,9 +34,6 @@ null_slots-append (suc m) n = let e : suc m + n ≡ suc (m + n) = omega arith in
 pub nulls-append : (xs : List Slot) (m n : ℕ) → (xs ++ null_slots m) ++ null_slots n ≡ xs ++ null_slots (m + n)
 nulls-append xs m n = append_assoc xs (null_slots m) (null_slots n) ∙ ap (λ (ys : List Slot). xs ++ ys) (null_slots-append m n)
 
-pub nulls-push : (xs : List Slot) (n : ℕ) → (xs ++ null_slots n) ++ slot.Null ∷ [] ≡ xs ++ null_slots (n + 1)
-nulls-push xs n = nulls-append xs n 1
-
 past : (n k : ℕ) → slot_at (null_slots n) k ≡ slot.Null
 past zero k = refl
 past (suc n) zero = refl

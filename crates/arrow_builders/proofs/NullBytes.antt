@@ -1,16 +1,12 @@
 -- The content bytes that come to each node of a builder with nulls.
-use Rattle.std.proofs.Common.{◌≡◌, sym, subst, refl, ℕ, ◌+◌, ◌*◌, List, [], ◌∷◌, ◌++◌, length, map, arith, All, Result, OnOk}
+use Rattle.std.proofs.Common.{◌≡◌, sym, subst, refl, ℕ, ◌+◌, ◌*◌, List, [], ◌∷◌, ◌++◌, length, arith, All, Result, OnOk}
 use Rattle.std.proofs.lemmas.List.Elements.{All-nil, All-cons, All-head, All-tail, All-append}
 use Rattle.arrow_array.specs.FixedLists.{list_size}
-use Rattle.arrow_flat.specs.Nested.{marks_node}
 use Rattle.arrow_flat.specs.Nodes.{Node}
-use Rattle.arrow_builders.specs.Children.{all_nodes, fields_of}
 use Rattle.arrow_builders.specs.MutableArrays.{nodes}
 use Rattle.arrow_builders.specs.Shapes.{Shape, flat, dictionary, lists, fixed_lists, records, no_field, field, Added, null_bytes, nulls_in, nulls_at, AllGetBytes, shape}
-use Rattle.arrow_builders.specs.declared.structs.DynMutableStructArray.{DynMutableStructArray}
-use Rattle.arrow_builders.specs.declared.array.MutableArray.{MutableArray, Struct}
+use Rattle.arrow_builders.specs.declared.array.MutableArray.{MutableArray}
 use Rattle.arrow_builders.proofs.Growth.{AllAdded-append, AllAdded-then, nulls-sum}
-use Rattle.arrow_builders.proofs.Rows.{nodes-record, shape-record}
 use Rattle.arrow_builders.proofs.Sizes.{nulls-fit}
 
 -- ---- no null
@@ -51,13 +47,6 @@ pub AllGetBytes-append : (ps bs : List Added) (xs ys us vs : List Node) → AllG
 AllGetBytes-append ps bs xs ys us vs h k = AllAdded-append (λ (a : Added) (x y : Node). y.bytes ≡ x.bytes + a.bytes) ps bs xs ys us vs h k
 
 -- ---- a null of a builder of structs
-
-pub record_bytes : (b d : DynMutableStructArray) → AllGetBytes (nulls_in 1 (fields_of (map shape b.values.items))) (all_nodes b.values.items) (all_nodes d.values.items)
-    → AllGetBytes (nulls_at 1 (Struct b)) (nodes (Struct b)) (nodes (Struct d))
-record_bytes b d k =
-    subst (λ z. AllGetBytes (nulls_in 1 z) (nodes (Struct b)) (nodes (Struct d))) (sym (shape-record b))
-    (subst (λ (xs : List Node). AllGetBytes (record { slots = 1; bytes = 0 } ∷ nulls_in 1 (fields_of (map shape b.values.items))) xs (nodes (Struct d))) (sym (nodes-record b))
-    (subst (λ (ys : List Node). AllGetBytes (record { slots = 1; bytes = 0 } ∷ nulls_in 1 (fields_of (map shape b.values.items))) (marks_node b.marks ∷ all_nodes b.values.items) ys) (sym (nodes-record d)) (refl, k)))
 
 -- ---- answers
 

@@ -1,19 +1,15 @@
 -- The nulls that come after the slots at each node of a builder.
-use Rattle.std.proofs.Common.{◌≡◌, ap, ◌∙◌, sym, subst, ℕ, ◌+◌, ◌*◌, List, [], ◌∷◌, ◌++◌, map, arith, Result, OnOk}
+use Rattle.std.proofs.Common.{◌≡◌, ap, ◌∙◌, sym, subst, ℕ, ◌+◌, ◌*◌, List, [], ◌∷◌, ◌++◌, arith, Result, OnOk}
 use Rattle.std.proofs.lemmas.List.{append-nil}
 use Rattle.arrow_types.specs.declared.slot.Slot.{Slot}
-use Rattle.arrow_types.specs.declared.slot.Slot.TheVariants as slot
 use Rattle.arrow_array.specs.FixedLists.{list_size}
-use Rattle.arrow_builders.specs.Children.{all_slots, fields_of}
 use Rattle.arrow_builders.specs.MutableArrays.{builder_slots, slots_at, slots_at_below}
 use Rattle.arrow_flat.specs.Nested.{null_slots}
 use Rattle.arrow_builders.specs.Shapes.{Added, AllGetNulls, nulls_in, nulls_at, shape, shapes_below}
-use Rattle.arrow_builders.specs.declared.structs.DynMutableStructArray.{DynMutableStructArray}
-use Rattle.arrow_builders.specs.declared.array.MutableArray.{MutableArray, Struct, List', LargeList', FixedSizeList', Struct', Row_of-MutableArray, end_of-MutableArray, more_of-MutableArray}
+use Rattle.arrow_builders.specs.declared.array.MutableArray.{MutableArray, List', LargeList', FixedSizeList', Struct', Row_of-MutableArray, end_of-MutableArray, more_of-MutableArray}
 use Rattle.arrow_builders.specs.declared.array.MutableArray.{Null, Boolean, Int8, Int16, Int32, Int64, UInt8, UInt16, UInt32, UInt64, Int128, MonthDayNano, Utf8, LargeUtf8, Binary, LargeBinary, FixedSizeBinary, Dictionary}
 use Rattle.arrow_builders.proofs.Growth.{AllAdded-append, AllAdded-then, nulls-sum}
 use Rattle.arrow_builders.proofs.NestedSlots.{nulls-append}
-use Rattle.arrow_builders.proofs.Rows.{shape-record, slots_at-record}
 
 -- ---- no null
 
@@ -65,13 +61,6 @@ one_more_null b c d i s h k =
     subst (λ (ps : List Added). AllGetNulls ps (slots_at b) (slots_at d)) (sym (nulls-sum i 1 (shape b))) both
 
 -- ---- a null of a builder of structs
-
-pub record_nulls : (b d : DynMutableStructArray) → builder_slots (Struct d) ≡ builder_slots (Struct b) ++ slot.Null ∷ [] → AllGetNulls (nulls_in 1 (fields_of (map shape b.values.items))) (all_slots b.values.items) (all_slots d.values.items)
-    → AllGetNulls (nulls_at 1 (Struct b)) (slots_at (Struct b)) (slots_at (Struct d))
-record_nulls b d h k =
-    subst (λ z. AllGetNulls (nulls_in 1 z) (slots_at (Struct b)) (slots_at (Struct d))) (sym (shape-record b))
-    (subst (λ (xs : List (List Slot)). AllGetNulls (record { slots = 1; bytes = 0 } ∷ nulls_in 1 (fields_of (map shape b.values.items))) xs (slots_at (Struct d))) (sym (slots_at-record b))
-    (subst (λ (ys : List (List Slot)). AllGetNulls (record { slots = 1; bytes = 0 } ∷ nulls_in 1 (fields_of (map shape b.values.items))) (builder_slots (Struct b) ∷ all_slots b.values.items) ys) (sym (slots_at-record d)) (h, k)))
 
 -- ---- answers
 

@@ -94,17 +94,8 @@ slots_are b xs e = slots-record b ∙ e
 pub slots_same : (b d : DynMutableStructArray) → d.marks.booleans ≡ b.marks.booleans → map builder_slots d.values.items ≡ map builder_slots b.values.items → builder_slots (Struct d) ≡ builder_slots (Struct b)
 slots_same b d t s = slots-record d ∙ rw (t, s) refl ∙ sym (slots-record b)
 
-pub slots_at_same : (b d : DynMutableStructArray) → builder_slots (Struct d) ≡ builder_slots (Struct b) → all_slots d.values.items ≡ all_slots b.values.items → slots_at (Struct d) ≡ slots_at (Struct b)
-slots_at_same b d s k = slots_at-record d ∙ ap (λ (xs : List Slot). xs ∷ all_slots d.values.items) s ∙ ap (λ (xs : List (List Slot)). builder_slots (Struct b) ∷ xs) k ∙ sym (slots_at-record b)
-
-pub nodes_both : (P : List Node → List Node → Type 0) (b d : DynMutableStructArray) → P (marks_node b.marks ∷ all_nodes b.values.items) (marks_node d.marks ∷ all_nodes d.values.items) → P (nodes (Struct b)) (nodes (Struct d))
-nodes_both P b d h = subst (λ (xs : List Node). P xs (nodes (Struct d))) (sym (nodes-record b)) (subst (P (marks_node b.marks ∷ all_nodes b.values.items)) (sym (nodes-record d)) h)
-
 pub nodes_of : (P : List Node → Type 0) (b : DynMutableStructArray) → P (marks_node b.marks ∷ all_nodes b.values.items) → P (nodes (Struct b))
 nodes_of P b h = subst P (sym (nodes-record b)) h
-
-pub nodes_from : (P : List Node → Type 0) (b : DynMutableStructArray) → P (nodes (Struct b)) → P (marks_node b.marks ∷ all_nodes b.values.items)
-nodes_from P b h = subst P (nodes-record b) h
 
 -- ---- children that were lent out and written back
 

@@ -9,7 +9,6 @@ use Rattle.std.proofs.lemmas.List.Sums.{sum_by-append, sum_by_more_le}
 use Rattle.std.proofs.lemmas.Slice.Eq.{bytes_eq-Decides}
 use Rattle.std.specs.Str.{bytes_eq}
 use Rattle.arrow_array.specs.Dictionaries.{IsKeyInto}
-use Rattle.arrow_array.specs.Slots.{is_held}
 use Rattle.arrow_core.specs.declared.error.Error.{Error}
 use Rattle.arrow_core.specs.declared.error.Error.TheVariants.{Overflow}
 use Rattle.arrow_types.specs.Numbers.{slot_of_numbers}
@@ -19,11 +18,6 @@ use Rattle.arrow_dictionaries.specs.Encoding.{IsEncodingFault, string_size}
 use Rattle.arrow_dictionaries.specs.Indices.{index_key, string_slot}
 
 -- ---- integers
-
-pub numbers_held : (ns : List ℤ) → is_held (slot_of_numbers ns) ≡ true
-numbers_held [] = refl
-numbers_held (n ∷ []) = refl
-numbers_held (n ∷ m ∷ ns) = refl
 
 integers_same : (ns ms : List ℤ) → map slot.Integer ns ≡ map slot.Integer ms → ns ≡ ms
 integers_same [] [] e = refl

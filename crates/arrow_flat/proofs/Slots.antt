@@ -10,9 +10,6 @@ use Rattle.arrow_array.specs.Slots.{slots_of, shown, null_at, boolean_at, native
 use Rattle.arrow_flat.specs.Bits.{mask_of, Tells}
 use Rattle.arrow_flat.proofs.Bits.{made_alike}
 
-pub masked : (ℕ → Slot) → List Bool → ℕ → List Slot
-masked f ts n = slots_of f (Some (mask_of ts)) 0 n
-
 pub length-slots_of : (f : ℕ → Slot) (ts : List Bool) (n : ℕ) → length (slots_of f (Some (mask_of ts)) 0 n) ≡ n
 length-slots_of f ts n = length-map-range_with_len (λ i. shown (Some (mask_of ts)) i (f (0 + i))) 0 n
 

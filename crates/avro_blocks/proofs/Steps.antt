@@ -1,5 +1,5 @@
 -- One block after another.
-use Rattle.std.proofs.Common.{◌≡◌, ◌∙◌, inl, inr, ℕ, ◌+◌, ◌≤◌, List, [], ◌∷◌, ◌++◌, length, Bool, true, false, Option, Some, None, refl, sym, ap, subst, length-append, arith}
+use Rattle.std.proofs.Common.{◌≡◌, ◌∙◌, inl, inr, ℕ, ◌+◌, ◌≤◌, List, [], ◌∷◌, ◌++◌, length, Option, Some, refl, sym, ap, subst, length-append, arith}
 use Rattle.std.specs.List.{concat, AllZip}
 use Rattle.std.proofs.KnownBytes.{Appends-nil, Appends-trans}
 use Rattle.std.proofs.lemmas.List.{append-nil}
@@ -8,9 +8,6 @@ use Rattle.std.proofs.lemmas.List.Sums.{sum_by_push}
 use Rattle.std.specs.Io.KnownBytes.{Appends}
 use Rattle.arrow_base.specs.Outside.{RoseOrFull}
 use Rattle.arrow_core.specs.declared.error.Error.{Error}
-use Rattle.arrow_core.specs.declared.error.Error.TheVariants.{ExternalFormat, LimitExceeded, ReadFault, OutOfMemory}
-use Rattle.arrow_core.specs.declared.error.Reason.TheVariants as reason
-use Rattle.avro_container.specs.BlockReader.{Next, NoBlock}
 use Rattle.avro_container.specs.File.{FileBlock, MarkedBlock, IsFileBlock, none}
 use Rattle.avro_container.specs.FileForms.{marked_block}
 use Rattle.avro_container.specs.Taking.{State, Passed}
@@ -21,19 +18,6 @@ use Rattle.avro_blocks.specs.Changes.{change_of}
 use Rattle.avro_blocks.specs.Written.{WritesBlocks, BlockFails, StopsAtBlock}
 
 -- ---- the faults of a source never fall
-
-pub next_faults : (marker : List ℕ) (old new : State) (rows : ℕ) (bytes : List ℕ) (more : Bool) → Next marker old new rows bytes more → old.faults ≤ new.faults
-next_faults marker old new rows bytes true h = h.1.faults
-next_faults marker old new rows bytes false h = h.0.faults
-
-pub no_block_faults : (marker : List ℕ) (old new : State) (e : Error) → NoBlock marker old new e → old.faults ≤ new.faults
-no_block_faults marker old new (ReadFault None) h = h.1.0.faults
-no_block_faults marker old new LimitExceeded h = h.1.0.faults
-no_block_faults marker old new (ExternalFormat reason.Container) (inl h) = h.1.0.faults
-no_block_faults marker old new (ExternalFormat reason.Container) (inr h) = h.takes.faults
-no_block_faults marker old new (ExternalFormat reason.Marker) h = h.taken.1.faults
-no_block_faults marker old new OutOfMemory h = h.1.0.faults
-no_block_faults marker old new _ h = absurd h
 
 -- ---- how many rows a block has at most
 

@@ -1,5 +1,5 @@
 -- What a rewriter is made of, and why none is made.
-use Rattle.std.proofs.Common.{◌≡◌, ◌∙◌, ℕ, Bool, true, List, [], ◌∷◌, length, replicate, Option, Some, None, refl, sym, ap, subst, arith}
+use Rattle.std.proofs.Common.{◌≡◌, ◌∙◌, ℕ, Bool, true, List, [], ◌∷◌, length, replicate, Option, Some, refl, sym, ap, subst, arith}
 use Rattle.std.proofs.lemmas.List.{length-map}
 use Rattle.std.proofs.lemmas.Option.{same_Some}
 use Rattle.arrow_core.specs.declared.error.Error.{Error}
@@ -21,11 +21,10 @@ use Rattle.avro_decode.specs.Decoder.{CanBeDecoded, Projected, ProjectionRefused
 use Rattle.avro_decode.specs.Refusals.{AreCarried, AreNotCarried}
 use Rattle.avro_record.specs.Listed.{named_all}
 use Rattle.avro_record.specs.Named.{named_record, named_root}
-use Rattle.avro_record.specs.Schemas.{NoAvroTypeWhere, columns_fields, plain_record, record_of}
+use Rattle.avro_record.specs.Schemas.{columns_fields, plain_record, record_of}
 use Rattle.avro_record.proofs.Renamed.{record_named}
 use Rattle.avro_write.specs.Laws.{all_kept}
-use Rattle.avro_canonical.specs.Canonical.{CanBeRewritten, CannotBeRewritten, HoldNoFloat, IsRewriting, target_fields}
-use Rattle.avro_canonical.specs.Targets.{AreMade}
+use Rattle.avro_canonical.specs.Canonical.{CanBeRewritten, CannotBeRewritten, IsRewriting, target_fields}
 
 -- columns in small forms are columns in small or large forms
 all_fit : (fs : List Field) (xs : List AvroField) → AllTyped fs xs → Fits fs xs
@@ -79,12 +78,6 @@ decoder_refused xs fs projection e carried columns same h = from e h
     from OutOfMemory k = absurd (k.2 refl)
     from _ k = absurd k.0
 
--- why there is no record
-pub record_refused : (xs : List AvroField) (fs : List Field) (e : Error) → AreCarried xs → HoldNoFloat xs → inferred_columns xs ≡ Some fs → NoAvroTypeWhere (record_of true fs ≡ None) e → CannotBeRewritten xs e
-record_refused xs fs (NotYetImplemented reason.NoAvroType) carried floats columns h = (carried, floats, (fs, columns, h))
-record_refused xs fs OutOfMemory carried floats columns h = tt
-record_refused xs fs _ carried floats columns h = absurd h
-
 pub memory_refused : (xs : List AvroField) (e : Error) → e ≡ OutOfMemory → CannotBeRewritten xs e
 memory_refused xs e is = subst (CannotBeRewritten xs) (sym is) tt
 
@@ -107,11 +100,3 @@ made_rewriting xs fs r name marker target decoder fields columns recorded named 
       inferred = columns;
       target = root_fields fs name r recorded ∙ ap (λ (avros : List AvroField). Some avros) (sym (f ∙ ap (λ (z : Record). (out-Record z).fields) named));
     })
-
-pub are_made : (xs : List AvroField) (fs : List Field) (r : Record) (name marker : List ℕ) (target : Record) (decoder : Projected) (fields : List AvroField) → AreCarried xs → HoldNoFloat xs → inferred_columns xs ≡ Some fs → record_of true fs ≡ Some r → target ≡ named_root name r → decoder ≡ projected fs xs (all_kept xs) → fields ≡ (out-Record target).fields
-    → AreMade xs name marker (record { decoder = decoder; fields = fields; marker = marker }) target
-are_made xs fs r name marker target decoder fields carried floats columns recorded named d f = record {
-  columns = fs;
-  has_target = record { nameless = r; can = record { carried = carried; no_float = floats; inferred = columns; recorded = recorded }; named = named };
-  made = λ i. record { decoder = d i; fields = f i; marker = marker };
-}

@@ -1,7 +1,7 @@
 -- A decoded block's canonical form.
 use Rattle.std.proofs.Common.{◌≡◌, ◌∙◌, ℕ, zero, suc, ◌+◌, ◌<◌, Bool, true, List, [], ◌∷◌, ◌++◌, length, map, get_or, Some, refl, sym, ap, subst, arith}
 use Rattle.std.specs.List.{AllByRecursion, range_with_len}
-use Rattle.std.proofs.lemmas.List.{append-nil, length-map}
+use Rattle.std.proofs.lemmas.List.{length-map}
 use Rattle.std.proofs.lemmas.Option.{same_Some}
 use Rattle.arrow_types.specs.declared.slot.Slot.{Slot}
 use Rattle.arrow_types.specs.declared.types.Field.{Field}
@@ -63,10 +63,6 @@ no_block : (marker : List ℕ) (fields : List AvroField) (table : List (List Slo
 no_block marker fields [] e = refl
 no_block marker fields (row ∷ table) e = absurd (omega (arith, e))
 
-no_encodings : (fields : List AvroField) (table : List (List Slot)) → length table ≡ 0 → HasEncodings fields table
-no_encodings fields [] e = tt
-no_encodings fields (row ∷ table) e = absurd (omega (arith, e))
-
 module _ (w : Rewriting) (is : IsRewriting w) (can : CanBeDecoded w.decoder) (n : ℕ) (bytes : List ℕ) (arrays : List Array) (are : AreBytes bytes)
     (cols : AreColumns n w.decoder.avro_fields w.decoder.projection bytes (map array_slots arrays)) (types : map array_type arrays ≡ kept_types w.decoder.fields w.decoder.projection)
     (counted : AreCounted n w.decoder.fields w.decoder.projection bytes) (symbols : KeptEnumsFit w.decoder.avro_fields w.decoder.projection) where
@@ -117,9 +113,6 @@ module _ (w : Rewriting) (is : IsRewriting w) (can : CanBeDecoded w.decoder) (n 
 
   rewritten : (text : List ℕ) → HasEncodings w.fields table → text ≡ table_block w.marker w.fields table → RewritesBlock w (the_block n bytes) text
   rewritten text encodings_are e = record { table = table; has = record { rows = cols.1; counted = counted; symbols = symbols }; encoded = encodings_are; is = e }
-
-  pub nothing_appended : (out : List ℕ) → n ≡ 0 → AppendsBlock (RewritesBlock w) (the_block n bytes) out out
-  nothing_appended out e = ([], rewritten [] (no_encodings w.fields table (count ∙ e)) (no_block w.marker w.fields table (count ∙ e)), sym (append-nil out))
 
   pub block_appended : (old new bytes_of number_bytes : List ℕ) (number : ℕ) → (n ≡ 0 → ⊥) → HaveEncodings w.fields arrays → number ≡ n → number_bytes ≡ rows number (encodings w.fields (map array_slots arrays)) → bytes_of ≡ canonical_block w.marker (the_block number number_bytes) → new ≡ old ++ bytes_of
       → AppendsBlock (RewritesBlock w) (the_block n bytes) old new

@@ -4,15 +4,15 @@ use Rattle.std.proofs.lemmas.List.{append-nil}
 use Rattle.std.specs.Option.{option_or}
 use Rattle.std.specs.Str.{bytes_eq}
 use Rattle.avro_schema.specs.Number.{Number}
-use Rattle.avro_grammar.specs.Parts.{Grammar, Then, Many, BlockOf, Blocks}
+use Rattle.avro_grammar.specs.Parts.{Many, BlockOf, Blocks}
 use Rattle.avro_grammar.specs.Parts as parts
 use Rattle.avro_container.specs.File.{Entry, value_for, last_value}
 use Rattle.avro_container.specs.Kept.{later, last_of}
-use Rattle.avro_container.specs.Forms.{Form, Followed, number, both, BegunMany, WrongMany, many, block_of, BegunBlocks, WrongBlocks, blocks}
+use Rattle.avro_container.specs.Forms.{Form, number, both, BegunMany, WrongMany, many, block_of, BegunBlocks, WrongBlocks, blocks}
 use Rattle.avro_container.specs.Taking.{State, Takes, Passed, Stopped}
 use Rattle.avro_container.specs.Forms as forms
 use Rattle.avro_container.specs.declared.parts.Stop.{Stop}
-use Rattle.avro_container.proofs.Taken.{takes_nothing, takes_more, ends_after}
+use Rattle.avro_container.proofs.Taken.{takes_more, ends_after}
 
 split_on : (a b c d : List ℕ) → a ≡ b ++ c → a ++ d ≡ b ++ (c ++ d)
 split_on a b c d e = ap (λ (z : List ℕ). z ++ d) e ∙ append_assoc b c d
@@ -63,10 +63,6 @@ module _ {A : Type 0} (P : Form A) where
     second = wrong_more i n m.back b m.second.0 (omega (arith, l)) m.second.2 h;
   })
 
-  -- so many were taken so far
-  pub many_nothing : Many P.whole 0 [] []
-  many_nothing = (refl, refl)
-
   pub many_stops : (i n : ℕ) (a b c : State) (t : List ℕ) (es : List A) (e : Stop) → i < n → Takes a b t → Many P.whole i t es → Stopped P b c e → Stopped (many P n) a c e
   many_stops i n a b c t es e l p m h =
       (t ++ h.0, ends_after P (many P n) a b c t h.0 p (begun_more i n t h.0 es l m) (wrong_more i n t h.0 es l m) e h.1)
@@ -78,9 +74,6 @@ module _ {A : Type 0} (P : Form A) where
     pub whole : (rest : List ℕ) (ys : List A) → Blocks P.whole rest ys → Blocks P.whole (t ++ rest) (es ++ ys)
     pub begun : (rest : List ℕ) → BegunBlocks P rest → BegunBlocks P (t ++ rest)
     pub wrong : (rest : List ℕ) → WrongBlocks P rest → WrongBlocks P (t ++ rest)
-
-  pub before_nothing : Before [] []
-  before_nothing = record { whole = λ rest ys h. h; begun = λ rest h. h; wrong = λ rest h. h }
 
   regroup : (t f i r : List ℕ) → (t ++ (f ++ i)) ++ r ≡ t ++ (f ++ (i ++ r))
   regroup t f i r = append_assoc t (f ++ i) r ∙ ap (λ z. t ++ z) (append_assoc f i r)
@@ -123,9 +116,6 @@ module _ {A : Type 0} (P : Form A) where
     pub taken : List ℕ
     pub takes : Takes a b taken
     pub before : Before taken es
-
-  pub along_nothing : (a : State) → Along a a []
-  along_nothing a = record { taken = []; takes = takes_nothing a; before = before_nothing }
 
   pub along_more : (a b c d : State) (es xs : List A) (z : ℤ) → Along a b es → Passed number b c z → Passed (block_of P z) c d xs → Along a d (es ++ xs)
   along_more a b c d es xs z along n h = record {

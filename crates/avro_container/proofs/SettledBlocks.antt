@@ -4,13 +4,13 @@ use Rattle.std.proofs.lemmas.List.{append_cancel_left, append-nil}
 use Rattle.std.specs.Str.{IsUtf8}
 use Rattle.avro_schema.specs.Number.{Number}
 use Rattle.avro_schema.proofs.Prefixes.{same_length}
-use Rattle.avro_grammar.specs.Parts.{Grammar, Then, Many, BlockOf, Blocks, Raw}
+use Rattle.avro_grammar.specs.Parts.{Many, BlockOf, Blocks, Raw}
 use Rattle.avro_grammar.specs.Parts as parts
 use Rattle.avro_grammar.specs.Encodes.{Any}
 use Rattle.avro_grammar.proofs.Prefixes.{Reads, number_reads, raw_reads, meaning_reads, many_reads, block_reads, blocks_read, apart}
 use Rattle.avro_container.specs.File.{IsCount, the_entry, magic, header_parts}
 use Rattle.avro_container.specs.FileForms.{entry, key_form, after_key, magic_form, after_magic, after_map, header}
-use Rattle.avro_container.specs.Forms.{Form, Followed, number, count, raw, both, meaning, sized, many, BegunMany, WrongMany, under, sized_many_of, block_of, TooMany, BegunBlocks, WrongBlocks, blocks}
+use Rattle.avro_container.specs.Forms.{Form, number, count, raw, both, sized, many, BegunMany, WrongMany, under, sized_many_of, block_of, BegunBlocks, WrongBlocks, blocks}
 use Rattle.avro_container.specs.Laws.{Settles}
 use Rattle.avro_container.specs.Forms as forms
 use Rattle.avro_container.proofs.OneFile.{count_reads, sized_reads, entry_reads}
@@ -57,9 +57,6 @@ module _ {A : Type 0} (z : ℤ) (P : Form A) (rp : Reads P.whole) (sp : Settles 
 
   pub under_settles : Settles (under z P)
   under_settles = record { whole_or_wrong = under_whole_or_wrong; whole_or_begun = under_whole_or_begun; wrong_or_begun = under_wrong_or_begun }
-
-  pub under_reads : Reads (under z P).whole
-  under_reads a b x y v w p q e = rp a b x y v w p.1 q.1 e
 
 module _ {A : Type 0} (P : Form A) (rp : Reads P.whole) (sp : Settles P) where
   sized_settles : (n : ℕ) → Settles (sized_many_of P n)

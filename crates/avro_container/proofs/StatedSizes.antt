@@ -36,24 +36,10 @@ module _ {A : Type 0} (P : Form A) (s : ℕ) (l l2 : Option (List ℕ)) (f f2 m 
   abbrev to : State
   to = state l2 f2 m2 r
 
-  pub under_passes : (x : A) → r ≡ Some 0 → Passed P from to x → Passed (under (pos s) P) (outside from) (outside to) x
-  under_passes x is p =
-      let all : s ≡ length p.0 = size_left_is s (length p.0) 0 r is p.1.size_left ∙ omega arith in
-      (p.0, takes_outside from to p.0 p.1, (ap pos all, p.2))
-
   pub under_short : (x : A) (k : ℕ) → r ≡ Some k → 0 < k → Passed P from to x → Stopped (under (pos s) P) (outside from) (outside to) stop.Wrong
   under_short x k is some p =
       let all : s ≡ length p.0 + k = size_left_is s (length p.0) k r is p.1.size_left in
       (p.0, (takes_outside from to p.0 p.1, inr (s, refl, inr (inl (omega (arith, all, some), x, p.2)))))
-
-  pub under_stops : (e : Stop) → Stopped P from to e → Stopped (under (pos s) P) (outside from) (outside to) (outer e)
-  under_stops stop.Ended h = (h.0, (takes_outside from to h.0 h.1.0, (s, refl, h.1.2, h.1.1), tt, h.1.3))
-  under_stops stop.Wrong h = (h.0, (takes_outside from to h.0 h.1.0, inr (s, refl, inl (within s (length h.0) r h.1.0.size_left, h.1.1))))
-  under_stops stop.UsedUp h = (h.0, (takes_outside from to h.0 h.1.0, inr (s, refl, inr (inr (sym h.1.2, h.1.1)))))
-  under_stops stop.Limit h =
-      (h.0, (record { byte = h.1.0.byte; consumed = h.1.0.consumed; limit = h.1.0.limit; faults = h.1.0.faults }, (s, refl, h.1.2, h.1.1), tt))
-  under_stops stop.Fault h = (h.0, (takes_outside from to h.0 h.1.0, (s, refl, h.1.2, h.1.1), tt, h.1.3))
-  under_stops stop.Memory h = (h.0, (takes_outside from to h.0 h.1.0, (s, refl, h.1.2, h.1.1), tt))
 
 -- a size is a number of 0 or more
 counted : (z : ℤ) (s : ℕ) → IsCount z → s ≡ count_of z → z ≡ pos s

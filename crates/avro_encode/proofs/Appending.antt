@@ -154,17 +154,6 @@ value_appended members b held m x old now byte h same e is f =
 
 -- ---- a list
 
-pub items_pairs : (s item given : Schema) (x : Slot) (ps : List Slot) → s ≡ Array item → given ≡ item → x ≡ slot.List ps → Pairs s x → IsCounted ps × AllByRecursion (Pairs given) ps
-items_pairs s item given x ps e same l p =
-    let q = pairs_array item x (subst (λ z. Pairs z x) e p) in
-    let d : q.0 ≡ ps = sym (parts_list q.0) ∙ ap parts_of (sym q.1 ∙ l) ∙ parts_list ps in
-    (subst (λ (ys : List Slot). IsCounted ys) d q.2, subst (λ (ys : List Slot). AllByRecursion (Pairs given) ys) d (subst (λ z. AllByRecursion (Pairs z) q.0) (sym same) q.3))
-
-pub items_plain : (s item given : Schema) (x : Slot) (ps : List Slot) → s ≡ Array item → given ≡ item → x ≡ slot.List ps → one_block (plain given) ps ≡ plain s x
-items_plain s item given x ps e same l =
-    ap (λ z. one_block (plain z) ps) same ∙ ap (λ (ys : List Slot). one_block (plain item) ys) (sym (parts_list ps) ∙ ap parts_of (sym l))
-    ∙ sym (plain_array item x) ∙ ap (λ z. plain z x) (sym e)
-
 take_more : (xs : List Slot) (k : ℕ) → k < length xs → take (suc k) xs ≡ take k xs ++ slot_at xs k ∷ []
 take_more [] k h = absurd (omega (arith, h))
 take_more (x ∷ xs) zero h = refl

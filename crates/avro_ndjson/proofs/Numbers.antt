@@ -59,13 +59,6 @@ not_among (x ∷ xs) n k d e lt = from (x == n) refl e (λ j. not_among xs n j d
 
 -- ---- one number more
 
-pub flagged_none : (count : ℕ) (numbers : List ℕ) (flags : List Bool) → flags ≡ replicate count false → Flagged count numbers 0 flags
-flagged_none count numbers flags e = record {
-  len = ap length e ∙ length-replicate count false;
-  each = λ k lt. ap (λ (fs : List Bool). get_or fs k false) e ∙ get_or-replicate count k false false lt;
-  numbers_fit = record { within = λ k d lt. absurd (omega (arith, lt)); distinct = λ i j d lt in_list. absurd (omega (arith, in_list)) };
-}
-
 module _ (count : ℕ) (numbers : List ℕ) (i : ℕ) (flags : List Bool) (n : ℕ) (lt : i < length numbers) (is : n ≡ get_or numbers i 0) (so : Flagged count numbers i flags) where
   one_longer : take (i + 1) numbers ≡ take i numbers ++ n ∷ []
   one_longer = take_more numbers i 0 lt ∙ ap (λ (x : ℕ). take i numbers ++ x ∷ []) (sym is)

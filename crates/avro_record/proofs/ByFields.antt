@@ -23,12 +23,6 @@ flat_is b k (data_type.LargeList' shape item) h = absurd h
 flat_is b k (data_type.Struct' shape fields) h = absurd h
 flat_is b k _ h = refl
 
-pub flat_structs : (t : DataType) → HasNoFields t → structs_in t ≡ 0
-flat_structs (data_type.List' shape item) h = absurd h
-flat_structs (data_type.LargeList' shape item) h = absurd h
-flat_structs (data_type.Struct' shape fields) h = absurd h
-flat_structs _ h = refl
-
 -- ---- lists
 
 pub list_schema : (b : Bool) (k : ℕ) (f : Field) → schema_of b k (types.List f) ≡ array_schema b k f

@@ -105,14 +105,8 @@ pub required : (b : Bool) (s : Schema) → optional b false s ≡ s
 required true s = refl
 required false s = refl
 
-pub column_told : (b : Bool) (k : ℕ) (f : Field) (s z : Schema) → schema_of b k f.data_type ≡ Some s → z ≡ optional b f.is_nullable s → column_schema b k f ≡ Some z
-column_told b k f s z e is = ap (λ (o : Option Schema). (o >>= λ y. Some (optional b f.is_nullable y))) e ∙ ap (λ (y : Schema). Some y) (sym is)
-
 pub column_missing : (b : Bool) (k : ℕ) (f : Field) → schema_of b k f.data_type ≡ None → column_schema b k f ≡ None
 column_missing b k f e = ap (λ (o : Option Schema). (o >>= λ y. Some (optional b f.is_nullable y))) e
-
-pub array_told : (b : Bool) (k : ℕ) (f : Field) (s : Schema) (z : Schema) → column_schema b k f ≡ Some s → z ≡ Array s → array_schema b k f ≡ Some z
-array_told b k f s z e is = ap (λ (o : Option Schema). (o >>= λ y. Some (Array y))) e ∙ ap (λ (y : Schema). Some y) (sym is)
 
 pub array_missing : (b : Bool) (k : ℕ) (f : Field) → column_schema b k f ≡ None → array_schema b k f ≡ None
 array_missing b k f e = ap (λ (o : Option Schema). (o >>= λ y. Some (Array y))) e

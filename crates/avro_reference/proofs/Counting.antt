@@ -82,17 +82,6 @@ module _ {X : Type 0} (rest : X → List ℕ) (shown calls : X → ℕ) where
   next_costs None x y l s c = tt
   next_costs (Some v) x y l s c = record { shorter = l; few_shown = omega (arith, l, s); few_calls = omega (arith, l, c) }
 
-  -- a number, and a value that is kept
-  pub number_kept : (x y z : X) → CostsNumber rest shown calls x y → Moves rest calls y z → CostsKept rest shown calls y z → CostsKept rest shown calls x z
-  number_kept x y z n m d =
-      let a = n.shorter in
-      let b = not_longer (rest y) (rest z) m.forward in
-      record { few_shown = omega (arith, a, b, n.few_shown, d.few_shown); few_calls = omega (arith, a, b, n.few_calls, d.few_calls) }
-
-  pub kept_on_ok : {E : Type 0} (r : Result (Unit {0}) E) (x y z : X) → CostsNumber rest shown calls x y → Moves rest calls y z → OnOk r (CostsKept rest shown calls y z) → OnOk r (CostsKept rest shown calls x z)
-  kept_on_ok (Ok u) x y z n m d = number_kept x y z n m d
-  kept_on_ok (Err e) x y z n m d = tt
-
   -- ---- one call
 
   pub byte_costs : (x y : X) (b : ℕ) → rest x ≡ b ∷ rest y → shown y ≡ risen (shown x) 1 → calls y ≡ risen (calls x) 1 → CostsKept rest shown calls x y

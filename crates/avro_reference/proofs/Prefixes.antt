@@ -3,7 +3,7 @@ use Rattle.std.proofs.Common.{◌≡◌, ℕ, zero, suc, ◌%◌, ◌/◌, ◌^�
 use Rattle.std.proofs.lemmas.Bool.{ltb-true, ltb-false, lt-ltb, le-ltb, eqb-true, eq-eqb, false≢true}
 use Rattle.std.proofs.lemmas.List.{take-append-drop, take_at, drop_at, length-take-le}
 use Rattle.std.proofs.lemmas.Option.{some_pair_parts, none-some}
-use Rattle.avro_schema.specs.Number.{AreGroups, unsigned, zigzag, Number, PassesNumber, NoNumber}
+use Rattle.avro_schema.specs.Number.{AreGroups, unsigned, zigzag, Number, PassesNumber}
 use Rattle.avro_grammar.specs.Parts.{Grammar, Then, Meaning, Raw, Sized}
 use Rattle.avro_grammar.specs.Encodes.{Any}
 use Rattle.avro_grammar.specs.AndThen.{◌>>=◌}
@@ -124,13 +124,6 @@ number_complete prefix r v n = rw (groups_complete 10 prefix r n.groups n.short,
 -- what a cursor passes as a number is a prefix that is one
 pub number_passed : (old new : List ℕ) (v : ℤ) → PassesNumber old new v → number_at old ≡ Some (v, new)
 number_passed old new v h = ap number_at h.2 ∙ number_complete h.0 new v h.1
-
-pub number_missed : (bytes : List ℕ) → NoNumber bytes → number_at bytes ≡ None
-number_missed bytes h = none (number_at bytes) refl
-  where
-    none : (o : Option (ℤ × List ℕ)) → number_at bytes ≡ o → number_at bytes ≡ None
-    none None e = e
-    none (Some x) e = let one = number_sound bytes x.1 x.0 e in absurd (h one.0 x.1 x.0 one.1 one.2)
 
 pub groups_long : (g : List ℕ) → AreGroups g → 0 < length g
 groups_long [] h = absurd h

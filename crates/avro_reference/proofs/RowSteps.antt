@@ -1,14 +1,14 @@
 -- One step of reading, as a loop makes it: what is left gives what the whole gives.
 use Rattle.std.proofs.Common.{◌≡◌, ℕ, zero, suc, ◌+◌, ◌-◌, ◌<◌, ◌≤◌, Bool, true, false, eqb, List, [], ◌∷◌, ◌++◌, length, get_or, drop, Some, None, Result, Ok, Err, refl, sym, ap, ◌∙◌, add-one, arith}
 use Rattle.std.proofs.Math.Seq.{drop-cons}
-use Rattle.std.proofs.lemmas.Bool.{lt-ltb, le-ltb, ne_eqb}
+use Rattle.std.proofs.lemmas.Bool.{le-ltb, ne_eqb}
 use Rattle.arrow_types.specs.declared.slot.Slot.{Slot}
 use Rattle.avro_schema.specs.declared.schema.AvroField.{AvroField}
-use Rattle.avro_grammar.specs.Skips.{Passed, both}
+use Rattle.avro_grammar.specs.Skips.{Passed}
 use Rattle.avro_grammar.specs.Rows.{Pieces}
 use Rattle.avro_reference.specs.Prefix.{Reader}
 use Rattle.avro_reference.specs.Read.{read, push_one, items}
-use Rattle.avro_reference.specs.Skip.{Fault, Bad, Parser, or_bad, skip, skip_items}
+use Rattle.avro_reference.specs.Skip.{Fault, Bad, or_bad, skip}
 use Rattle.avro_reference.specs.Block.{add_kept, add_skipped, row_after, row, rows_after, rows, block}
 
 none_left : {A : Type 0} (xs : List A) (k : ℕ) → length xs ≤ k → drop k xs ≡ []
@@ -78,21 +78,9 @@ pub items_none : (f : Reader Slot) (n : ℕ) (old : List Slot) (bytes : List ℕ
 unfolding items push_one
 items_none f n old bytes e = rw e refl
 
-pub skip_items_next : (f : Parser Passed) (n : ℕ) (old p : Passed) (bytes rest : List ℕ) → f bytes ≡ Ok (p, rest) → skip_items f (suc n) old bytes ≡ skip_items f n (both old p) rest
-unfolding skip_items
-skip_items_next f n old p bytes rest e = rw e refl
-
-pub skip_items_err : (f : Parser Passed) (n : ℕ) (old : Passed) (bytes : List ℕ) (d : Fault) → f bytes ≡ Err d → skip_items f (suc n) old bytes ≡ Err d
-unfolding skip_items
-skip_items_err f n old bytes d e = rw e refl
-
 -- ---- a block from its rows
 
 module _ (n : ℕ) (fields : List AvroField) (projection : List Bool) (bytes : List ℕ) where
-  pub block_few : length bytes < n → block n fields projection bytes ≡ Err Bad
-  unfolding block
-  block_few h = rw (lt-ltb (length bytes) n h) refl
-
   module _ (enough : n ≤ length bytes) where
     pub block_ended : (ys : List Pieces) → rows n fields projection bytes ≡ Ok (ys, []) → block n fields projection bytes ≡ Ok ys
     unfolding block

@@ -65,20 +65,10 @@ index_is (suc n) =
     let a : 7 * suc n ≡ 7 + 7 * n = omega arith in
     ap (λ z. 2 ^ z) a ∙ pow-add 2 7 (7 * n) ∙ ap (λ z. 128 * z) (index_is n) ∙ sym (pow-succ' 128 n)
 
--- how many bytes were passed, as their lengths show it
-pub passed_count : (before now : List ℕ) (value index : ℕ) → Begun before now value index → length before - length now ≡ index
-passed_count before now value index begun =
-    let all : length before ≡ length begun.passed + length now = ap length begun.joined ∙ length-append begun.passed now in
-    let count : length begun.passed ≡ index = begun.count in
-    omega (arith, all, count)
-
 pub begun_nothing : (before : List ℕ) → Begun before before 0 0
 begun_nothing before = record { passed = []; joined = refl; high = tt; count = refl; value_is = refl }
 
 module _ (before now : List ℕ) (value index : ℕ) (begun : Begun before now value index) where
-  pub moved_forward : MovesForward before now
-  moved_forward = (begun.passed, begun.joined)
-
   -- no number that is no longer than what was read stands at the start
   pub no_number : (prefix back : List ℕ) (v : ℤ) → length prefix ≤ index → Number prefix v → before ≡ prefix ++ back → ⊥
   no_number prefix back v l n e =
@@ -103,12 +93,6 @@ module _ (before now : List ℕ) (value index : ℕ) (begun : Begun before now v
 
     counted : length (begun.passed ++ b ∷ []) ≡ index + 1
     counted = length-append begun.passed (b ∷ []) ∙ ap (λ z. z + 1) begun.count
-
-    pub passed_count_more : length before - length after ≡ index + 1
-    passed_count_more =
-        let all : length before ≡ length (begun.passed ++ b ∷ []) + length after = ap length longer ∙ length-append (begun.passed ++ b ∷ []) after in
-        let count : length (begun.passed ++ b ∷ []) ≡ index + 1 = counted in
-        omega (arith, all, count)
 
     -- nothing is shifted out
     shifted : (index ≡ 9 → b ≤ 1) → (b % 128 * 2 ^ (7 * index)) % 2 ^ 64 ≡ b % 128 * 2 ^ (7 * index)

@@ -14,10 +14,6 @@ differs xs ys isnt = go (bytes_eq xs ys) refl
 pub same : (xs : List ℕ) → bytes_eq xs xs ≡ true
 same xs = (bytes_eq-Decides xs xs).1 refl
 
--- another name stands first
-pub misses : {V : Type 0} (name other : List ℕ) (v : V) (more : List (List ℕ × V)) → (name ≡ other → ⊥) → value_of name ((other, v) ∷ more) ≡ value_of name more
-misses name other v more isnt = ap (λ b. cond b (Some v) (value_of name more)) (differs other name isnt)
-
 pub differs-from : (xs ys : List ℕ) → (xs ≡ ys → ⊥) → bytes_eq xs ys ≡ false
 differs-from xs ys isnt = differs xs ys (λ e. isnt (sym e))
 

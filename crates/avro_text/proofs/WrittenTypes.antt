@@ -1,6 +1,5 @@
 -- The texts of the types in which no schema stands are read back.
 use Rattle.std.proofs.Common.{◌≡◌, ℕ, zero, suc, ◌≤◌, ◌&&◌, ◌==◌, Bool, true, false, nat_le, List, [], ◌∷◌, ◌++◌, map, Option, Some, None, codes, decimal, refl, sym, ap, ◌∙◌, subst, append_assoc, arith}
-use Rattle.std.proofs.lemmas.Bool.Decides.{nat_tests}
 use Rattle.std.specs.Str.{bytes_eq}
 use Rattle.arrow_base.specs.WrittenString.{json_string}
 use Rattle.json_tree.specs.Tree.{Json, string, array, object}
@@ -297,9 +296,6 @@ fixed_others : (size : ℕ) (logical : Option FixedLogical) → (value_of (codes
 fixed_others size None = (refl, refl)
 fixed_others size (Some (fixed.Decimal p s)) = (refl, refl)
 fixed_others size (Some fixed.Duration) = (refl, refl)
-
-equal_sizes : (size : ℕ) → (size == 12) ≡ true → size ≡ 12
-equal_sizes size e = grind (arith, nat_tests, e)
 
 module _ (f : Fixed) (fits : numbers_fit (variant.Fixed f) ≡ true) where
   both_fit : (nat_le f.size 2147483647 ≡ true) × (logical_fits f.size f.logical ≡ true)

@@ -6,10 +6,9 @@ use Rattle.std.proofs.lemmas.List.{drop_all}
 use Rattle.std.proofs.lemmas.List.Elements.{All-from_recursion}
 use Rattle.arrow_types.specs.declared.slot.Slot.{Slot}
 use Rattle.avro_schema.specs.declared.schema.AvroField.{AvroField}
-use Rattle.avro_schema.specs.declared.schema.Fixed.{Fixed}
 use Rattle.avro_schema.specs.declared.schema.FixedLogical.{FixedLogical}
 use Rattle.avro_schema.specs.declared.schema.Record.{Record as TheRecord, out-Record}
-use Rattle.avro_schema.specs.declared.schema.Schema.{Schema, Null, Array, Union, Record, Fixed as FixedSchema}
+use Rattle.avro_schema.specs.declared.schema.Schema.{Schema, Null, Array, Union, Record}
 use Rattle.avro_grammar.specs.Parts.{Grammar, Many, BlockOf, Blocks, last, block}
 use Rattle.avro_grammar.specs.Encodes.{Encodes, EncodesFixed}
 use Rattle.avro_grammar.specs.Listed.{EncodesMemberOf, EncodesFieldsOf, EncodesUnionOf}
@@ -17,7 +16,7 @@ use Rattle.avro_grammar.specs.Rows.{Pieces, Row, Rows}
 use Rattle.avro_grammar.specs.ValidBlock.{EnumsFit, KeptEnumsFit, kept}
 use Rattle.avro_grammar.proofs.ByLists.{encodes_array, encodes_union, encodes_record, moved}
 use Rattle.avro_grammar.proofs.TypeLemmas.{enum_composites}
-use Rattle.avro_verbatim.specs.Alike.{AreAlike, MayBeCopied, IsFixedAlike}
+use Rattle.avro_verbatim.specs.Alike.{AreAlike, MayBeCopied}
 
 -- ---- arrays
 
@@ -160,10 +159,3 @@ kept_fit fs gs h = subst (All (λ a. EnumsFit a.schema)) (sym (kept_all fs)) (al
 fixed_parts : (size other : ℕ) (a b : Option FixedLogical) → a ≡ None → b ≡ None → size ≡ other → (bytes : List ℕ) (x : Slot) → EncodesFixed other b bytes x → EncodesFixed size a bytes x
 fixed_parts size other a b e d same bytes x h =
     subst (λ (z : Option FixedLogical). EncodesFixed size z bytes x) (sym e) (subst (λ n. EncodesFixed n None bytes x) (sym same) (subst (λ (z : Option FixedLogical). EncodesFixed other z bytes x) d h))
-
-fixed_alike : (f g : Fixed) → IsFixedAlike f g → MayBeCopied (FixedSchema f) (FixedSchema g)
-fixed_alike f g h = record {
-  encodes = λ bytes x e. fixed_parts f.size g.size f.logical g.logical h.source_logical h.target_logical h.size bytes x e;
-  symbols = λ n. n;
-  some = λ n. n;
-}

@@ -12,8 +12,6 @@ use Rattle.arrow_array.specs.Lists.{list_at}
 use Rattle.arrow_array.specs.Offsets.{between, offset_at, part}
 use Rattle.arrow_array.specs.Slots.{TellsHeld, is_held, slot_at}
 use Rattle.arrow_array.specs.Structs.{HaveSlots}
-use Rattle.avro_schema.specs.declared.schema.FixedLogical.{FixedLogical}
-use Rattle.avro_schema.specs.declared.schema.FixedLogical.TheVariants as fixed_logical
 use Rattle.avro_schema.specs.declared.schema.Schema.{Schema, Union}
 use Rattle.avro_encode.specs.Listed.{slots_across}
 use Rattle.avro_encode.specs.Plain.{parts_of}
@@ -22,7 +20,7 @@ use Rattle.avro_encode.proofs.PlainLaw.{parts_list}
 use Rattle.avro_grammar.specs.Carried.{IsNoUnion}
 use Rattle.avro_write.specs.declared.flaws.Flaw.{Flaw}
 use Rattle.avro_write.specs.declared.flaws.Flaw.TheVariants as flaw
-use Rattle.avro_write.specs.Flaws.{fixed_flaw, null_flaw, shows}
+use Rattle.avro_write.specs.Flaws.{null_flaw, shows}
 use Rattle.avro_write.specs.Shown.{EachSlot, NoValueShows, member_shows_of}
 use Rattle.avro_write.proofs.Flawed.{none_at, of_null, of_union}
 
@@ -39,16 +37,6 @@ pub validity_told : (array : AnArray) (v : _) → TellsValidity array v → ((a 
 validity_told (Null a) v h n d = absurd (n a refl)
 validity_told (Dictionary a) v h n d = absurd (d a refl)
 validity_told _ v h n d = h
-
-pub no_null_fixed : (logical : Option FixedLogical) (x : Slot) → fixed_flaw flaw.Null logical x ≡ false
-no_null_fixed None x = refl
-no_null_fixed (Some fixed_logical.Duration) x = refl
-no_null_fixed (Some (fixed_logical.Decimal precision scale)) x = refl
-
-pub no_interval_fixed : (logical : Option FixedLogical) (x : Slot) → (logical ≡ Some fixed_logical.Duration → ⊥) → fixed_flaw flaw.Interval logical x ≡ false
-no_interval_fixed None x n = refl
-no_interval_fixed (Some fixed_logical.Duration) x n = absurd (n refl)
-no_interval_fixed (Some (fixed_logical.Decimal precision scale)) x n = refl
 
 held_or_not : (b : Bool) → (b ≡ true) ⊎ (b ≡ false)
 held_or_not true = inl refl

@@ -19,9 +19,6 @@ items_more [] n l = absurd (omega (arith, l))
 items_more (x ∷ xs) zero l = refl
 items_more (x ∷ xs) (suc n) l = items_more xs n (omega (arith, l))
 
-pub items_rest : (xs : List (List ℕ)) (n : ℕ) → n < length xs → drop (n + 1) xs ≡ drop 1 (drop n xs)
-items_rest xs n l = ap (λ k. drop k xs) (add-one n) ∙ sym (ap (drop 1) (items_more xs n l))
-
 -- the index of an item lies within the column
 pub item_within : (xs : List (List ℕ)) (n k : ℕ) → k < length (drop n xs) → n + k < length xs
 item_within xs n k l = omega (arith, l, length-drop n xs)

@@ -34,14 +34,6 @@ keeps_same (Some bytes) = refl
 no_more : (bytes taken left : List ℕ) → bytes ≡ taken ++ left → length taken ≤ length bytes
 no_more bytes taken left is = omega (arith, ap length is, length-append taken left)
 
--- more bytes than a source tells are not taken
-within_told : (left left_after : Option (List ℕ)) (bytes : List ℕ) → left ≡ Some bytes → length bytes ≤ byte_limit → PassesLimit left left_after → ⊥
-within_told None left_after bytes told few h = absurd cc
-within_told (Some held) None bytes told few (taken, many, c) = c
-within_told (Some held) (Some rest) bytes told few (taken, many, c) =
-    let same : held ≡ bytes = cc in
-    omega (arith, no_more held taken rest c, ap length same, few, many)
-
 append_none : (xs ys : List ℕ) → ys ≡ [] → xs ++ ys ≡ xs
 append_none xs ys none = ap (λ z. xs ++ z) none ∙ append-nil xs
 

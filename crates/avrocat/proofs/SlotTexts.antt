@@ -1,5 +1,5 @@
 -- The texts of lists and records, over the lists of their slots.
-use Rattle.std.proofs.Common.{◌≡◌, ℕ, zero, suc, ◌+◌, ◌<◌, List, [], ◌∷◌, ◌++◌, length, take, map, codes, slice_index_or, refl, sym, ap, ◌∙◌, append_assoc, add-one, arith}
+use Rattle.std.proofs.Common.{◌≡◌, ℕ, zero, suc, ◌+◌, ◌<◌, List, [], ◌∷◌, ◌++◌, length, take, map, codes, slice_index_or, refl, sym, ap, ◌∙◌, append_assoc, arith}
 use Rattle.std.specs.Prelude.{flat_map, ℤ}
 use Rattle.std.specs.Fmt.{signed_decimal}
 use Rattle.std.proofs.lemmas.List.{append-nil}
@@ -72,12 +72,6 @@ next : (bytes : List ℕ) (i b : ℕ) → i < length bytes → b ≡ slice_index
 next [] i b l e = absurd (omega (arith, l))
 next (x ∷ bytes) zero b l e = let d : b ≡ x = e in rw d (sym (append-nil (hexadecimal x)))
 next (x ∷ bytes) (suc i) b l e = append_assoc (hexadecimal x) (flat_map hexadecimal (take i bytes)) (hexadecimal b) ∙ ap (λ z. hexadecimal x ++ z) (next bytes i b (omega (arith, l)) e)
-
--- what follows a text and the bytes before index i: byte i
-pub binary_more : (text before now bytes : List ℕ) (i b : ℕ) → i < length bytes → b ≡ slice_index_or bytes i b
-    → before ≡ text ++ flat_map hexadecimal (take i bytes) → now ≡ before ++ hexadecimal b → now ≡ text ++ flat_map hexadecimal (take (i + 1) bytes)
-binary_more text before now bytes i b l e h d =
-    d ∙ ap (λ z. z ++ hexadecimal b) h ∙ append_assoc text (flat_map hexadecimal (take i bytes)) (hexadecimal b) ∙ ap (λ z. text ++ z) (rw add-one (next bytes i b l e))
 
 -- three numbers with commas between them, between braces
 pub numbers_done : (old t u v w x y now : List ℕ) (a b c : ℤ) → t ≡ old ++ codes "{" → u ≡ t ++ signed_decimal a → v ≡ u ++ codes "," → w ≡ v ++ signed_decimal b → x ≡ w ++ codes "," → y ≡ x ++ signed_decimal c

@@ -4,16 +4,15 @@ use Rattle.std.proofs.lemmas.List.{take_more, take_all, length-drop}
 use Rattle.std.specs.Prelude.{slice_index_or}
 use Rattle.avro_schema.specs.declared.schema.AvroField.{AvroField}
 use Rattle.field_words.specs.Fields.{IsField}
-use Rattle.field_words.specs.Names.{IsName, IsNumber, IsRows}
+use Rattle.field_words.specs.Names.{IsName, IsRows}
 use Rattle.field_words.proofs.OneMeaning.{one_field}
 use Rattle.command_words.specs.Stands.{Stands, IsUsage}
-use Rattle.command_words.specs.Words.{AreAvroWords, AreFields, AreKeepWords, AreKeptFields, AreMakeWords, AreRewriteWords, IsMarker, IsRest, block_word, command_word, AreRest}
+use Rattle.command_words.specs.Words.{AreAvroWords, AreFields, AreKeptFields, AreRewriteWords, IsMarker, IsRest, block_word, command_word, AreRest}
 use Rattle.command_words.specs.declared.command.AvroWords.{AvroWords}
 use Rattle.command_words.specs.declared.command.BlockWords.{BlockWords}
 use Rattle.command_words.specs.declared.command.Command.{Command}
 use Rattle.command_words.specs.declared.command.Command.TheVariants.{Block, Ndjson, Make, Infer, Avro, Rewrite}
 use Rattle.command_words.specs.declared.command.RewriteWords.{RewriteWords}
-use Rattle.command_words.specs.declared.command.MakeWords.{MakeWords}
 
 abbrev pub words_head : List ℕ → List (List ℕ) → List ℕ
 words_head d [] = d
@@ -125,61 +124,6 @@ no_block words word rest large e is none = unused words word rest e from
     from (Avro avro) same h = block_isnt_avro large (sym (same ∙ is))
     from (Rewrite rewrite) same h = block_isnt_rewrite large (sym (same ∙ is))
 
-pub no_ndjson : (words : List (List ℕ)) (word : List ℕ) (rest : List (List ℕ)) → words ≡ word ∷ rest → word ≡ codes "ndjson" → ((numbers : List ℕ) → AreKeepWords rest numbers → ⊥) → IsUsage words
-no_ndjson words word rest e is none = unused words word rest e from
-  where
-    from : (command : Command) → command_word command ≡ word → AreRest rest command → ⊥
-    from (Block block) same h = block_isnt_ndjson block.large (same ∙ is)
-    from (Ndjson numbers) same h = none numbers h
-    from (Make make) same h = let d : codes "make" ≡ codes "ndjson" = same ∙ is in cc
-    from Infer same h = let d : codes "infer" ≡ codes "ndjson" = same ∙ is in cc
-    from (Avro avro) same h = let d : codes "avro" ≡ codes "ndjson" = same ∙ is in cc
-    from (Rewrite rewrite) same h = let d : codes "rewrite" ≡ codes "ndjson" = same ∙ is in cc
-
-pub no_make : (words : List (List ℕ)) (word : List ℕ) (rest : List (List ℕ)) → words ≡ word ∷ rest → word ≡ codes "make" → ((make : MakeWords) → AreMakeWords rest make → ⊥) → IsUsage words
-no_make words word rest e is none = unused words word rest e from
-  where
-    from : (command : Command) → command_word command ≡ word → AreRest rest command → ⊥
-    from (Block block) same h = block_isnt_make block.large (same ∙ is)
-    from (Ndjson numbers) same h = let d : codes "ndjson" ≡ codes "make" = same ∙ is in cc
-    from (Make make) same h = none make h
-    from Infer same h = let d : codes "infer" ≡ codes "make" = same ∙ is in cc
-    from (Avro avro) same h = let d : 97 ≡ 109 = ap first_byte (same ∙ is) in omega (arith, d)
-    from (Rewrite rewrite) same h = let d : codes "rewrite" ≡ codes "make" = same ∙ is in cc
-
-pub no_infer : (words : List (List ℕ)) (word : List ℕ) (rest : List (List ℕ)) → words ≡ word ∷ rest → word ≡ codes "infer" → (rest ≡ [] → ⊥) → IsUsage words
-no_infer words word rest e is none = unused words word rest e from
-  where
-    from : (command : Command) → command_word command ≡ word → AreRest rest command → ⊥
-    from (Block block) same h = block_isnt_infer block.large (same ∙ is)
-    from (Ndjson numbers) same h = let d : codes "ndjson" ≡ codes "infer" = same ∙ is in cc
-    from (Make make) same h = let d : codes "make" ≡ codes "infer" = same ∙ is in cc
-    from Infer same h = none h
-    from (Avro avro) same h = let d : codes "avro" ≡ codes "infer" = same ∙ is in cc
-    from (Rewrite rewrite) same h = let d : codes "rewrite" ≡ codes "infer" = same ∙ is in cc
-
-pub no_avro : (words : List (List ℕ)) (word : List ℕ) (rest : List (List ℕ)) → words ≡ word ∷ rest → word ≡ codes "avro" → ((avro : AvroWords) → AreAvroWords rest avro → ⊥) → IsUsage words
-no_avro words word rest e is none = unused words word rest e from
-  where
-    from : (command : Command) → command_word command ≡ word → AreRest rest command → ⊥
-    from (Block block) same h = block_isnt_avro block.large (same ∙ is)
-    from (Ndjson numbers) same h = let d : codes "ndjson" ≡ codes "avro" = same ∙ is in cc
-    from (Make make) same h = let d : 109 ≡ 97 = ap first_byte (same ∙ is) in omega (arith, d)
-    from Infer same h = let d : codes "infer" ≡ codes "avro" = same ∙ is in cc
-    from (Avro avro) same h = none avro h
-    from (Rewrite rewrite) same h = let d : codes "rewrite" ≡ codes "avro" = same ∙ is in cc
-
-pub no_rewrite : (words : List (List ℕ)) (word : List ℕ) (rest : List (List ℕ)) → words ≡ word ∷ rest → word ≡ codes "rewrite" → ((rewrite : RewriteWords) → AreRewriteWords rest rewrite → ⊥) → IsUsage words
-no_rewrite words word rest e is none = unused words word rest e from
-  where
-    from : (command : Command) → command_word command ≡ word → AreRest rest command → ⊥
-    from (Block block) same h = block_isnt_rewrite block.large (same ∙ is)
-    from (Ndjson numbers) same h = let d : codes "ndjson" ≡ codes "rewrite" = same ∙ is in cc
-    from (Make make) same h = let d : codes "make" ≡ codes "rewrite" = same ∙ is in cc
-    from Infer same h = let d : codes "infer" ≡ codes "rewrite" = same ∙ is in cc
-    from (Avro avro) same h = let d : codes "avro" ≡ codes "rewrite" = same ∙ is in cc
-    from (Rewrite rewrite) same h = none rewrite h
-
 pub other_word : (words : List (List ℕ)) (word : List ℕ) (rest : List (List ℕ)) → words ≡ word ∷ rest → (word ≡ codes "block" → ⊥) → (word ≡ codes "block-large" → ⊥) → (word ≡ codes "ndjson" → ⊥) → (word ≡ codes "make" → ⊥) → (word ≡ codes "infer" → ⊥) → (word ≡ codes "avro" → ⊥) → (word ≡ codes "rewrite" → ⊥) → IsUsage words
 other_word words word rest e isnt_block isnt_large isnt_ndjson isnt_make isnt_infer isnt_avro isnt_rewrite = unused words word rest e from
   where
@@ -201,15 +145,6 @@ no_words (w ∷ ws) low command h = absurd (omega (arith, low))
 
 -- ---- the words of `make`
 
--- they are two, each a number
-pub no_make_words : (words : List (List ℕ)) (start rows : List ℕ) → words ≡ start ∷ rows ∷ []
-    → ((n : ℕ) → IsNumber 20 2147483647 start n → ⊥) ⊎ ((n : ℕ) → IsNumber 20 1000000 rows n → ⊥) → (make : MakeWords) → AreMakeWords words make → ⊥
-no_make_words words start rows e (inl none) make h = none make.start (subst (λ z. IsNumber 20 2147483647 z make.start) (ap (words_head start) (sym h.are ∙ e)) h.start)
-no_make_words words start rows e (inr none) make h = none make.rows (subst (λ z. IsNumber 20 1000000 z make.rows) (ap (λ z. words_head rows (drop 1 z)) (sym h.are ∙ e)) h.rows)
-
-pub no_two_words : (words : List (List ℕ)) → (length words ≡ 2 → ⊥) → (make : MakeWords) → AreMakeWords words make → ⊥
-no_two_words words other make h = other (ap length h.are)
-
 -- ---- the words of `rewrite`
 
 -- they are a name and a marker
@@ -218,9 +153,6 @@ pub no_rewrite_words : (words : List (List ℕ)) (name digits : List ℕ) → wo
 no_rewrite_words words name digits e (inl none) rewrite h = none (subst IsName (ap (words_head name) (sym h.are ∙ e)) h.name)
 no_rewrite_words words name digits e (inr none) rewrite h = none rewrite.marker (subst (λ z. IsMarker z rewrite.marker) (ap (λ z. words_head digits (drop 1 z)) (sym h.are ∙ e)) h.marker)
 
-pub no_two_rewrite_words : (words : List (List ℕ)) → (length words ≡ 2 → ⊥) → (rewrite : RewriteWords) → AreRewriteWords words rewrite → ⊥
-no_two_rewrite_words words other rewrite h = other (ap length h.are)
-
 -- ---- words that are two
 
 pub two_words : (words : List (List ℕ)) (a b : List ℕ) → 2 ≤ length words → length words < 3 → a ≡ slice_index_or words 0 a → b ≡ slice_index_or words 1 b → words ≡ a ∷ b ∷ []
@@ -228,15 +160,6 @@ two_words [] a b low high p q = absurd (omega (arith, low))
 two_words (x ∷ []) a b low high p q = absurd (omega (arith, low))
 two_words (x ∷ y ∷ []) a b low high p q = λ i. sym p i ∷ sym q i ∷ []
 two_words (x ∷ y ∷ z ∷ zs) a b low high p q = absurd (omega (arith, high))
-
-pub are_rewrite_words : (words : List (List ℕ)) (name digits marker : List ℕ) (rewrite : RewriteWords) → words ≡ name ∷ digits ∷ [] → IsName name → IsMarker digits marker → rewrite.name ≡ name → rewrite.marker ≡ marker
-    → AreRewriteWords words rewrite
-are_rewrite_words words name digits marker rewrite is named marked same bytes = record {
-  digits = digits;
-  are = is ∙ ap (λ z. z ∷ digits ∷ []) (sym same);
-  name = subst IsName (sym same) named;
-  marker = subst (IsMarker digits) (sym bytes) marked;
-}
 
 -- ---- the words of `avro`
 
@@ -255,9 +178,6 @@ no_avro_words words name rows digits fields e (inr (inr (inl none))) avro h =
     none avro.marker (subst (λ z. IsMarker z avro.marker) (ap (λ z. words_head digits (drop 2 z)) (sym h.are ∙ e)) h.marker)
 no_avro_words words name rows digits fields e (inr (inr (inr none))) avro h =
     none avro.avro_fields (subst (λ z. AreKeptFields z avro.avro_fields) (ap (drop 3) (sym h.are ∙ e)) h.fields)
-
-pub few_avro_words : (words : List (List ℕ)) → length words < 3 → (avro : AvroWords) → AreAvroWords words avro → ⊥
-few_avro_words words few avro h = let long = ap length h.are in omega (arith, few, long)
 
 pub three_words : (words : List (List ℕ)) (a b d : List ℕ) → 3 ≤ length words → a ≡ slice_index_or words 0 a → b ≡ slice_index_or words 1 b → d ≡ slice_index_or words 2 d
     → words ≡ a ∷ b ∷ d ∷ take (length words - 3) (drop 3 words)

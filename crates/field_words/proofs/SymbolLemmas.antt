@@ -51,10 +51,6 @@ pub no_last_symbol : (inside rest : List ℕ) → Lacks 44 rest
     → (all : List (List ℕ)) → AreSymbols inside all → ⊥
 no_last_symbol inside rest lacks complete none all h = let one = complete all h in none (last_symbol rest one.0 lacks one.1)
 
-pub all_symbols : (inside rest symbol : List ℕ) (so_far : List (List ℕ)) → IsName rest → symbol ≡ rest
-    → ((more : List (List ℕ)) → AreSymbols rest more → AreSymbols inside (so_far ++ more)) → AreSymbols inside (so_far ++ (symbol ∷ []))
-all_symbols inside rest symbol so_far name is sound = sound (symbol ∷ []) (subst IsName (sym is) name, sym is)
-
 -- ---- what follows a comma or a semicolon is text
 
 at_byte : (c : ℕ) (xs ys : List ℕ) → get_or (xs ++ (c ∷ ys)) (length xs) 0 ≡ c

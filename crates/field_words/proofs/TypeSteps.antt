@@ -68,10 +68,6 @@ pub type_is : (depth : ℕ) (word : List ℕ) (s : Schema) → IsType depth word
 type_is zero word s h = absurd h
 type_is (suc depth) word s h = let e : depth ≡ suc depth - 1 = omega arith in subst (λ n. Marked n word s) e h
 
-pub no_depth : (depth : ℕ) (word : List ℕ) (s : Schema) → depth ≡ 0 → IsType depth word s → ⊥
-no_depth zero word s e h = h
-no_depth (suc depth) word s e h = omega (arith, e)
-
 -- ---- names of fields
 
 pub no_mark_no_field : (Inner : List ℕ → Schema → Type 0) (word : List ℕ) → Lacks 61 word → (field : AvroField) → IsNamed Inner word field → ⊥

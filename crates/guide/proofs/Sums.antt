@@ -1,6 +1,6 @@
 -- Sums of a file's columns, block after block.
 use Rattle.std.proofs.Common.{◌≡◌, ◌∙◌, ℕ, suc, ◌-◌, ◌^◌, ◌<◌, ◌≤◌, inl, inr, ◌⊎◌, ℤ, pos, ◌+ℤ◌, take, get_or, SomeIff, ok_or, FitsSigned, take-suc, List, [], ◌∷◌, ◌++◌, map, length, Option, Some, None, Result, Ok, Err, IfOk, refl, sym, ap, subst, rules}
-use Rattle.std.specs.Prelude.{fold, Bool, IfSome, IfErr, IsOk}
+use Rattle.std.specs.Prelude.{Bool, IfSome, IfErr, IsOk}
 use Rattle.std.specs.Int.{w128}
 use Rattle.arrow_core.specs.declared.error.Error.{Error}
 use Rattle.arrow_core.specs.declared.error.Error.TheVariants.{InvalidArgumentError, Overflow, OutOfMemory}
@@ -11,22 +11,19 @@ use Rattle.std.proofs.lemmas.List.{append-nil}
 use Rattle.std.proofs.lemmas.List.Sums.{fold-append}
 use Rattle.std.specs.Io.KnownBytes.{Consumes, IsAtEnd}
 use Rattle.arrow_array.specs.declared.array.Array.{Array}
-use Rattle.arrow_array.specs.declared.array.Array.TheVariants.{Int64}
 use Rattle.arrow_array.specs.Arrays.{array_slots}
 use Rattle.arrow_types.specs.declared.slot.Slot.{Slot}
 use Rattle.arrow_types.specs.declared.types.Field.{Field}
 use Rattle.avro_schema.specs.declared.schema.Record.{Record, out-Record}
 use Rattle.avro_schema.specs.declared.schema.Schema as schema
-use Rattle.avro_container.specs.BlockReader.{AtEnd}
 use Rattle.avro_container.specs.File.{IsFileBlock, none}
 use Rattle.avro_container.specs.ReadHeader.{Change}
-use Rattle.avro_container.specs.Taking.{State, state, Takes}
-use Rattle.avro_container.proofs.BlockParts.{fewer}
+use Rattle.avro_container.specs.Taking.{State, state}
 use Rattle.avro_container.proofs.Sequences.{one_more}
 use Rattle.avro_container.proofs.Taken.{takes_nothing, takes_more}
 use Rattle.avro_decode.specs.Columns.{AreColumns}
 use Rattle.avro_decode.specs.Decoder.{Projected, projected}
-use Rattle.avro_file.specs.Metadata.{ReadsMetadata, MetadataFails}
+use Rattle.avro_file.specs.Metadata.{ReadsMetadata}
 use Rattle.avro_file.specs.declared.metadata.Compression.{Compression}
 use Rattle.avro_grammar.specs.Inferred.{inferred_columns, HasMapOrUnion}
 use Rattle.avro_infer.specs.Inference.{SchemaRefused}
@@ -62,23 +59,6 @@ sums_more p marker a b c n total chunk s r x = record {
   are_columns = zip_push (λ block column. AreColumns block.rows p.avro_fields p.projection block.bytes (column ∷ [])) s.blocks s.columns r.block x.column s.are_columns (subst (AreColumns r.block.rows p.avro_fields p.projection r.block.bytes) x.one r.columns);
   is_sum = x.adds ∙ ap (λ (m : ℤ). added m x.column) s.is_sum ∙ sym (fold-append added (pos 0) s.columns (x.column ∷ []));
 }
-
-pub sums_all : (p : Projected) (marker : List ℕ) (a b c : State) (n : ℤ) → SumsSoFar p marker a b n → AtEnd b c → SumsBlocks p marker a c n
-sums_all p marker a b c n s e = record {
-  sums = record {
-    bytes = s.bytes;
-    taken = subst (Takes a c) (append-nil s.bytes) (takes_more a b c s.bytes [] s.taken e.0);
-    blocks = s.blocks;
-    sequence = s.sequence;
-    columns = s.columns;
-    are_columns = s.are_columns;
-    is_sum = s.is_sum;
-  };
-  ended = e.1;
-}
-
-pub chunk_fewer : (p : Projected) (marker : List ℕ) (b c : State) (chunk : List Array) → ReadsChunk p marker b c chunk → c.limit < b.limit
-chunk_fewer p marker b c chunk r = fewer b c r.block marker r.passed
 
 all_taken : (bytes taken : List ℕ) (left : Option (List ℕ)) → Consumes (Some bytes) left taken → IsAtEnd left → bytes ≡ taken
 all_taken bytes taken None h e = absurd h
@@ -130,11 +110,6 @@ if_sum field (Ok n) c root marker k count fields p projection old new reads is o
 
 -- ---- why there is no sum
 
-pub passes_column : (n : ℤ) (chunk : List Array) (column : List Slot) (result : Result ℤ Error) → map array_slots chunk ≡ column ∷ []
-    → IfErr result (λ e. (e ≡ Overflow) × PassesBits n column) → IfErr result (ColumnFails n chunk)
-passes_column n chunk column (Ok total) is h = tt
-passes_column n chunk column (Err e) is h = subst (ColumnFails n chunk) (sym h.0) (column, is, h.1)
-
 -- the integer of slot i takes the sum past 128 bits
 pub passes_at : (n : ℤ) (slots : List Slot) (i : ℕ) (d : Slot) (sum long : ℤ) → i < length slots → sum ≡ added n (take i slots) → long ≡ long_of (get_or slots i d)
     → (FitsSigned w128 (sum +ℤ long) → ⊥) → PassesBits n slots
@@ -183,9 +158,6 @@ no_reader field root fields compression projection e inferred plain one refused 
     inr (inr (fields, inferred, subst (λ (z : List Bool). ReaderRefused None (projected fields (out-Record root).fields z) e) one at_none))
 
 module _ (field : ℕ) (h : Change) (within : h.limit ≡ 2 ^ 40) where
-  pub no_header : (e : Error) → MetadataFails h e → SumFails field h.left h.faults e
-  no_header e fails = record { header = h; from_left = refl; from_faults = refl; within = within; why = inl fails }
-
   module _ (root : Record) (marker : List ℕ) (count : ℕ) (reads : ReadsMetadata h root marker count) where
     pub no_field : (e : Error) → FieldFails field root e → SumFails field h.left h.faults e
     no_field e fails =

@@ -98,9 +98,6 @@ any_last test (x ∷ names) name = ap (λ z. test x || z) (any_last test names n
     or_or true b c = refl
     or_or false b c = refl
 
-pub no_names : AreNames [] []
-no_names key = refl
-
 -- one more field, whose name is looked for among those before
 module _ (fs : List Field) (i : ℕ) (f : Field) (names : List (List ℕ)) (lt : i < length fs) (at : f ≡ get_or fs i f) (h : AreNames (take i fs) names) where
   named_more : (key : List ℕ) → is_named key (take (i + 1) fs) ≡ (is_named key (take i fs) || bytes_eq f.name key)

@@ -1,8 +1,8 @@
 -- What is gathered of several values, value by value.
-use Rattle.std.proofs.Common.{◌≡◌, ◌⊎◌, inl, inr, ℕ, zero, suc, ◌+◌, ◌-◌, ◌<◌, ◌≤◌, List, [], ◌∷◌, ◌++◌, length, get_or, take, map, refl, sym, ap, ◌∙◌, arith, append_assoc, Option, Some, Result, Ok, Err, IfErr, OnOk}
+use Rattle.std.proofs.Common.{◌≡◌, ◌⊎◌, inl, inr, ℕ, zero, suc, ◌+◌, ◌-◌, ◌<◌, ◌≤◌, List, [], ◌∷◌, ◌++◌, length, get_or, take, map, refl, sym, ap, ◌∙◌, arith, append_assoc, Option, Result, Ok, Err, IfErr}
 use Rattle.std.specs.Prelude.{◌↔◌}
 use Rattle.std.specs.Borrow.{Bor}
-use Rattle.std.proofs.lemmas.List.{map-append, map_more, take_more, length-append, length-map, append-nil}
+use Rattle.std.proofs.lemmas.List.{map-append, map_more, length-append, length-map, append-nil}
 use Rattle.arrow_core.specs.declared.error.Error.{Error}
 use Rattle.arrow_core.specs.declared.error.Error.TheVariants.{OutOfMemory, Overflow}
 use Rattle.arrow_flat.specs.Nested.{items_of, list_len}
@@ -14,7 +14,7 @@ use Rattle.json_flat.specs.Meaning.{Layer}
 use Rattle.json_flat.specs.Columns.{lent}
 use Rattle.json_columns.specs.Faults.{IsCountFault}
 use Rattle.json_columns.specs.Gathered.{all_items, items_in, len_in, list_lens}
-use Rattle.json_columns.proofs.Layers.{array_items, array_len}
+use Rattle.json_columns.proofs.Layers.{array_items}
 
 -- the values lent so far, and one more
 pub lent_more : (vs : List (Bor Json)) (i : ℕ) (v : Bor Json) → i < length vs → v ≡ get_or vs i v → lent (take (i + 1) vs) ≡ lent (take i vs) ++ v.now ∷ []
@@ -75,13 +75,6 @@ gathered_length : (array : List Json) (old new : List (Bor Json)) → lent new �
 gathered_length array old new e =
     omega (arith, ap length e, length-append (lent old) array, length-map old (λ b. b.now), length-map new (λ b. b.now))
 
-pub pushed_len : (v : Json) (array : List Json) (old new : List (Bor Json)) (n end : ℕ) → v ≡ variant.Array array → lent new ≡ lent old ++ array → n ≡ length old → end ≡ length new → Some (end - n) ≡ len_in (out-Value v)
-pushed_len v array old new n end e l o t = array_len v array n end e (omega (arith, gathered_length array old new l, o, t))
-
-pub pushed_lens : {A : Type 0} (r : Result A Error) (a b : List (Option ℕ)) (x y : Option ℕ) → x ≡ y → OnOk r (a ≡ b ++ x ∷ []) → OnOk r (a ≡ b ++ y ∷ [])
-pushed_lens (Ok z) a b x y e h = h ∙ ap (λ (o : Option ℕ). b ++ o ∷ []) e
-pushed_lens (Err z) a b x y e h = tt
-
 pub count_err : {A : Type 0} (r : Result A Error) (greatest n end m : ℕ) → IfErr r (λ e. (e ≡ Overflow) ⊎ (e ≡ OutOfMemory)) → ((r ≡ Err Overflow) ↔ ((end < n) ⊎ (greatest < end))) → n ≤ end → end ≡ m
     → IfErr r (IsCountFault greatest m)
 count_err (Ok x) greatest n end m h b le em = tt
@@ -99,17 +92,6 @@ list_err r v array old new greatest n end e l o t h b =
     count_err r greatest n end _ h b (omega (arith, k, o, t)) (omega (arith, k, t, ap length (array_items v array e)))
 
 -- ---- one value more
-
-pub lend_more : (start old new : List (Bor Json)) (more : List Json) (i : ℕ) (b : Bor Json) → i < length more → b.now ≡ get_or more i b.now → new ≡ old ++ b ∷ [] → lent old ≡ lent start ++ take i more
-    → lent new ≡ lent start ++ take (i + 1) more
-lend_more start old new more i b lt is e h =
-    ap lent e ∙ map-append (λ (r : Bor Json). r.now) old (b ∷ []) ∙ ap (λ (l : List Json). l ++ b.now ∷ []) h ∙ append_assoc (lent start) (take i more) (b.now ∷ [])
-    ∙ ap (λ (l : List Json). lent start ++ l) (ap (λ (v : Json). take i more ++ v ∷ []) is ∙ sym (take_more more i b.now lt))
-
-pub member_more : (f : Json → Json) (vs old new : List (Bor Json)) (i : ℕ) (v b : Bor Json) → i < length vs → v ≡ get_or vs i v → b.now ≡ f v.now → new ≡ old ++ b ∷ [] → lent old ≡ map f (lent (take i vs))
-    → lent new ≡ map f (lent (take (i + 1) vs))
-member_more f vs old new i v b lt is m e h =
-    ap lent e ∙ map-append (λ (r : Bor Json). r.now) old (b ∷ []) ∙ (λ j. h j ++ m j ∷ []) ∙ sym (made_more f vs i v lt is)
 
 -- ---- the lists of the values so far
 

@@ -1,5 +1,5 @@
 -- What a value is, by the code's match on it.
-use Rattle.std.proofs.Common.{◌≡◌, ℕ, true, false, List, [], Some, None, length, refl, sym, ap, ◌∙◌, ◌-◌, ◌+◌, arith}
+use Rattle.std.proofs.Common.{◌≡◌, ℕ, true, List, [], Some, length, refl, sym, ap, ◌∙◌, ◌-◌, ◌+◌, arith}
 use Rattle.json_tree.specs.Keys.{value_of}
 use Rattle.json_tree.specs.Tree.{Json, null}
 use Rattle.json_tree.specs.declared.value.Value.{out-Value, roll-Value, roll-out-Value}
@@ -43,15 +43,6 @@ module _ {X : Type 0} (f : Layer → X) (x : X) (null_is : f layer.Null ≡ x) (
       go (layer.Array items) e = array_is items
       go (layer.Object o) e = absurd (other o (made v (layer.Object o) e ∙ variant.rolls-Object o))
 
-pub no_array_len : (v : Json) → ((items : List Json) → v ≡ variant.Array items → ⊥) → len_in (out-Value v) ≡ None
-no_array_len = no_array len_in None refl (λ b. refl) (λ n. refl) (λ t. refl) (λ o. refl)
-
-pub no_array_items : (v : Json) → ((items : List Json) → v ≡ variant.Array items → ⊥) → items_in (out-Value v) ≡ []
-no_array_items = no_array items_in [] refl (λ b. refl) (λ n. refl) (λ t. refl) (λ o. refl)
-
-pub no_object_is : (v : Json) → ((o : Object) → v ≡ variant.Object o → ⊥) → is_object (out-Value v) ≡ false
-no_object_is = no_object is_object false refl (λ b. refl) (λ n. refl) (λ t. refl) (λ items. refl)
-
 pub no_object_member : (name : List ℕ) (v : Json) → ((o : Object) → v ≡ variant.Object o → ⊥) → member_in name (out-Value v) ≡ null
 no_object_member name = no_object (member_in name) null refl (λ b. refl) (λ n. refl) (λ t. refl) (λ items. refl)
 
@@ -66,12 +57,6 @@ object_is v o e = ap is_object (object_layer v o e)
 
 pub object_member : (name : List ℕ) (v : Json) (o : Object) → v ≡ variant.Object o → member_in name (out-Value v) ≡ or_null (value_of name o.members)
 object_member name v o e = ap (member_in name) (object_layer v o e)
-
-pub found_member : (name : List ℕ) (v : Json) (o : Object) (m : Json) → v ≡ variant.Object o → value_of name o.members ≡ Some m → m ≡ member_in name (out-Value v)
-found_member name v o m e f = sym (object_member name v o e ∙ ap or_null f)
-
-pub missing_member : (name : List ℕ) (v : Json) (o : Object) (m : Json) → m ≡ null → v ≡ variant.Object o → value_of name o.members ≡ None → m ≡ member_in name (out-Value v)
-missing_member name v o m n e f = n ∙ sym (object_member name v o e ∙ ap or_null f)
 
 pub no_members : (name : List ℕ) (v m : Json) → m ≡ null → ((o : Object) → v ≡ variant.Object o → ⊥) → m ≡ member_in name (out-Value v)
 no_members name v m n other = n ∙ sym (no_object_member name v other)

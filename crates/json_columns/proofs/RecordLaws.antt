@@ -1,5 +1,5 @@
 -- Rows, their columns, and what is refused.
-use Rattle.std.proofs.Common.{◌≡◌, inl, inr, ℕ, zero, suc, ◌<◌, Bool, true, false, ◌&&◌, not, cond, List, [], ◌∷◌, length, slice_index_or, Some, None, refl, sym, ap, ◌∙◌, subst, arith, Result, Ok, Err, IfOk, IfErr, OnOk}
+use Rattle.std.proofs.Common.{◌≡◌, inl, inr, ℕ, zero, suc, ◌<◌, Bool, true, false, ◌&&◌, not, List, [], ◌∷◌, length, slice_index_or, None, refl, sym, ap, ◌∙◌, subst, arith, Result, Ok, Err, IfOk, IfErr, OnOk}
 use Rattle.std.proofs.lemmas.List.{length-map}
 use Rattle.arrow_array.specs.Arrays.{array_slots}
 use Rattle.arrow_array.specs.Chunks.{AreSameLength}
@@ -13,15 +13,13 @@ use Rattle.arrow_types.specs.declared.types.Field.{Field}
 use Rattle.json_tree.specs.Tree.{Json}
 use Rattle.json_tree.specs.declared.value.Value.{out-Value}
 use Rattle.json_tree.specs.declared.value.Value.TheVariants as variant
-use Rattle.json_tree.specs.declared.value.Object.{Object}
 use Rattle.json_flat.specs.Meaning.{text_timestamp, slot_of}
 use Rattle.json_flat.specs.Columns.{Has, means}
 use Rattle.json_columns.specs.Faults.{AreMemberColumns, IsFieldsFault, IsStructFault, TooManyFields}
 use Rattle.json_columns.specs.Gathered.{all_have_reading, field_meanings, members_named, member_in}
 use Rattle.json_flat.specs.Reading.{has_reading, reading, struct_in}
-use Rattle.json_columns.specs.Records.{are_known, are_of_record, are_there, AreRecordFields, first_fault, holds_more, is_of_record, IsRecordsRefusal, IsRowsRefusal, IsTableOf, row_fault}
+use Rattle.json_columns.specs.Records.{are_of_record, AreRecordFields, first_fault, holds_more, is_of_record, IsRecordsRefusal, IsRowsRefusal, IsTableOf}
 use Rattle.json_columns.proofs.FieldColumns.{members_fault}
-use Rattle.json_columns.proofs.Layers.{no_object, object_layer}
 use Rattle.json_columns.proofs.Refusing.{some_unfit}
 
 -- ---- types
@@ -46,13 +44,6 @@ read_fields (f ∷ fs) e =
     (λ i. h.0 i && all_have_reading fs) ∙ read_fields fs p.1
 
 -- ---- rows
-
-pub object_fault : (fs : List Field) (v : Json) (o : Object) → v ≡ variant.Object o
-    → row_fault fs (out-Value v) ≡ cond (are_known fs o.members) (cond (are_there fs o.members) None (Some reason.MissingKey)) (Some reason.UnknownKey)
-object_fault fs v o e = ap (row_fault fs) (object_layer v o e)
-
-pub no_object_fault : (fs : List Field) (v : Json) → ((o : Object) → v ≡ variant.Object o → ⊥) → row_fault fs (out-Value v) ≡ Some reason.NotAnObject
-no_object_fault fs = no_object (row_fault fs) (Some reason.NotAnObject) refl (λ b. refl) (λ n. refl) (λ t. refl) (λ items. refl)
 
 -- ---- columns
 

@@ -61,12 +61,3 @@ module _ (items : List Json) (t : DataType) (f : Field) (r : Result Array Error)
 
 pub same_column : (json : Json) (items : List Json) (t : DataType) (r : Result Array Error) → json ≡ variant.Array items → IfOk r (λ a. IsColumnOf (array items) t (array_type a) (array_slots a)) → IfOk r (λ a. IsColumnOf json t (array_type a) (array_slots a))
 same_column json items t r e h = subst (λ z. IfOk r (λ a. IsColumnOf z t (array_type a) (array_slots a))) (sym e) h
-
-pub same_refusal : (json : Json) (items : List Json) (t : DataType) (r : Result Array Error) → json ≡ variant.Array items → IfErr r (IsListRefusal (array items) t) → IfErr r (IsListRefusal json t)
-same_refusal json items t r e h = subst (λ z. IfErr r (IsListRefusal z t)) (sym e) h
-
-pub not_listed : (json : Json) (t : DataType) → ((items : List Json) → json ≡ variant.Array items → ⊥) → IsListRefusal json t (NotYetImplemented reason.NotAnArray)
-not_listed json t n = inl (refl, λ items item h. n items h.0)
-
-pub no_list_type : (items : List Json) (t : DataType) → ((f : Field) → t ≡ types.List f → ⊥) → ((f : Field) → t ≡ types.LargeList f → ⊥) → IsListRefusal (array items) t (NotYetImplemented reason.NotAnArray)
-no_list_type items t n m = inl (refl, λ others item h. elim h.1 [ inl a ↦ n item a | inr b ↦ m item b ])

@@ -17,7 +17,7 @@ use Rattle.json_flat.specs.Columns.{means}
 use Rattle.json_columns.specs.Gathered.{HasNoFields, field_meanings}
 use Rattle.json_flat.specs.Reading.{Together, all_slots, some_text, some_unfit, beside, together, made_of, list_in, sized_list_in, struct_in, reading, or_null}
 use Rattle.json_columns.specs.Texts.{IsNoTimestamp, is_text, item_is_text, member_is_text}
-use Rattle.json_columns.proofs.Layers.{array_layer, object_layer, no_array, no_object}
+use Rattle.json_columns.proofs.Layers.{array_layer, object_layer}
 use Rattle.json_columns.proofs.Nulls.{null_means}
 
 -- ---- one value
@@ -98,9 +98,6 @@ flat_text (Extension' name shape inner metadata) h k l = refl
 pub no_text : (t : DataType) (v : Json) → HasNoFields t → IsNoTimestamp t → false ≡ is_text (means (reading t) v)
 no_text t v h k = sym (flat_text t h k (out-Value v))
 
-pub string_is_text : (v : Json) (text : List ℕ) → v ≡ variant.String text → true ≡ is_text (means moment_in v)
-string_is_text v text e = sym (ap (λ (w : Json). is_text (means moment_in w)) e ∙ ap (λ (l : Layer). is_text (moment_in l)) (variant.outs-String text))
-
 pub no_string : (v : Json) → ((text : List ℕ) → v ≡ variant.String text → ⊥) → false ≡ is_text (means moment_in v)
 no_string v other = go (out-Value v) refl
   where
@@ -141,9 +138,6 @@ pub list_text : (r : Layer → Meaning) (v : Json) (items : List Json) → v ≡
 list_text r v items e =
     sym (ap (λ (l : Layer). is_text (list_in (means r) l)) (array_layer v items e) ∙ made_text _ (together (map (means r) items)) ∙ together_text (means r) items)
 
-pub no_list_text : (r : Layer → Meaning) (v : Json) → ((items : List Json) → v ≡ variant.Array items → ⊥) → false ≡ is_text (means (list_in (means r)) v)
-no_list_text r v other = sym (no_array (λ l. is_text (list_in (means r) l)) false refl (λ b. refl) (λ n. refl) (λ t. refl) (λ o. refl) v other)
-
 -- where there are so many items
 by_size : (r : Layer → Meaning) (b : Bool) (items : List Json) → is_text (cond b (made_of slot.List (together (map (means r) items))) (slot_of slot.Null)) ≡ (b && item_is_text r items)
 by_size r true items = made_text slot.List (together (map (means r) items)) ∙ together_text (means r) items
@@ -152,19 +146,10 @@ by_size r false items = refl
 pub sized_text : (r : Layer → Meaning) (size : ℕ) (v : Json) (items : List Json) → v ≡ variant.Array items → (eqb (length items) size && item_is_text r items) ≡ is_text (means (sized_list_in size (means r)) v)
 sized_text r size v items e = sym (ap (λ (l : Layer). is_text (sized_list_in size (means r) l)) (array_layer v items e) ∙ by_size r (eqb (length items) size) items)
 
-pub no_sized_text : (r : Layer → Meaning) (size : ℕ) (v : Json) → ((items : List Json) → v ≡ variant.Array items → ⊥) → false ≡ is_text (means (sized_list_in size (means r)) v)
-no_sized_text r size v other = sym (no_array (λ l. is_text (sized_list_in size (means r) l)) false refl (λ b. refl) (λ n. refl) (λ t. refl) (λ o. refl) v other)
-
 pub struct_text : (fs : List Field) (v : Json) (o : Object) → v ≡ variant.Object o → member_is_text fs o.members ≡ is_text (means (struct_in (field_meanings fs)) v)
 struct_text fs v o e =
     sym (ap (λ (l : Layer). is_text (struct_in (field_meanings fs) l)) (object_layer v o e) ∙ made_text _ (together (field_meanings fs o.members))
     ∙ together_text (λ (f : Field). means (reading f.data_type) (or_null (value_of f.name o.members))) fs)
-
-pub no_struct_text : (fs : List Field) (v : Json) → ((o : Object) → v ≡ variant.Object o → ⊥) → false ≡ is_text (means (struct_in (field_meanings fs)) v)
-no_struct_text fs v other = sym (no_object (λ l. is_text (struct_in (field_meanings fs) l)) false refl (λ b. refl) (λ n. refl) (λ t. refl) (λ items. refl) v other)
-
-pub found_text : (t : DataType) (m : Option Json) (v : Json) (b : Bool) → b ≡ is_text (means (reading t) v) → m ≡ Some v → b ≡ is_text (means (reading t) (or_null m))
-found_text t m v b e f = e ∙ ap (λ (o : Option Json). is_text (means (reading t) (or_null o))) (sym f)
 
 pub missing_text : (t : DataType) (m : Option Json) → m ≡ None → false ≡ is_text (means (reading t) (or_null m))
 missing_text t m e = sym (ap (λ (o : Option Json). is_text (means (reading t) (or_null o))) e ∙ ap is_text (null_means t))
@@ -175,8 +160,3 @@ pub text_means : (m : Meaning) → is_text m ≡ true → m ≡ text_timestamp
 text_means (slot_of s) e = absurd cc
 text_means text_timestamp e = refl
 text_means unfit e = absurd cc
-
-pub means_text : (m : Meaning) → is_text m ≡ false → m ≡ text_timestamp → ⊥
-means_text (slot_of s) e h = absurd cc
-means_text text_timestamp e h = absurd cc
-means_text unfit e h = absurd cc

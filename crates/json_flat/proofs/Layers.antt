@@ -6,7 +6,7 @@ use Rattle.json_tree.specs.declared.value.Value.{out-Value, roll-Value, roll-out
 use Rattle.json_tree.specs.declared.value.Value.TheOpen as layer
 use Rattle.json_tree.specs.declared.value.Value.TheVariants as variant
 use Rattle.json_tree.specs.declared.value.Number.{Number}
-use Rattle.json_flat.specs.Meaning.{Meaning, Layer, slot_of, boolean_in, whole_in}
+use Rattle.json_flat.specs.Meaning.{Meaning, Layer, slot_of, boolean_in}
 use Rattle.json_flat.specs.Columns.{means}
 
 made : (value : Json) (l : Layer) → out-Value value ≡ l → value ≡ roll-Value l
@@ -20,17 +20,6 @@ at-bool f value b e = rw e (ap f (variant.outs-Bool b))
 
 pub at-string : (f : Layer → Meaning) (value : Json) (text : List ℕ) → value ≡ variant.String text → means f value ≡ f (layer.String text)
 at-string f value text e = rw e (ap f (variant.outs-String text))
-
-pub no-integer : (low high : ℤ) (value : Json) → ((n : Number) → value ≡ variant.Number n → ⊥) → ((b : Bool) → value ≡ variant.Bool b → ⊥) → means (whole_in low high) value ≡ slot_of slot.Null
-no-integer low high value no_number no_bool = go (out-Value value) refl
-  where
-    go : (l : Layer) → out-Value value ≡ l → whole_in low high l ≡ slot_of slot.Null
-    go layer.Null e = refl
-    go (layer.Bool b) e = absurd (no_bool b (made value (layer.Bool b) e ∙ variant.rolls-Bool b))
-    go (layer.Number n) e = absurd (no_number n (made value (layer.Number n) e ∙ variant.rolls-Number n))
-    go (layer.String text) e = refl
-    go (layer.Array items) e = refl
-    go (layer.Object o) e = refl
 
 pub no-boolean : (value : Json) → ((b : Bool) → value ≡ variant.Bool b → ⊥) → means boolean_in value ≡ slot_of slot.Null
 no-boolean value no_bool = go (out-Value value) refl

@@ -1,6 +1,6 @@
 -- A mantissa at its point.
 use Rattle.std.proofs.Common.{◌≡◌, ℕ, suc, ◌+◌, ◌<◌, ◌≤◌, Bool, true, false, cond, List, [], ◌∷◌, length, take, drop, refl, sym, ap, ◌∙◌, subst, arith}
-use Rattle.std.proofs.lemmas.Bool.{true≢false, and_left, and_right, and_from}
+use Rattle.std.proofs.lemmas.Bool.{true≢false, and_from}
 use Rattle.std.proofs.lemmas.Bool.Decides.{nat_tests}
 use Rattle.std.proofs.lemmas.Grind.{common_steps}
 use Rattle.std.specs.List.{position_or_len, before_first, after_first}
@@ -49,13 +49,6 @@ either false d e f = sym e
 without : (p d : Bool) → p ≡ false → (not p || d) ≡ true
 without true d e = absurd (true≢false e)
 without false d e = refl
-
-pub no-int : (bytes u i : List ℕ) → u ≡ without_minus bytes → i ≡ before_first is_point u → is_int i ≡ false → is_mantissa bytes ≡ false
-no-int bytes u i eu ei h = and_left _ _ (subst (λ k. is_int (before_first is_point k) ≡ false) eu (subst (λ k. is_int k ≡ false) ei h))
-
-pub no-fraction : (bytes u f : List ℕ) → u ≡ without_minus bytes → has_point u ≡ true → f ≡ after_first is_point u → are_digits f ≡ false → is_mantissa bytes ≡ false
-no-fraction bytes u f eu hp ef h =
-    and_right _ _ (either _ _ (subst (λ k. has_point k ≡ true) eu hp) (subst (λ k. are_digits (after_first is_point k) ≡ false) eu (subst (λ k. are_digits k ≡ false) ef h)))
 
 pub an-integer : (bytes u i : List ℕ) → u ≡ without_minus bytes → i ≡ before_first is_point u → is_int i ≡ true → has_point u ≡ false → is_mantissa bytes ≡ true
 an-integer bytes u i eu ei h hp =

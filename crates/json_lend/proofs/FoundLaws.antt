@@ -1,34 +1,22 @@
 -- What is lent, from what was skipped.
 use Rattle.std.proofs.Common.{◌≡◌, ℕ, List, [], refl, sym, ap, ◌∙◌}
-use Rattle.std.specs.Prelude.{Result, Ok, Err, MatchResult}
 use Rattle.json_tree.specs.Tree.{Json, object}
 use Rattle.json_tree.specs.declared.value.Object.{Object}
 use Rattle.json_tree.specs.declared.value.Value.{Value, Value-F, out-Value}
 use Rattle.json_tree.specs.declared.value.Value.TheVariants as variant
 use Rattle.json_tree.specs.declared.value.Value.TheOpen as layer
 use Rattle.json_tree.specs.Reading.{Outcome, found, bind, listed_at, member_at, object_at, value_at, put_together}
-use Rattle.json_tree.specs.Gives.{Fails, Gives}
+use Rattle.json_tree.specs.Gives.{Fails}
 use Rattle.json_tree.specs.declared.value.JsonFault.{JsonFault}
 use Rattle.json_tree.specs.declared.value.JsonFault.TheVariants.{Text, Depth, Memory}
 use Rattle.json_tree.proofs.ListLaws.{bind_found, found_parts, wrong-found, deep-found}
 use Rattle.json_lend.specs.Parts.{found_or, IsFound, members_at}
-
--- what was found is what is found or the other
-pub found-is : {A : Type 0} (d : A) (o : Outcome A) (h : IsFound o) → found_or d o ≡ h.0
-found-is d o h = ap (found_or d) h.2
 
 -- no fault is told where something is found
 pub no-fault : {A : Type 0} (e : JsonFault) (o : Outcome A) → (e ≡ Memory → ⊥) → IsFound o → Fails e o → ⊥
 no-fault Text o m h f = wrong-found h.0 h.1 (sym f ∙ h.2)
 no-fault Depth o m h f = deep-found h.0 h.1 (sym f ∙ h.2)
 no-fault Memory o m h f = m refl
-
--- a text that is read again is the one that was found
-pub read-again : (res : Result (List ℕ) JsonFault) (rest : List ℕ) (o : Outcome (List ℕ)) → IsFound o → Gives (λ v. v) res rest o → MatchResult res (λ t. t ≡ found_or [] o) (λ e. e ≡ Memory)
-read-again (Ok t) rest o h g = sym (ap (found_or []) g)
-read-again (Err Text) rest o h g = absurd (wrong-found h.0 h.1 (sym g ∙ h.2))
-read-again (Err Depth) rest o h g = absurd (deep-found h.0 h.1 (sym g ∙ h.2))
-read-again (Err Memory) rest o h g = refl
 
 abbrev members_in : Value-F Value Object → List (List ℕ × Json)
 members_in (layer.Object o) = o.members
@@ -52,9 +40,3 @@ object-again d b rest ms e =
     let p = found_parts (object (put_together k.0)) (object ms) k.1 rest k.3 in
     let m : found_or [] (members_at d b) ≡ put_together k.0 = ap (λ o. found_or [] (bind o (λ ms r. found (put_together ms) r))) k.2 in
     sym (same-members (put_together k.0) ms p.0) ∙ sym m
-
--- an object is found where members are
-pub object-found : (d : ℕ) (b : List ℕ) → IsFound (members_at d b) → IsFound (object_at (value_at d) b)
-object-found d b h =
-    let k = bind_found (listed_at (member_at (value_at d)) 125 b) (λ ms r. found (put_together ms) r) h.0 h.1 h.2 in
-    (object (put_together k.0), k.1, ap (λ o. bind o (λ ms r. found (object (put_together ms)) r)) k.2)

@@ -202,10 +202,6 @@ module _ (fields : List Field) (names : List (List ℕ)) (below : List FieldName
   pub all-suit : AllSuit below (fields_of (map shape bs))
   all-suit = subst (λ (ss : List Shape). AllSuit below (fields_of ss)) (sym (shapes ∙ are.shapes_are)) are.suits
 
--- builders of the same shapes are those of the same fields
-pub kept-builders : (fields : List Field) (names : List (List ℕ)) (below : List FieldNames) (bs ds : List MutableArray) → AreLineBuilders fields names below bs → map shape ds ≡ map shape bs → AreLineBuilders fields names below ds
-kept-builders fields names below bs ds are same = record { fit = are.fit; names_are = are.names_are; suits = are.suits; shapes_are = same ∙ are.shapes_are }
-
 -- seen by equal names and builders
 pub moved-builders : (fields : List Field) (names given : List (List ℕ)) (below lent_below : List FieldNames) (bs lent : List MutableArray) → AreLineBuilders fields names below bs → given ≡ names → lent_below ≡ below → lent ≡ bs → AreLineBuilders fields given lent_below lent
 moved-builders fields names given below lent_below bs lent are is under same = record {

@@ -12,7 +12,7 @@ use Rattle.arrow_types.specs.declared.types.IntegerType.{IntegerType}
 use Rattle.arrow_array.specs.FixedLists.{IsFixedListOf, list_size}
 use Rattle.arrow_array.specs.Lists.{list_type, IsListOf}
 use Rattle.arrow_array.specs.Dictionaries.{IsDictionaryOf}
-use Rattle.json_text.specs.Refusals.{Range, range_of, in_range, all_in_range, slot_in_range, integers_in, lists_in, structs_in, fields_in_range, has_text, have_texts, is_string_type, has_offsets, have_offsets}
+use Rattle.json_text.specs.Refusals.{Range, range_of, in_range, all_in_range, slot_in_range, lists_in, structs_in, fields_in_range, has_text, have_texts, is_string_type, has_offsets, have_offsets}
 
 and_true : (b : Bool) → (b && true) ≡ b
 and_true true = refl
@@ -145,15 +145,6 @@ structs_in_all p h (String s) = refl
 structs_in_all p h (Binary s) = refl
 structs_in_all p h (List' m row) = refl
 structs_in_all p h (Struct' m row) = h (items-the_row-Slot _ row)
-
-pub integers_in_all : (x : Slot) → slot_in_range (integers_in (λ _. true)) x ≡ true
-integers_in_all Null = refl
-integers_in_all (Boolean b) = refl
-integers_in_all (Integer n) = refl
-integers_in_all (String s) = refl
-integers_in_all (Binary s) = refl
-integers_in_all (List' m row) = refl
-integers_in_all (Struct' m row) = refl
 
 pub list_without_dates : (is_large : Bool) (t : DataType) (f : Field) → t ≡ list_type is_large f → ((x : Slot) → in_range f.data_type x ≡ true) → (x : Slot) → in_range t x ≡ true
 list_without_dates is_large t f e h x = ap (λ r. slot_in_range r x) (ap range_of e ∙ list_range is_large f) ∙ lists_in_all (in_range f.data_type) h x

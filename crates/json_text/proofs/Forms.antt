@@ -54,11 +54,6 @@ if_not_held t (Binary s) h = absurd (true≢false h)
 if_not_held t (List' m row) h = absurd (true≢false h)
 if_not_held t (Struct' m row) h = absurd (true≢false h)
 
-pub appended_null : {A E : Type 0} (r : Result A E) (old new : List ℕ) (t : DataType) (x y : Slot)
-    → (IsTrue (is_held x) → x ≡ y) → null ≡ text t y → OnOk r (new ≡ old ++ null) → OnOk r (new ≡ old ++ text t x)
-appended_null (Ok a) old new t x y h k d = d ∙ ap (λ z. old ++ z) (if_null t x y h k)
-appended_null (Err b) old new t x y h k d = tt
-
 in_list : (w : Form) (xs : List Slot) → slot_text w (slot.List xs) ≡ w.list xs
 in_list w xs = ap w.list (items_hidden-the_row-Slot-0 xs)
 
@@ -129,10 +124,6 @@ no_date p data_type.Date32 h a b d = a (cc)
 no_date p data_type.Date64 h a b d = b (cc)
 no_date p (data_type.Timestamp unit timezone) h a b d = b (cc)
 no_date p _ h a b d = absurd d
-
--- an integer of a layout that dates and timestamps haven't
-pub integer_is : (p : PrimitiveType) (t : DataType) (n : ℤ) → IsPlain p t → (p ≡ primitive.Int32 → ⊥) → (p ≡ primitive.Int64 → ⊥) → signed_decimal n ≡ text t (slot.Integer n)
-integer_is p t n h a b = sym (ap (λ w. slot_text w (slot.Integer n)) (plain_is p t h (no_date p t h a b)))
 
 -- an interval
 pub interval_is : (p : PrimitiveType) (t : DataType) (xs : List Slot) → IsPlain p t → (p ≡ primitive.Int32 → ⊥) → (p ≡ primitive.Int64 → ⊥) → null ≡ text t (slot.Struct xs)

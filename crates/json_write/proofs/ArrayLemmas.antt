@@ -1,15 +1,15 @@
 -- A bracket, items, and a bracket.
-use Rattle.std.proofs.Common.{◌≡◌, ℕ, ◌≤◌, ◌<◌, arith, List, [], ◌++◌, codes, Option, Result, Ok, Err, OnErr, OnOk, IfErr, inl, inr, ⊎_elim, refl, sym, ap, ◌∙◌, append_assoc, append-nil}
+use Rattle.std.proofs.Common.{◌≡◌, ℕ, ◌≤◌, ◌<◌, arith, List, [], ◌++◌, codes, Option, Result, Ok, Err, OnErr, IfErr, inl, inr, ⊎_elim, refl, sym, ap, ◌∙◌, append_assoc, append-nil}
 use Rattle.std.specs.Io.KnownBytes.{Appends}
 use Rattle.std.specs.List.{join_with_byte}
 use Rattle.arrow_base.specs.Outside.{AppendsPrefix, RoseOrFull}
 use Rattle.arrow_base.proofs.Written.{Appends-append, Underway, underway-stop}
 use Rattle.arrow_core.specs.declared.error.Error.{Error}
 use Rattle.arrow_core.specs.declared.error.Error.TheVariants.{WriteFault}
-use Rattle.json_text.specs.JsonText.{array, joined}
+use Rattle.json_text.specs.JsonText.{joined}
 use Rattle.lending.specs.Lending.{Shows, ShowsThenErr}
-use Rattle.lending.specs.Joined.{WritesShown, WritesTold, StopsWriting}
-use Rattle.json_write.specs.Written.{WritesArray, StopsArray}
+use Rattle.lending.specs.Joined.{WritesShown, StopsWriting}
+use Rattle.json_write.specs.Written.{StopsArray}
 
 -- text that was written, and then a prefix of a part
 prefix-after : (a b c : Option (List ℕ)) (text part : List ℕ) → Appends a b text → AppendsPrefix b c part → AppendsPrefix a c (text ++ part)
@@ -29,19 +29,7 @@ longer a b part more h = record {
   appended = h.appended;
 }
 
-bracketed : (a b c d : Option (List ℕ)) (text : List ℕ) → Appends a b (codes "[") → Appends b c text → Appends c d (codes "]") → Appends a d (codes "[" ++ (text ++ codes "]"))
-bracketed a b c d text h k l = Appends-append a b d (codes "[") (text ++ codes "]") h (Appends-append b c d text (codes "]") k l)
-
 module _ {S : Type 0} (step : S → Result (Unit {0}) Error → S → Type 0) (shown : S → Option (List ℕ)) where
-  pub writes_array : (r : Result (Unit {0}) Error) (s : S) (a b c d : Option (List ℕ)) → Appends a b (codes "[") → WritesShown step shown s 44 b c → OnOk r (Appends c d (codes "]")) → OnOk r (WritesArray step shown s a d)
-  writes_array (Ok u) s a b c d h k l = (k.0, k.1, bracketed a b c d (joined k.0) h k.2 l)
-  writes_array (Err e) s a b c d h k l = tt
-
-  pub writes_told : (items : S → List (List ℕ) → Type 0) (r : Result (Unit {0}) Error) (s : S) (a b c d : Option (List ℕ)) → Appends a b (codes "[") → WritesTold (items s) 44 b c → OnOk r (Appends c d (codes "]"))
-      → OnOk r ((xs : List (List ℕ)) → items s xs → Appends a d (array xs))
-  writes_told items (Ok u) s a b c d h k l = λ xs t. bracketed a b c d (joined xs) h (k xs t) l
-  writes_told items (Err e) s a b c d h k l = tt
-
   -- the first bracket wasn't written
   pub stops_first : (s : S) (a b : Option (List ℕ)) (before now : ℕ) (e : Error) → e ≡ WriteFault → RoseOrFull before now → AppendsPrefix a b (codes "[") → StopsArray step shown s a b before now e
   stops_first s a b before now e w r p = inl (w, r, inl ([], s, refl, longer a b (codes "[") [] p))

@@ -25,9 +25,6 @@ module _ {I : Type 0} (next_gives : I → Option (Result Array Error) → I → 
     pub passed_over : All IsPassedOver passed
     pub gave : Gave next_gives first passed now
 
-  pub passed_none : (s : I) → Passed s s
-  passed_none s = record { passed = []; passed_over = λ k d h. absurd (omega (arith, h)); gave = refl }
-
   gave_more : (xs : List Array) (s t u : I) (a : Array) → Gave next_gives s xs t → next_gives t (Some (Ok a)) u → Gave next_gives s (xs ++ (a ∷ [])) u
   gave_more [] s t u a h k = (u, subst (λ z. next_gives z (Some (Ok a)) u) (sym h) k, refl)
   gave_more (x ∷ xs) s t u a h k = (h.0, h.1, gave_more xs h.0 t u a h.2 k)
@@ -57,9 +54,6 @@ module _ {I : Type 0} (next_gives : I → Option (Result Array Error) → I → 
     texts = d.1.1 ∙ ap (λ z. z ++ array_texts a) e;
   }
   finds_texts s t u (Err x) old new e p k d = absurd d
-
-  pub finds_none : (s t u : I) → Passed s t → next_gives t None u → FindsNone next_gives s u
-  finds_none s t u p k = record { passed = p.passed; passed_over = p.passed_over; between = t; gave = p.gave; next = k }
 
   pub stops : (s t u : I) (given : Result Array Error) (e : Error) → Passed s t → next_gives t (Some given) u → StopsAt given e → Stops next_gives s e u
   stops s t u given e p k d = record { passed = p.passed; passed_over = p.passed_over; between = t; gave = p.gave; given = given; next = k; cause = d }

@@ -263,7 +263,3 @@ plans_more fields avro_fields i f a made after p lt la fis ais one e h =
     subst (λ (ps : List Plan). ArePlansOf (take (i + 1) fields) (take (i + 1) avro_fields) ps) (sym e)
     (subst (λ (fs : List Field). ArePlansOf fs (take (i + 1) avro_fields) (made ++ p ∷ [])) (sym (taken_more fields i f lt fis))
     (subst (λ (afs : List AvroField). ArePlansOf (take i fields ++ f ∷ []) afs (made ++ p ∷ [])) (sym (taken_more avro_fields i a la ais)) (plans_push (take i fields) (take i avro_fields) made f a p h plan)))
-
-pub plans_all : (fields : List Field) (avro_fields : List AvroField) (i : ℕ) (made : List Plan) → length fields ≤ i → length avro_fields ≤ i → ArePlansOf (take i fields) (take i avro_fields) made → ArePlansOf fields avro_fields made
-plans_all fields avro_fields i made le la h =
-    subst (λ (fs : List Field). ArePlansOf fs avro_fields made) (taken_all fields i le) (subst (λ (afs : List AvroField). ArePlansOf (take i fields) afs made) (taken_all avro_fields i la) h)

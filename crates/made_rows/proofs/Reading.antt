@@ -1,5 +1,5 @@
 -- The columns that are read are those of the table.
-use Rattle.std.proofs.Common.{◌≡◌, ◌∙◌, ℕ, zero, suc, ◌+◌, ◌<◌, List, [], ◌∷◌, length, map, take, get_or, Bool, true, false, Result, Ok, Err, IfOk, MatchResult, refl, sym, ap, subst, arith}
+use Rattle.std.proofs.Common.{◌≡◌, ◌∙◌, ℕ, zero, suc, ◌+◌, ◌<◌, List, [], ◌∷◌, length, map, get_or, Bool, true, false, Result, Ok, Err, IfOk, MatchResult, refl, sym, ap, subst}
 use Rattle.std.specs.List.{range_with_len}
 use Rattle.std.proofs.lemmas.List.{get_or-map}
 use Rattle.arrow_types.specs.declared.slot.Slot.{Slot}
@@ -9,7 +9,7 @@ use Rattle.arrow_core.specs.declared.error.Error.{Error}
 use Rattle.arrow_core.specs.declared.error.Error.TheVariants.{OutOfMemory}
 use Rattle.arrow_array.specs.Arrays.{array_slots}
 use Rattle.avro_schema.specs.declared.schema.AvroField.{AvroField}
-use Rattle.avro_grammar.specs.Laws.{KeepsNoMore, narrowed}
+use Rattle.avro_grammar.specs.Laws.{narrowed}
 use Rattle.avro_grammar.specs.Rows.{Rows, column}
 use Rattle.avro_grammar.specs.ValidBlock.{kept}
 use Rattle.avro_grammar.proofs.RowLaws.{same_table, narrower}
@@ -68,14 +68,6 @@ all_columns table = refl
 pub some_columns : (table : List (List Slot)) → columns (length (kept row_fields some_kept)) table ≡ column table 0 ∷ column table 1 ∷ []
 unfolding row_fields
 some_columns table = refl
-
-pub all_count : length (kept row_fields (true ∷ true ∷ true ∷ true ∷ [])) ≡ 4
-unfolding row_fields
-all_count = refl
-
-pub some_count : length (kept row_fields some_kept) ≡ 2
-unfolding row_fields
-some_count = refl
 
 pub all_are_kept : all_kept row_fields ≡ true ∷ true ∷ true ∷ true ∷ []
 unfolding row_fields

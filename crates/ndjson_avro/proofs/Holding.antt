@@ -1,10 +1,9 @@
 -- The rows of a batch, one after another.
-use Rattle.std.proofs.Common.{◌≡◌, ◌∙◌, inl, inr, ℕ, ◌+◌, ◌<◌, ◌≤◌, List, [], ◌∷◌, ◌++◌, length, Bool, true, false, sym, ap, subst, arith}
+use Rattle.std.proofs.Common.{◌≡◌, ◌∙◌, ℕ, ◌+◌, ◌<◌, ◌≤◌, List, [], ◌∷◌, ◌++◌, length, Bool, true, false, sym, ap, subst, arith}
 use Rattle.std.proofs.lemmas.Bool.{false≢true}
 use Rattle.std.proofs.lemmas.List.{append-nil, length-append}
-use Rattle.arrow_core.specs.declared.error.Error.{Error}
 use Rattle.ndjson_read.specs.Reading.{State}
-use Rattle.ndjson_avro.specs.BatchSteps.{BatchSoFar, NextRow, NoRow, NoRowsOf, TakesSome}
+use Rattle.ndjson_avro.specs.BatchSteps.{BatchSoFar, NextRow, TakesSome}
 use Rattle.ndjson_avro.specs.Taken.{TakesRows}
 use Rattle.ndjson_avro.proofs.Taking.{row_takes, takes_both, takes_none, takes_shown}
 
@@ -41,11 +40,3 @@ rows_end n a b c before after false is s (shows, same) = record {
   fewer = λ _. shows.fewer (omega arith);
   few = omega (arith, s.few, shows.takes.limit, ap length same);
 }
-
--- no further row is wanted
-pub rows_taken : (n : ℕ) (a b : State) (texts : List (List ℕ)) → n ≤ length texts → BatchSoFar n a b texts → TakesSome n a b texts
-rows_taken n a b texts all s = record { takes = s.takes; most = s.most; fewer = λ l. absurd (omega (arith, all, l)); few = s.few }
-
-pub no_row_of : (n : ℕ) (a b c : State) (texts : List (List ℕ)) (e : Error) → length texts < n → BatchSoFar n a b texts → NoRow b c e → NoRowsOf n a c e
-no_row_of n a b c texts e below s (inl memory) = inl memory
-no_row_of n a b c texts e below s (inr h) = inr (record { between = b; texts = texts; takes = s.takes; wanted = below; fails = h })

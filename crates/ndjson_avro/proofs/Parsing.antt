@@ -1,5 +1,5 @@
 -- Texts that are parsed, and rows that a reader shows.
-use Rattle.std.proofs.Common.{◌≡◌, ◌∙◌, ℕ, zero, suc, ◌+◌, ◌<◌, ◌≤◌, List, [], ◌∷◌, ◌++◌, length, get_or, take, drop, Option, None, refl, sym, ap, subst, arith}
+use Rattle.std.proofs.Common.{◌≡◌, ◌∙◌, ℕ, zero, suc, ◌+◌, ◌<◌, ◌≤◌, List, [], ◌∷◌, ◌++◌, length, get_or, take, drop, refl, sym, ap, subst, arith}
 use Rattle.std.proofs.Math.Seq.{drop-cons}
 use Rattle.std.proofs.lemmas.List.{take-append-drop, take_more}
 use Rattle.std.specs.List.{AllZip}
@@ -8,7 +8,6 @@ use Rattle.json_tree.specs.declared.value.JsonFault.{JsonFault}
 use Rattle.json_tree.specs.declared.value.JsonFault.TheVariants.{Text, Depth, Memory}
 use Rattle.json_tree.specs.Meaning.{HoldsTooMany, IsErrorOf, IsJson, IsJsonText}
 use Rattle.json_tree.specs.Tree.{Json}
-use Rattle.ndjson_read.specs.FileReader.{fewer_of}
 use Rattle.ndjson_read.specs.Reading.{State, ShowsRows}
 use Rattle.ndjson_avro.specs.Values.{FirstWithout, IsNoValue}
 
@@ -55,9 +54,6 @@ first_without texts i text given values e l is same h fault = record {
 
 -- ---- what a reader of one row at a time shows
 
-pub one_wanted : (limit : Option ℕ) (batch : ℕ) → limit ≡ None → batch ≡ 1 → fewer_of limit batch ≡ 1
-one_wanted limit batch all one = ap (λ (l : Option ℕ). fewer_of l batch) all ∙ one
-
 one_of : (a b : State) (row : List ℕ) (rest : List (List ℕ)) → ShowsRows 1 a b (row ∷ rest) → ShowsRows 1 a b (row ∷ [])
 one_of a b row [] s = s
 one_of a b row (next ∷ rest) s = absurd (omega (arith, s.most))
@@ -68,6 +64,3 @@ shown_first wanted a b shown [] row one same some is s = absurd (omega (arith, s
 shown_first wanted a b shown (first ∷ given) row one same some is s =
     subst (λ (z : List ℕ). ShowsRows 1 a b (z ∷ [])) (sym is)
     (one_of a b first given (subst (λ (n : ℕ). ShowsRows n a b (first ∷ given)) one (subst (ShowsRows wanted a b) (sym same) s)))
-
-pub shown_none : (wanted : ℕ) (a b : State) (shown : List (List ℕ)) → wanted ≡ 1 → shown ≡ [] → ShowsRows wanted a b shown → ShowsRows 1 a b []
-shown_none wanted a b shown one none s = subst (λ (n : ℕ). ShowsRows n a b []) one (subst (ShowsRows wanted a b) none s)

@@ -38,9 +38,6 @@ no_record fields (NotYetImplemented reason.NoAvroType) named h = (named, inl h)
 no_record fields OutOfMemory named h = tt
 no_record fields _ named h = absurd h
 
-pub memory_target : (fields : List Field) (e : Error) → e ≡ OutOfMemory → HasNoTarget fields e
-memory_target fields e is = subst (HasNoTarget fields) (sym is) tt
-
 -- ---- a block
 
 -- columns of the root are refused for a null alone, out of memory aside

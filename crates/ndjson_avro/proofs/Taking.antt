@@ -94,6 +94,3 @@ row_takes old new text s = from s.taken s.rows s.takes.limit
     from : (taken : List ℕ) → text ∷ [] ≡ rows_of taken → old.limit ≡ length taken + new.limit → 1 + new.limit ≤ old.limit
     from [] e l = absurd (omega (arith, ap length e))
     from (x ∷ taken) e l = omega (arith, l)
-
-pub limit_falls : (old new : State) (texts : List (List ℕ)) → TakesRows old new texts → new.limit ≤ old.limit
-limit_falls old new texts t = omega (arith, t.takes.limit)

@@ -51,10 +51,6 @@ fixed_lists_again size old xs vals v e some count t h =
     let many : length vals / size ≡ length xs = ap (λ m. m / size) (count ∙ ap (λ s. length xs * s) (sym e)) ∙ mul-div_cancel (length xs) some in
     slots_again (fixed_list_at size vals) v xs (length vals / size) many t (λ k lt held. h k lt held ∙ ap (λ s. fixed_list_at s vals k) (sym e))
 
--- a whole part
-pub whole_part : {A : Type 0} (xs : List A) (n : ℕ) → n ≡ length xs → take n (drop 0 xs) ≡ xs
-whole_part xs n e = take_all n xs (omega (arith, e))
-
 -- ---- the children of structs
 
 first_is : (n : ℕ) (fields : List Field) (columns made : List Array) → AreChildren n fields columns → map array_slots made ≡ map array_slots columns → 0 < length made → first_len made ≡ n

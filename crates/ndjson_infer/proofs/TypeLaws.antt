@@ -186,9 +186,6 @@ pub none_is : (xs : List Entry) → entries_eq xs [] ≡ true → xs ≡ []
 none_is [] h = refl
 none_is (x ∷ xs) h = absurd (true≢false (sym h))
 
-pub nullable_is : (field : Field) (name : List ℕ) → field.is_nullable ≡ true → field.name ≡ name → field.metadata ≡ [] → field ≡ nullable name field.data_type
-nullable_is field name a b c = λ i. record { name = b i; data_type = field.data_type; is_nullable = a i; metadata = c i }
-
 -- ---- what was read
 
 -- a value that was read, and what comparing its type tells

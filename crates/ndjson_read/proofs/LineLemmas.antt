@@ -181,11 +181,3 @@ parted bytes stops some = record {
   is_part = feedless_all _ stops;
   split = grind (arith, common_steps, some);
 }
-
--- such bytes are one line, or none
-pub stops_one : (bytes : List ℕ) → StopsAt bytes 10 → lines bytes ≡ one_or_none bytes
-unfolding lines
-stops_one [] stops = refl
-stops_one (byte ∷ bytes) stops =
-    let p = parted (byte ∷ bytes) stops (omega arith) in
-    ap lines p.split ∙ lines_one p.part p.last p.is_part ∙ sym (one_or_none-push p.part p.last) ∙ ap one_or_none (sym p.split)
