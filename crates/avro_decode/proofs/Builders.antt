@@ -1,8 +1,9 @@
 -- The builder of one kept field among those of all.
-use Rattle.std.proofs.Common.{◌≡◌, ℕ, zero, suc, ◌<◌, true, false, List, [], ◌∷◌, length, get_or, set, All, sym, subst, arith}
+use Rattle.std.proofs.Common.{◌≡◌, ℕ, zero, suc, ◌<◌, true, false, List, [], ◌∷◌, length, get_or, set, All, sym, subst, arith, Result, Ok, Err, OnOk}
 use Rattle.std.proofs.lemmas.List.Elements.{All-cons}
 use Rattle.arrow_builders.specs.MutableArrays.{nodes}
 use Rattle.arrow_builders.specs.Shapes.{shape}
+use Rattle.arrow_builders.specs.Tight.{IsTight}
 use Rattle.arrow_builders.specs.declared.array.MutableArray.{MutableArray}
 use Rattle.avro_schema.specs.declared.schema.AvroField.{AvroField}
 use Rattle.avro_decode.specs.Growth.{Grows, AllOffsetsReach, HaveSpare, ChildrenGrow, ChildrenReach, ChildrenHaveSpare}
@@ -17,6 +18,10 @@ pub all_set : {A : Type 0} (P : A → Type 0) (xs : List A) (k : ℕ) (x : A) �
 all_set P [] k x h p = h
 all_set P (y ∷ xs) zero x h p = All-cons P x xs p (λ i d lt. h (suc i) d (omega (arith, lt)))
 all_set P (y ∷ xs) (suc k) x h p = All-cons P y (set xs k x) (h 0 y (omega arith)) (all_set P xs k x (λ i d lt. h (suc i) d (omega (arith, lt))) p)
+
+pub tight_set : {Y E : Type 0} (r : Result Y E) (bs : List MutableArray) (k : ℕ) (b : MutableArray) → All IsTight bs → OnOk r (IsTight b) → OnOk r (All IsTight (set bs k b))
+tight_set (Ok u) bs k b h p = all_set IsTight bs k b h p
+tight_set (Err e) bs k b h p = tt
 
 module _ (fs : List AvroField) (bs : List MutableArray) (k : ℕ) (f : AvroField) (b : MutableArray) where
   pub suits_here : k < length fs → get_or fs k f ≡ f → AllSuit fs bs → Suits f.schema (shape (get_or bs k b))

@@ -12,9 +12,6 @@ use Rattle.avro_decode.specs.Capacity.{AtNodes}
 abbrev pub EmptySoFar : List MutableArray → ℕ → Type 0
 EmptySoFar bs i = (k : ℕ) (d : MutableArray) → k < i → k < length bs → All IsEmpty (nodes (get_or bs k d))
 
-pub emptied_none : (bs : List MutableArray) → EmptySoFar bs 0
-emptied_none bs k d lt in_list = absurd (omega (arith, lt))
-
 pub emptied_more : (bs : List MutableArray) (i : ℕ) (b : MutableArray) → EmptySoFar bs i → All IsEmpty (nodes b) → EmptySoFar (set bs i b) (i + 1)
 emptied_more bs i b so here k d lt in_list = from (cases_eq k i)
   where

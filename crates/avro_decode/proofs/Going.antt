@@ -17,7 +17,7 @@ use Rattle.avro_reference.specs.Prefix.{Reader}
 use Rattle.avro_reference.specs.Read.{push_one, read}
 use Rattle.arrow_types.specs.Numbers.{greatest_offset}
 use Rattle.avro_reference.proofs.ByLists.{read_array}
-use Rattle.avro_reference.specs.Costs.{passed}
+use Rattle.avro_reference.specs.Costs.{passed, CostsNumber, CostsKept}
 use Rattle.avro_flat.specs.Decoding.{Fails, Gives}
 use Rattle.avro_decode.specs.Decoding.{all_blocks}
 use Rattle.avro_flat.specs.declared.fault.DecodeFault.{DecodeFault}
@@ -25,7 +25,7 @@ use Rattle.avro_flat.specs.declared.fault.DecodeFault.TheVariants.{Memory}
 use Rattle.avro_decode.specs.Masks.{mask, bounded}
 use Rattle.avro_decode.specs.Growth.{Grows, all_large, Reaches, AllReach, AllOffsetsReach, HaveSpare}
 use Rattle.avro_decode.specs.Suits.{Suits}
-use Rattle.avro_reference.proofs.Counting.{not_longer}
+use Rattle.avro_reference.proofs.Counting.{not_longer, kept_then, number_costs}
 use Rattle.avro_decode.proofs.Nodes.{grows_more, grows_wider, all_reach_after, reach_less, reach_wider, small_below, large_above, all_reach_fewer, spare_after}
 use Rattle.avro_flat.proofs.Pushes.{fills}
 use Rattle.avro_decode.proofs.Reading.{array-reads, array-err, blocks-all}
@@ -76,6 +76,11 @@ offsets_then s x y z b c e f k g h =
 
 pub offsets_less : (ms : List Bool) (m n : ℕ) (b : MutableArray) → n ≤ m → AllOffsetsReach ms m b → AllOffsetsReach ms n b
 offsets_less ms m n b le h = reach_less (all_large (shape b)) ms m n (nodes b) le h
+
+-- a number, and what follows it, where this is a value
+pub costs_behind : {X Y E : Type 0} (rest : X → List ℕ) (shown calls : X → ℕ) (r : Result Y E) (x y z : X) → MovesForward (rest x) (rest y) → MovesForward (rest y) (rest z) → CostsNumber rest shown calls x y → OnOk r (CostsKept rest shown calls y z) → OnOk r (CostsKept rest shown calls x z)
+costs_behind rest shown calls (Ok u) x y z f g n c = kept_then rest shown calls x y z f g (number_costs rest shown calls x y n) c
+costs_behind rest shown calls (Err e) x y z f g n c = tt
 
 pub spare_on : (ms : List Bool) (x y z : List ℕ) (xs ys : List Node) → MovesForward x y → MovesForward y z → Grows ms (passed x y) xs ys → HaveSpare ms (length x) xs → HaveSpare ms (length z) ys
 spare_on ms x y z xs ys f k g h =

@@ -37,9 +37,6 @@ module _ {A : Type 0} (P : A → Type 0) (xs : List A) (projection : List Bool) 
   kept_there i a lt h e = (kept_by_index P xs projection).0 h i a lt e
 
 module _ (P : Schema → Type 0) (fields : List AvroField) (projection : List Bool) where
-  pub holds_next : (i : ℕ) (a : AvroField) → i < length fields → (get_or projection i false ≡ true → P (get_or fields i a).schema) → HoldsSoFar P fields projection i → HoldsSoFar P fields projection (i + 1)
-  holds_next i a lt here before = kept_next (λ x. P x.schema) fields projection i a lt here before
-
   pub holds_all : (i : ℕ) → length fields ≤ i → HoldsSoFar P fields projection i → All (λ a. P a.schema) (kept fields projection)
   holds_all i le h = kept_all (λ a. P a.schema) fields projection i le h
 

@@ -5,6 +5,7 @@ pub mod FieldSteps
 pub mod Fields
 pub mod Frozen
 pub mod Going
+pub mod Keeping
 pub mod KeptSchemas
 pub mod Large
 pub mod Lists

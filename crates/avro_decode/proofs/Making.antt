@@ -1,11 +1,10 @@
 -- Which schemas and data types stand in a schema that can be kept, and the builder that is made for it.
-use Rattle.std.proofs.Common.{◌≡◌, ◌∙◌, ◌⊎◌, inl, inr, ℕ, suc, ◌<◌, ◌≤◌, Bool, false, true, Option, None, Some, List, [], ◌∷◌, length, map, All, refl, sym, ap, subst, arith}
+use Rattle.std.proofs.Common.{◌≡◌, ◌∙◌, ◌⊎◌, inl, inr, suc, ◌<◌, ◌≤◌, Bool, false, true, Option, None, Some, List, [], ◌∷◌, length, map, All, refl, sym, ap, subst, arith}
 use Rattle.std.specs.Prelude.{sum_by}
 use Rattle.std.proofs.lemmas.Bool.{cases_lt}
 use Rattle.std.proofs.lemmas.List.Elements.{All-cons}
 use Rattle.arrow_types.specs.declared.physical.PhysicalType.{PhysicalType}
 use Rattle.arrow_types.specs.declared.physical.PhysicalType.TheVariants as physical
-use Rattle.arrow_types.specs.declared.slot.Slot.TheVariants as slot
 use Rattle.arrow_types.specs.declared.types.Field.{Field}
 use Rattle.arrow_types.specs.declared.types.DataType.{DataType, List', LargeList', Struct', items-the_row-Field, items_hidden-the_row-Field-1}
 use Rattle.arrow_types.specs.declared.types.DataType as data_type
@@ -17,7 +16,7 @@ use Rattle.arrow_builders.specs.Children.{fields_of}
 use Rattle.arrow_builders.specs.Fits.{TypesFit, field_types}
 use Rattle.arrow_builders.specs.MutableArrays.{builder_type, nodes}
 use Rattle.arrow_builders.specs.Nodes.{IsEmpty}
-use Rattle.arrow_builders.specs.Shapes.{Shape, flat, dictionary, lists, records, shape, shape_type}
+use Rattle.arrow_builders.specs.Shapes.{Shape, flat, lists, records, shape, shape_type}
 use Rattle.arrow_builders.specs.declared.array.MutableArray.{MutableArray}
 use Rattle.arrow_builders.proofs.Heads.{type_is}
 use Rattle.avro_schema.specs.declared.schema.AvroField.{AvroField}
@@ -35,7 +34,7 @@ use Rattle.avro_grammar.specs.Carried.{IsFixedSize, Carried}
 use Rattle.avro_grammar.specs.Encodes.{IsNull}
 use Rattle.avro_grammar.specs.Listed.{CarriedMembersOf}
 use Rattle.avro_grammar.specs.TypeLaws.{HasMemberTypeOf}
-use Rattle.avro_grammar.specs.Types.{IsListOf as TheForm, HasType, HasColumnType, fixed_type, symbol_type}
+use Rattle.avro_grammar.specs.Types.{IsListOf as TheForm, HasType, HasColumnType, fixed_type}
 use Rattle.avro_grammar.specs.ValidBlock.{small_limit, HasFloat, SymbolsFit, EnumsFit}
 use Rattle.avro_grammar.proofs.ByLists.{moved, carried_array, carried_union, carried_record}
 use Rattle.avro_grammar.proofs.TypeLemmas.{type_composites, float_composites, enum_composites}
@@ -102,14 +101,6 @@ flat_typed (Union' p members) t o k h = absurd o
 pub flat_type : (s : Schema) (t : DataType) → IsOther s → CanBeKept s → HasType true s t → IsFlatType t
 flat_type s t o k h = (flat_typed s t o k h).0
 
-pub new_flat : (s : Schema) (t : DataType) (b : MutableArray) → IsOther s → CanBeKept s → HasType true s t → shape b ≡ flat (physical_type t) t → All IsEmpty (nodes b) → IsNewBuilder s t b
-new_flat s t b o k h e n = record {
-  suits = subst (Suits s) (sym e) (flat_typed s t o k h).1;
-  types_fit = subst TypesFit (sym e) tt;
-  data_type = type_is b ∙ ap shape_type e;
-  empty = n;
-}
-
 -- ---- enums
 
 symbols_fit : (e : TheEnum) → EnumsFit (Enum e) → SymbolsFit e
@@ -119,22 +110,6 @@ symbols_fit e h = from (cases_lt small_limit (length e.symbols)) (cases_lt small
     from (inl many) total = absurd (h (λ fit. omega (arith, many, fit.0)))
     from (inr few) (inl large) = absurd (h (λ fit. omega (arith, large, fit.1)))
     from (inr few) (inr total) = (few, total)
-
-pub enum_fits : (s : Schema) (e : TheEnum) (symbols : List (List ℕ)) → s ≡ Enum e → symbols ≡ e.symbols → CanBeKept s → sum_by length symbols ≤ small_limit
-enum_fits s e symbols is same k =
-    subst (λ (xs : List (List ℕ)). sum_by length xs ≤ small_limit) (sym same) (symbols_fit e (subst EnumsFit is k.symbols)).1
-
-pub new_dictionary : (s : Schema) (t : DataType) (b : MutableArray) (e : TheEnum) (symbols : List (List ℕ)) → s ≡ Enum e → symbols ≡ e.symbols → CanBeKept s → HasType true s t → shape b ≡ dictionary symbol_type (map slot.String symbols) → All IsEmpty (nodes b) → IsNewBuilder s t b
-new_dictionary s t b e symbols is same k h sh n =
-    let type : t ≡ symbol_type = subst (λ (x : Schema). HasType true x t) is h in
-    let fit = symbols_fit e (subst EnumsFit is k.symbols) in
-    let suits : Suits (Enum e) (dictionary symbol_type (map slot.String symbols)) = (fit, ap (map slot.String) same) in
-    record {
-      suits = subst (λ (x : Schema). Suits x (shape b)) (sym is) (subst (Suits (Enum e)) (sym sh) suits);
-      types_fit = subst TypesFit (sym sh) tt;
-      data_type = type_is b ∙ ap shape_type sh ∙ sym type;
-      empty = n;
-    }
 
 -- ---- arrays
 

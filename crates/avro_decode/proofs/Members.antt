@@ -72,13 +72,6 @@ other_index (pos (suc zero)) a b = absurd (b refl)
 other_index (pos (suc (suc n))) a b = le-ltb (suc (suc n)) 2 (omega arith)
 other_index (negsuc n) a b = refl
 
-pub other_pair : (old : List Slot) (v : ℤ) (b : Bool) (s : Schema) (bytes : List ℕ) → (v ≡ pos 0 → ⊥) → (v ≡ pos 1 → ⊥) → push_one old (pair_at v b s bytes) ≡ None
-unfolding push_one
-other_pair old (pos zero) b s bytes h k = absurd (h refl)
-other_pair old (pos (suc zero)) b s bytes h k = absurd (k refl)
-other_pair old (pos (suc (suc n))) b s bytes h k = refl
-other_pair old (negsuc n) b s bytes h k = refl
-
 pub no_index : (old : List Slot) (members : List Schema) (bytes : List ℕ) → number_at bytes ≡ None → push_one old (read_union_of members bytes) ≡ None
 unfolding push_one
 no_index old members bytes e = rw e refl
@@ -203,6 +196,15 @@ no_list s item b e h small large = from (list_only item b (subst (λ (x : Schema
     from : (builder_kind b ≡ physical.List) ⊎ (builder_kind b ≡ physical.LargeList) → ⊥
     from (inl k) = small k
     from (inr k) = large k
+
+-- the builder of an array's lists, and how it grows
+pub list_grown : (s i : Schema) (b c : MutableArray) (n : ℕ) (ys : List Node) → s ≡ Array i → b ≡ c → Grows (mask false (Array i)) n (nodes c) ys → Grows (mask false s) n (nodes b) ys
+list_grown s i b c n ys e d h =
+    subst (λ (x : MutableArray). Grows (mask false s) n (nodes x) ys) (sym d) (subst (λ (y : Schema). Grows (mask false y) n (nodes c) ys) (sym e) h)
+
+pub list_spare_below : (s i : Schema) (b c : MutableArray) (n : ℕ) → s ≡ Array i → b ≡ c → HaveSpare (mask false s) n (nodes b) → HaveSpare (mask false (Array i)) n (nodes c)
+list_spare_below s i b c n e d h =
+    subst (λ (x : MutableArray). HaveSpare (mask false (Array i)) n (nodes x)) d (subst (λ (y : Schema). HaveSpare (mask false y) n (nodes b)) e h)
 
 pub record_kind : (s : Schema) (r : TheRecord) (b : MutableArray) → s ≡ Record r → Suits s (shape b) → builder_kind b ≡ physical.Struct
 record_kind s r b e h = from b (subst (λ (x : Schema). Suits x (shape b)) e h)

@@ -10,7 +10,7 @@ use Rattle.arrow_builders.specs.Children.{all_nodes, fields_of}
 use Rattle.arrow_builders.specs.MutableArrays.{nodes}
 use Rattle.arrow_builders.specs.Nested.{lists_node, marks_node}
 use Rattle.arrow_builders.specs.Nodes.{Node, IsEmpty}
-use Rattle.arrow_builders.specs.Shapes.{dictionary, lists, records, shape}
+use Rattle.arrow_builders.specs.Shapes.{lists, records, shape}
 use Rattle.arrow_builders.specs.declared.array.MutableArray.{MutableArray, List as ListOf, LargeList as LargeListOf, Struct}
 use Rattle.arrow_builders.specs.declared.list.DynMutableListArray.{DynMutableListArray}
 use Rattle.arrow_builders.specs.declared.large_list.DynMutableLargeListArray.{DynMutableLargeListArray}
@@ -22,9 +22,8 @@ use Rattle.std.proofs.lemmas.List.Sums.{sum_by_more}
 use Rattle.std.proofs.Math.Seq.{drop-cons}
 use Rattle.arrow_types.specs.declared.slot.Slot.{Slot}
 use Rattle.arrow_types.specs.declared.slot.Slot.TheVariants as slot
-use Rattle.arrow_flat.specs.Dictionaries.{DictionaryBuilder, IsNewDictionary, dictionary_node}
+use Rattle.arrow_flat.specs.Dictionaries.{DictionaryBuilder, dictionary_node}
 use Rattle.avro_schema.specs.declared.schema.AvroField.{AvroField}
-use Rattle.avro_grammar.specs.Types.{symbol_type}
 use Rattle.avro_grammar.specs.ValidBlock.{kept}
 use Rattle.std.specs.Prelude.{IfOk, IfErr}
 use Rattle.arrow_core.specs.declared.error.Error.{Error}
@@ -92,9 +91,6 @@ struct_empty b vs e d h =
 pub ruleset new_structs = (struct_shape, struct_empty)
 
 -- ---- dictionaries
-
-pub dictionary_shape : (b : DictionaryBuilder) (items more : List Slot) → IsNewDictionary items b → items ≡ more → dictionary b.data_type b.items ≡ dictionary symbol_type more
-dictionary_shape b items more n e = ap (λ (t : DataType). dictionary t b.items) n.0 ∙ ap (dictionary symbol_type) (n.2 ∙ e)
 
 pub dictionary_empty : (b : DictionaryBuilder) → b.slots ≡ [] → All IsEmpty (dictionary_node b ∷ [])
 dictionary_empty b e = All-cons IsEmpty (dictionary_node b) [] (record { slots = ap length e; bytes = refl }) (λ k d lt. absurd (omega (arith, lt)))

@@ -5,9 +5,6 @@ use Rattle.std.specs.Prelude.{if◌then◌else◌}
 use Rattle.arrow_builders.specs.Nodes.{Node, Takes, HasSpare}
 use Rattle.avro_decode.specs.Masks.{bounded, later, content}
 use Rattle.avro_decode.specs.Growth.{Fills, AllFill, Grows, Reaches, AllReach, HaveSpare}
-use Rattle.avro_schema.specs.Number.{MovesForward}
-use Rattle.avro_reference.specs.Costs.{passed}
-use Rattle.avro_reference.proofs.Counting.{not_longer}
 use Rattle.avro_flat.proofs.Pushes.{takes_none}
 
 -- ---- one node
@@ -230,14 +227,3 @@ spare_append [] ns n (x ∷ xs) zs l h = absurd (omega (arith, l))
 spare_append (m ∷ ms) ns n (x ∷ xs) zs l h = let r = spare_append ms ns n xs zs (omega (arith, l)) h.2 in ((h.0, h.1, r.0), r.1)
 
 -- ---- one node over two calls
-
-pub fill_then : (x y z : List ℕ) (a b c : Node) → MovesForward x y → MovesForward y z → Fills true (passed x y) a b → Fills true (passed y z) b c → Fills true (passed x z) a c
-fill_then x y z a b c f g h k =
-    let l = not_longer x y f in
-    let m = not_longer y z g in
-    fill_more true (passed x y) (passed y z) (passed x z) a b c h k (omega (arith, l, m))
-
-pub spare_moved : (x y : List ℕ) (a b : Node) → MovesForward x y → Fills true (passed x y) a b → HasSpare (length x) a → HasSpare (length y) b
-spare_moved x y a b f h r =
-    let l = not_longer x y f in
-    spare_after_move true (length x) (length y) (passed x y) a b h refl (omega (arith, l)) r

@@ -1,12 +1,11 @@
 -- One step of the loops over fields and over rows.
-use Rattle.std.proofs.Common.{◌≡◌, ◌∙◌, ℕ, zero, suc, ◌+◌, ◌-◌, ◌<◌, ◌≤◌, Bool, true, false, List, [], ◌∷◌, ◌++◌, length, get_or, set, drop, map, Some, Ok, Err, refl, sym, ap, subst, add-one, arith}
+use Rattle.std.proofs.Common.{◌≡◌, ◌∙◌, ℕ, zero, suc, ◌+◌, ◌-◌, ◌<◌, ◌≤◌, Bool, true, false, List, [], ◌∷◌, ◌++◌, length, get_or, set, drop, map, Some, Ok, Err, refl, sym, ap, add-one, arith}
 use Rattle.std.proofs.lemmas.List.{map-set, get_or-map, map-append, length-append}
 use Rattle.std.proofs.Math.Seq.{drop-cons}
 use Rattle.arrow_types.specs.declared.slot.Slot.{Slot}
 use Rattle.arrow_builders.specs.declared.array.MutableArray.{MutableArray}
 use Rattle.arrow_builders.specs.MutableArrays.{builder_slots}
 use Rattle.avro_schema.specs.declared.schema.AvroField.{AvroField}
-use Rattle.avro_grammar.specs.Carried.{Carried, CarriedList}
 use Rattle.avro_grammar.specs.Skips.{Passed}
 use Rattle.avro_grammar.specs.Rows.{Pieces, no_pieces, total_kept, total_seen, total_hidden}
 use Rattle.avro_grammar.specs.ValidBlock.{kept}
@@ -124,9 +123,6 @@ module _ {X : Type 0} (rest : X → List ℕ) (shown calls : X → ℕ) (start h
   pub builder_fault : (t : BlockFault) → FieldFails t (push_one (builder_slots (get_or builders k d)) (read f.schema (rest here))) → IsFault t (row fields projection (rest start))
   builder_fault t e =
       kept_fault rest shown calls start here k i fields projection before (map builder_slots builders) f lt same is so taken t (rw (slots_here k builders d lk) e)
-
-pub carried_at : (fields : List AvroField) (i : ℕ) (f : AvroField) → i < length fields → f ≡ get_or fields i f → CarriedList fields → Carried f.schema
-carried_at fields i f lt is all = subst (λ (x : AvroField). Carried x.schema) (sym is) (all i f lt)
 
 -- ---- rows
 

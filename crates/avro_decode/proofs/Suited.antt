@@ -3,7 +3,6 @@ use Rattle.std.proofs.Common.{◌≡◌, ◌∙◌, ℕ, suc, ◌+◌, ◌*◌, 
 use Rattle.std.proofs.lemmas.List.{length-append}
 use Rattle.arrow_builders.specs.Children.{fields_of}
 use Rattle.arrow_builders.specs.MutableArrays.{nodes}
-use Rattle.arrow_builders.specs.Nested.{lists_node}
 use Rattle.arrow_builders.specs.Shapes.{Shape, Added, flat, dictionary, lists, fixed_lists, records, no_field, field, shape, nulls_in}
 use Rattle.arrow_builders.specs.declared.array.MutableArray.{MutableArray, List as ListOf, LargeList as LargeListOf, Struct}
 use Rattle.arrow_builders.specs.declared.list.DynMutableListArray.{DynMutableListArray}
@@ -47,12 +46,6 @@ suits_large_array item b = refl
 pub mask_array : (nulls : Bool) (item : Schema) → mask nulls (Array item) ≡ true ∷ mask false item
 unfolding shape-the_row-Schema-0 hidden-the_row-Schema-0 denote.Hole.Carrier.hidden
 mask_array nulls item = refl
-
-pub nodes_list : (b : DynMutableListArray) → nodes (ListOf b) ≡ lists_node b.lists ∷ nodes b.values.value
-nodes_list b = refl
-
-pub nodes_large_list : (b : DynMutableLargeListArray) → nodes (LargeListOf b) ≡ lists_node b.lists ∷ nodes b.values.value
-nodes_large_list b = refl
 
 -- ---- unions
 

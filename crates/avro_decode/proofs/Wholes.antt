@@ -1,7 +1,7 @@
 -- A block's columns, and the arrays of its builders.
-use Rattle.std.proofs.Common.{◌≡◌, ◌∙◌, ℕ, zero, suc, ◌+◌, ◌<◌, ◌≤◌, Bool, List, [], ◌∷◌, ◌++◌, length, get_or, drop, set, map, Result, Ok, Err, refl, sym, ap, subst, add-one, arith}
+use Rattle.std.proofs.Common.{◌≡◌, ◌∙◌, ℕ, zero, suc, ◌+◌, ◌<◌, ◌≤◌, Bool, List, [], ◌∷◌, ◌++◌, length, get_or, drop, set, map, Result, Ok, Err, refl, sym, ap, add-one, arith}
 use Rattle.std.specs.Prelude.{IfErr}
-use Rattle.std.proofs.lemmas.List.{append-nil, length-map, get_or-map, drop-set-lt}
+use Rattle.std.proofs.lemmas.List.{length-map, get_or-map, drop-set-lt}
 use Rattle.std.proofs.lemmas.List.FromFn.{get_or-map-range_with_len}
 use Rattle.std.proofs.Math.Seq.{drop-cons}
 use Rattle.arrow_core.specs.declared.error.Error.TheVariants.{OutOfMemory}
@@ -12,14 +12,12 @@ use Rattle.arrow_array.specs.Arrays.{array_slots}
 use Rattle.arrow_array.specs.Chunks.{AreSameLength}
 use Rattle.avro_schema.specs.declared.schema.AvroField.{AvroField}
 use Rattle.avro_grammar.specs.Rows.{Pieces, Rows, column, total_kept, total_seen, total_hidden}
-use Rattle.avro_grammar.specs.NegativeSize.{NegativeSize}
 use Rattle.avro_grammar.specs.ValidBlock.{kept}
 use Rattle.arrow_builders.specs.MutableArrays.{builder_slots}
 use Rattle.arrow_builders.specs.Shapes.{shape}
 use Rattle.arrow_builders.specs.declared.array.MutableArray.{MutableArray}
 use Rattle.avro_decode.specs.Suits.{AllSuit}
 use Rattle.avro_decode.proofs.Fields.{suit_length, shapes_length}
-use Rattle.avro_reference.specs.Skip.{Bad, Negative}
 use Rattle.avro_reference.specs.Block.{block}
 use Rattle.avro_reference.proofs.Exact.{block_gives_rows, block_is_bad, block_is_negative}
 use Rattle.avro_decode.specs.Columns.{columns, AreColumns}
@@ -105,10 +103,6 @@ none_left [] zero h = refl
 none_left [] (suc k) h = refl
 none_left (x ∷ xs) zero h = absurd (omega (arith, h))
 none_left (x ∷ xs) (suc k) h = none_left xs k (omega (arith, h))
-
-pub done_all : {A B X : Type 0} (f : A → X) (g : B → X) (done : List A) (builders : List B) (i : ℕ) (whole : List X) → length builders ≤ i → DoneSoFar f g done builders i whole → map f done ≡ whole
-done_all {A} {B} {X} f g done builders i whole le so =
-    sym (append-nil (map f done)) ∙ ap (λ (bs : List B). map f done ++ map g bs) (sym (none_left builders i le)) ∙ so
 
 -- ---- the columns of a table have one length
 

@@ -5,8 +5,10 @@ pub mod Decoder
 pub mod Decoding
 pub mod Faults
 pub mod Growth
+pub mod Keeping
 pub mod Making
 pub mod Masks
+pub mod Plans
 pub mod Refusals
 pub mod Steps
 pub mod Suits

@@ -22,13 +22,15 @@ ghost use Rattle.avro_decode.specs.Counting.{ShowsAtMost, CallsAtMost};
 ghost use Rattle.avro_decode.specs.Decoder.{projected, AreReady};
 ghost use Rattle.avro_decode.specs.Decoding.{BlockHasMemory, GivesBlock};
 ghost use Rattle.avro_decode.specs.Faults.{fault_error};
-ghost use Rattle.avro_decode.specs.Growth.{ChildrenGrow, ChildrenReach, ChildrenHaveSpare};
+ghost use Rattle.avro_decode.specs.Growth.{ChildrenGrow, ChildrenHaveSpare};
 ghost use Rattle.avro_decode.specs.Masks.{total, BytesBoundContent};
+ghost use Rattle.avro_decode.specs.Plans.{PlanFits, kept_fields};
 ghost use Rattle.avro_decode.specs.Refusals.{BelongTogether, AreCounted, BytesRefused, BlockRefused};
 ghost use Rattle.avro_decode.specs.Suits.{AllSuit};
 
 use crate::fault::BlockFault;
 use crate::kept::offsets_fit;
+use crate::plan::Plan;
 use crate::prepare::make_builders;
 use crate::reserve::reserve_rows;
 use crate::rows::decode_block;
@@ -183,7 +185,11 @@ pub fn deserialize_into<'a, C: Cursor<'a>>(
         all_content_is_whole(builders);
         return Err(Error::ExternalFormat(Reason::Rows));
     }
-    match decode_lent(cursor, rows, avro_fields, projection, builders) {
+    let plan = Plan {
+        avro_fields,
+        projection,
+    };
+    match decode_lent(cursor, rows, &plan, builders) {
         Ok(()) => Ok(()),
         Err(fault) => Err(error_of(fault)),
     }
@@ -208,34 +214,30 @@ fn error_of(fault: BlockFault) -> Error
 fn decode_lent<'a, C: Cursor<'a>>(
     cursor: &mut C,
     rows: usize,
-    avro_fields: &[AvroField],
-    projection: &[bool],
+    plan: &Plan,
     builders: &mut [MutableArray],
 ) -> std::result::Result<(), BlockFault>
-    requires lengths { length avro_fields.now ≡ length projection.now }
-    requires carried { CarriedList avro_fields.now }
-    requires suits { AllSuit (kept avro_fields.now projection.now) builders.old }
-    requires tight { All IsTight builders.old }
-    requires offsets { ChildrenReach (length (C.rest cursor.old))
-        (kept avro_fields.now projection.now) builders.old }
+    requires plan { PlanFits plan.now (length (C.rest cursor.old)) builders.old }
     requires enough { rows ≤ length (C.rest cursor.old) }
     ensures shapes { map shape builders.new ≡ map shape builders.old }
     ensures tight { OnOk result (All IsTight builders.new) }
     ensures grows { ChildrenGrow (passed (C.rest cursor.old) (C.rest cursor.new))
-        (kept avro_fields.now projection.now) builders.old builders.new }
+        (kept_fields plan.now) builders.old builders.new }
     ensures has_capacity { ChildrenHaveSpare (length (C.rest cursor.old))
-        (kept avro_fields.now projection.now) builders.old → BlockHasMemory result }
+        (kept_fields plan.now) builders.old → BlockHasMemory result }
     ensures moves { Moves C.rest C.calls cursor.old cursor.new }
     ensures reads { GivesBlock C.rest C.shown C.calls cursor.old cursor.new
         (map builder_slots builders.old) (map builder_slots builders.new) result
-        (block rows avro_fields.now projection.now (C.rest cursor.old)) }
+        (block rows plan.now.avro_fields.now plan.now.projection.now (C.rest cursor.old)) }
     ensures fixed_content { All HasFixedContent builders.new }
 {
     let mut lent = Lent {
         cursor: &mut *cursor,
         of: &PhantomData,
     };
-    let read = decode_block(&mut lent, rows, avro_fields, projection, builders);
+    // A copy, so that a row needn't load the plan again.
+    let plan = *plan;
+    let read = decode_block(&mut lent, rows, &plan, builders);
     // For the clause `fixed_content` alone: it looks at each node once for a block.
     all_content_is_whole(builders);
     read

@@ -5,7 +5,7 @@ ghost use Rattle.arrow_types.specs.Numbers.{greatest_offset};
 ghost use Rattle.arrow_types.specs.declared.slot.Slot.TheVariants.{List as ListSlot};
 ghost use Rattle.arrow_builders.specs.Nested.{items_of, lists_node};
 ghost use Rattle.arrow_builders.specs.Nodes.{Takes};
-ghost use Rattle.arrow_builders.specs.MutableArrays.{builder_kind, builder_slots, nodes};
+ghost use Rattle.arrow_builders.specs.MutableArrays.{builder_kind, builder_slots};
 ghost use Rattle.arrow_builders.specs.Shapes.{shape};
 ghost use Rattle.arrow_builders.specs.declared.array.MutableArray.{List, LargeList, Struct};
 ghost use Rattle.avro_schema.specs.declared.schema.Schema.{Array};
@@ -15,8 +15,9 @@ ghost use Rattle.avro_reference.specs.Listed.{read_union_of, read_fields_of, rea
 ghost use Rattle.avro_reference.specs.Costs.{passed, Moves, CostsKept};
 ghost use Rattle.avro_flat.specs.Decoding.{Gives, HasMemory};
 ghost use Rattle.avro_decode.specs.Decoding.{GivesFields, null_or, null_at, pair_at, sized_items, all_blocks};
+ghost use Rattle.avro_decode.specs.Keeping.{Keeps, KeepsMember};
 ghost use Rattle.avro_decode.specs.Masks.{mask};
-ghost use Rattle.avro_decode.specs.Growth.{mask_pair, masks, Grows, AllOffsetsReach, HaveSpare, ChildrenGrow, ChildrenReach, ChildrenHaveSpare};
+ghost use Rattle.avro_decode.specs.Growth.{mask_pair, masks, AllOffsetsReach, ChildrenGrow, ChildrenReach, ChildrenHaveSpare};
 ghost use Rattle.avro_decode.specs.Suits.{Suits, AllSuit};
 ghost use Rattle.avro_decode.specs.Growth.{SuitsPair, HasKindOf};
 ghost use Rattle.arrow_builders.specs.Tight.{IsTight, AllTight};
@@ -47,16 +48,9 @@ pub fn decode_value<C: Ahead>(
     requires tight { IsTight builder.old }
     requires offsets { AllOffsetsReach (mask true schema.now) (length (C.rest cursor.old))
         builder.old }
-    ensures shape { shape builder.new ≡ shape builder.old }
-    ensures tight { OnOk result (IsTight builder.new) }
-    ensures grows { Grows (mask false schema.now) (passed (C.rest cursor.old) (C.rest cursor.new))
-        (nodes builder.old) (nodes builder.new) }
-    ensures has_capacity { HaveSpare (mask false schema.now) (length (C.rest cursor.old))
-        (nodes builder.old) → HasMemory result }
-    ensures same { C.whose cursor.new ≡ C.whose cursor.old }
-    ensures moves { Moves C.rest C.calls cursor.old cursor.new }
+    ensures keeps { Keeps C.rest C.shown C.calls C.whose (mask false schema.now)
+        cursor.old cursor.new builder.old builder.new result }
     ensures shorter { OnOk result (length (C.rest cursor.new) < length (C.rest cursor.old)) }
-    ensures costs { OnOk result (CostsKept C.rest C.shown C.calls cursor.old cursor.new) }
     ensures reads { Gives (λ _. (builder_slots builder.new, C.rest cursor.new)) result
         (push_one (builder_slots builder.old) (read schema.now (C.rest cursor.old))) }
 {
@@ -81,16 +75,9 @@ fn decode_no_union<C: Ahead>(
     requires tight { IsTight builder.old }
     requires offsets { AllOffsetsReach (mask true schema.now) (length (C.rest cursor.old))
         builder.old }
-    ensures shape { shape builder.new ≡ shape builder.old }
-    ensures tight { OnOk result (IsTight builder.new) }
-    ensures grows { Grows (mask false schema.now) (passed (C.rest cursor.old) (C.rest cursor.new))
-        (nodes builder.old) (nodes builder.new) }
-    ensures has_capacity { HaveSpare (mask false schema.now) (length (C.rest cursor.old))
-        (nodes builder.old) → HasMemory result }
-    ensures same { C.whose cursor.new ≡ C.whose cursor.old }
-    ensures moves { Moves C.rest C.calls cursor.old cursor.new }
+    ensures keeps { Keeps C.rest C.shown C.calls C.whose (mask false schema.now)
+        cursor.old cursor.new builder.old builder.new result }
     ensures shorter { OnOk result (length (C.rest cursor.new) < length (C.rest cursor.old)) }
-    ensures costs { OnOk result (CostsKept C.rest C.shown C.calls cursor.old cursor.new) }
     ensures reads { Gives (λ _. (builder_slots builder.new, C.rest cursor.new)) result
         (push_one (builder_slots builder.old) (read schema.now (C.rest cursor.old))) }
 {
@@ -122,16 +109,9 @@ fn decode_union<C: Ahead>(
     requires tight { IsTight builder.old }
     requires offsets { AllOffsetsReach (mask_pair members.now) (length (C.rest cursor.old))
         builder.old }
-    ensures shape { shape builder.new ≡ shape builder.old }
-    ensures tight { OnOk result (IsTight builder.new) }
-    ensures grows { Grows (mask_pair members.now) (passed (C.rest cursor.old) (C.rest cursor.new))
-        (nodes builder.old) (nodes builder.new) }
-    ensures has_capacity { HaveSpare (mask_pair members.now) (length (C.rest cursor.old))
-        (nodes builder.old) → HasMemory result }
-    ensures same { C.whose cursor.new ≡ C.whose cursor.old }
-    ensures moves { Moves C.rest C.calls cursor.old cursor.new }
+    ensures keeps { Keeps C.rest C.shown C.calls C.whose (mask_pair members.now)
+        cursor.old cursor.new builder.old builder.new result }
     ensures shorter { OnOk result (length (C.rest cursor.new) < length (C.rest cursor.old)) }
-    ensures costs { OnOk result (CostsKept C.rest C.shown C.calls cursor.old cursor.new) }
     ensures reads { Gives (λ _. (builder_slots builder.new, C.rest cursor.new)) result
         (push_one (builder_slots builder.old) (read_union_of members.now (C.rest cursor.old))) }
 {
@@ -164,16 +144,8 @@ fn decode_pair<C: Ahead>(
     requires tight { IsTight builder.old }
     requires offsets { AllOffsetsReach (mask true schema.now) (length (C.rest cursor.old) + 1)
         builder.old }
-    ensures shape { shape builder.new ≡ shape builder.old }
-    ensures tight { OnOk result (IsTight builder.new) }
-    ensures grows { Grows (mask true schema.now)
-        (passed (C.rest cursor.old) (C.rest cursor.new) + 1) (nodes builder.old)
-        (nodes builder.new) }
-    ensures has_capacity { HaveSpare (mask true schema.now) (length (C.rest cursor.old) + 1)
-        (nodes builder.old) → HasMemory result }
-    ensures same { C.whose cursor.new ≡ C.whose cursor.old }
-    ensures moves { Moves C.rest C.calls cursor.old cursor.new }
-    ensures costs { OnOk result (CostsKept C.rest C.shown C.calls cursor.old cursor.new) }
+    ensures keeps { KeepsMember C.rest C.shown C.calls C.whose (mask true schema.now)
+        cursor.old cursor.new builder.old builder.new result }
     ensures reads { Gives (λ _. (builder_slots builder.new, C.rest cursor.new)) result
         (push_one (builder_slots builder.old)
         (pair_at index null_first schema.now (C.rest cursor.old))) }
@@ -214,16 +186,8 @@ fn decode_member<C: Ahead>(
     requires tight { IsTight builder.old }
     requires offsets { AllOffsetsReach (mask true schema.now) (length (C.rest cursor.old) + 1)
         builder.old }
-    ensures shape { shape builder.new ≡ shape builder.old }
-    ensures tight { OnOk result (IsTight builder.new) }
-    ensures grows { Grows (mask true schema.now)
-        (passed (C.rest cursor.old) (C.rest cursor.new) + 1) (nodes builder.old)
-        (nodes builder.new) }
-    ensures has_capacity { HaveSpare (mask true schema.now) (length (C.rest cursor.old) + 1)
-        (nodes builder.old) → HasMemory result }
-    ensures same { C.whose cursor.new ≡ C.whose cursor.old }
-    ensures moves { Moves C.rest C.calls cursor.old cursor.new }
-    ensures costs { OnOk result (CostsKept C.rest C.shown C.calls cursor.old cursor.new) }
+    ensures keeps { KeepsMember C.rest C.shown C.calls C.whose (mask true schema.now)
+        cursor.old cursor.new builder.old builder.new result }
     ensures reads { Gives (λ _. (builder_slots builder.new, C.rest cursor.new)) result
         (push_one (builder_slots builder.old) (null_or null schema.now (C.rest cursor.old))) }
 {
@@ -247,17 +211,9 @@ fn decode_array<C: Ahead>(
     requires tight { IsTight (List lists.old) }
     requires offsets { AllOffsetsReach (mask true (Array item.now)) (length (C.rest cursor.old))
         (List lists.old) }
-    ensures shape { shape (List lists.new) ≡ shape (List lists.old) }
-    ensures tight { OnOk result (IsTight (List lists.new)) }
-    ensures grows { Grows (mask false (Array item.now))
-        (passed (C.rest cursor.old) (C.rest cursor.new)) (nodes (List lists.old))
-        (nodes (List lists.new)) }
-    ensures has_capacity { HaveSpare (mask false (Array item.now)) (length (C.rest cursor.old))
-        (nodes (List lists.old)) → HasMemory result }
-    ensures same { C.whose cursor.new ≡ C.whose cursor.old }
-    ensures moves { Moves C.rest C.calls cursor.old cursor.new }
+    ensures keeps { Keeps C.rest C.shown C.calls C.whose (mask false (Array item.now))
+        cursor.old cursor.new (List lists.old) (List lists.new) result }
     ensures shorter { OnOk result (length (C.rest cursor.new) < length (C.rest cursor.old)) }
-    ensures costs { OnOk result (CostsKept C.rest C.shown C.calls cursor.old cursor.new) }
     ensures reads { Gives (λ _. (builder_slots (List lists.new), C.rest cursor.new)) result
         (push_one (builder_slots (List lists.old)) (read (Array item.now) (C.rest cursor.old))) }
 {
@@ -278,17 +234,9 @@ fn decode_large_array<C: Ahead>(
     requires tight { IsTight (LargeList lists.old) }
     requires offsets { AllOffsetsReach (mask true (Array item.now)) (length (C.rest cursor.old))
         (LargeList lists.old) }
-    ensures shape { shape (LargeList lists.new) ≡ shape (LargeList lists.old) }
-    ensures tight { OnOk result (IsTight (LargeList lists.new)) }
-    ensures grows { Grows (mask false (Array item.now))
-        (passed (C.rest cursor.old) (C.rest cursor.new)) (nodes (LargeList lists.old))
-        (nodes (LargeList lists.new)) }
-    ensures has_capacity { HaveSpare (mask false (Array item.now)) (length (C.rest cursor.old))
-        (nodes (LargeList lists.old)) → HasMemory result }
-    ensures same { C.whose cursor.new ≡ C.whose cursor.old }
-    ensures moves { Moves C.rest C.calls cursor.old cursor.new }
+    ensures keeps { Keeps C.rest C.shown C.calls C.whose (mask false (Array item.now))
+        cursor.old cursor.new (LargeList lists.old) (LargeList lists.new) result }
     ensures shorter { OnOk result (length (C.rest cursor.new) < length (C.rest cursor.old)) }
-    ensures costs { OnOk result (CostsKept C.rest C.shown C.calls cursor.old cursor.new) }
     ensures reads { Gives (λ _. (builder_slots (LargeList lists.new), C.rest cursor.new)) result
         (push_one (builder_slots (LargeList lists.old))
         (read (Array item.now) (C.rest cursor.old))) }
@@ -310,16 +258,9 @@ fn decode_blocks<C: Ahead>(
     requires tight { IsTight child.old }
     requires offsets { AllOffsetsReach (mask true item.now) (length (C.rest cursor.old))
         child.old }
-    ensures shape { shape child.new ≡ shape child.old }
-    ensures tight { OnOk result (IsTight child.new) }
-    ensures grows { Grows (mask false item.now) (passed (C.rest cursor.old) (C.rest cursor.new))
-        (nodes child.old) (nodes child.new) }
-    ensures has_capacity { HaveSpare (mask false item.now) (length (C.rest cursor.old))
-        (nodes child.old) → HasMemory result }
-    ensures same { C.whose cursor.new ≡ C.whose cursor.old }
-    ensures moves { Moves C.rest C.calls cursor.old cursor.new }
+    ensures keeps { Keeps C.rest C.shown C.calls C.whose (mask false item.now) cursor.old cursor.new
+        child.old child.new result }
     ensures shorter { OnOk result (length (C.rest cursor.new) < length (C.rest cursor.old)) }
-    ensures costs { OnOk result (CostsKept C.rest C.shown C.calls cursor.old cursor.new) }
     ensures reads { Gives (λ _. (builder_slots child.new, C.rest cursor.new)) result
         (all_blocks (read item.now) (builder_slots child.old) (C.rest cursor.old)) }
 {
@@ -348,15 +289,8 @@ fn decode_block_items<C: Ahead>(
     requires tight { IsTight child.old }
     requires offsets { AllOffsetsReach (mask true item.now) (length (C.rest cursor.old))
         child.old }
-    ensures shape { shape child.new ≡ shape child.old }
-    ensures tight { OnOk result (IsTight child.new) }
-    ensures grows { Grows (mask false item.now) (passed (C.rest cursor.old) (C.rest cursor.new))
-        (nodes child.old) (nodes child.new) }
-    ensures has_capacity { HaveSpare (mask false item.now) (length (C.rest cursor.old))
-        (nodes child.old) → HasMemory result }
-    ensures same { C.whose cursor.new ≡ C.whose cursor.old }
-    ensures moves { Moves C.rest C.calls cursor.old cursor.new }
-    ensures costs { OnOk result (CostsKept C.rest C.shown C.calls cursor.old cursor.new) }
+    ensures keeps { Keeps C.rest C.shown C.calls C.whose (mask false item.now) cursor.old cursor.new
+        child.old child.new result }
     ensures reads { Gives (λ _. (builder_slots child.new, C.rest cursor.new)) result
         (block_items (read item.now) count (builder_slots child.old) (C.rest cursor.old)) }
 {
@@ -382,15 +316,8 @@ fn decode_sized<C: Ahead>(
     requires tight { IsTight child.old }
     requires offsets { AllOffsetsReach (mask true item.now) (length (C.rest cursor.old))
         child.old }
-    ensures shape { shape child.new ≡ shape child.old }
-    ensures tight { OnOk result (IsTight child.new) }
-    ensures grows { Grows (mask false item.now) (passed (C.rest cursor.old) (C.rest cursor.new))
-        (nodes child.old) (nodes child.new) }
-    ensures has_capacity { HaveSpare (mask false item.now) (length (C.rest cursor.old))
-        (nodes child.old) → HasMemory result }
-    ensures same { C.whose cursor.new ≡ C.whose cursor.old }
-    ensures moves { Moves C.rest C.calls cursor.old cursor.new }
-    ensures costs { OnOk result (CostsKept C.rest C.shown C.calls cursor.old cursor.new) }
+    ensures keeps { Keeps C.rest C.shown C.calls C.whose (mask false item.now) cursor.old cursor.new
+        child.old child.new result }
     ensures reads { Gives (λ _. (builder_slots child.new, C.rest cursor.new)) result
         (sized_items (read item.now) count (builder_slots child.old) (C.rest cursor.old)) }
 {
@@ -418,15 +345,8 @@ pub fn decode_items<C: Ahead>(
     requires tight { IsTight child.old }
     requires offsets { AllOffsetsReach (mask true item.now) (length (C.rest cursor.old))
         child.old }
-    ensures shape { shape child.new ≡ shape child.old }
-    ensures tight { OnOk result (IsTight child.new) }
-    ensures grows { Grows (mask false item.now) (passed (C.rest cursor.old) (C.rest cursor.new))
-        (nodes child.old) (nodes child.new) }
-    ensures has_capacity { HaveSpare (mask false item.now) (length (C.rest cursor.old))
-        (nodes child.old) → HasMemory result }
-    ensures same { C.whose cursor.new ≡ C.whose cursor.old }
-    ensures moves { Moves C.rest C.calls cursor.old cursor.new }
-    ensures costs { OnOk result (CostsKept C.rest C.shown C.calls cursor.old cursor.new) }
+    ensures keeps { Keeps C.rest C.shown C.calls C.whose (mask false item.now) cursor.old cursor.new
+        child.old child.new result }
     ensures reads { Gives (λ _. (builder_slots child.new, C.rest cursor.new)) result
         (items (read item.now) count (builder_slots child.old) (C.rest cursor.old)) }
 {
@@ -450,15 +370,8 @@ fn decode_nested_items<C: Ahead>(
     requires tight { IsTight child.old }
     requires offsets { AllOffsetsReach (mask true item.now) (length (C.rest cursor.old))
         child.old }
-    ensures shape { shape child.new ≡ shape child.old }
-    ensures tight { OnOk result (IsTight child.new) }
-    ensures grows { Grows (mask false item.now) (passed (C.rest cursor.old) (C.rest cursor.new))
-        (nodes child.old) (nodes child.new) }
-    ensures has_capacity { HaveSpare (mask false item.now) (length (C.rest cursor.old))
-        (nodes child.old) → HasMemory result }
-    ensures same { C.whose cursor.new ≡ C.whose cursor.old }
-    ensures moves { Moves C.rest C.calls cursor.old cursor.new }
-    ensures costs { OnOk result (CostsKept C.rest C.shown C.calls cursor.old cursor.new) }
+    ensures keeps { Keeps C.rest C.shown C.calls C.whose (mask false item.now) cursor.old cursor.new
+        child.old child.new result }
     ensures reads { Gives (λ _. (builder_slots child.new, C.rest cursor.new)) result
         (items (read item.now) count (builder_slots child.old) (C.rest cursor.old)) }
 {
@@ -482,17 +395,9 @@ fn decode_record<C: Ahead>(
     requires tight { IsTight (Struct records.old) }
     requires offsets { AllOffsetsReach (true ∷ masks true fields.now) (length (C.rest cursor.old))
         (Struct records.old) }
-    ensures shape { shape (Struct records.new) ≡ shape (Struct records.old) }
-    ensures tight { OnOk result (IsTight (Struct records.new)) }
-    ensures grows { Grows (true ∷ masks false fields.now)
-        (passed (C.rest cursor.old) (C.rest cursor.new)) (nodes (Struct records.old))
-        (nodes (Struct records.new)) }
-    ensures has_capacity { HaveSpare (true ∷ masks false fields.now) (length (C.rest cursor.old))
-        (nodes (Struct records.old)) → HasMemory result }
-    ensures same { C.whose cursor.new ≡ C.whose cursor.old }
-    ensures moves { Moves C.rest C.calls cursor.old cursor.new }
+    ensures keeps { Keeps C.rest C.shown C.calls C.whose (true ∷ masks false fields.now)
+        cursor.old cursor.new (Struct records.old) (Struct records.new) result }
     ensures shorter { OnOk result (length (C.rest cursor.new) < length (C.rest cursor.old)) }
-    ensures costs { OnOk result (CostsKept C.rest C.shown C.calls cursor.old cursor.new) }
     ensures reads { Gives (λ _. (builder_slots (Struct records.new), C.rest cursor.new)) result
         (push_one (builder_slots (Struct records.old)) (read_record_of
         fields.now (C.rest cursor.old))) }

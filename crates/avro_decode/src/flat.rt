@@ -1,16 +1,15 @@
 //! Flat values, each into the builder of its kind.
 
-ghost use Rattle.std.specs.Prelude.{length, ◌≡◌, ◌≤◌, ◌∷◌, [], true, false, OnOk};
-ghost use Rattle.arrow_builders.specs.MutableArrays.{builder_slots, builder_kind, nodes};
+ghost use Rattle.std.specs.Prelude.{length, ◌≡◌, ◌∷◌, [], true, false};
+ghost use Rattle.arrow_builders.specs.MutableArrays.{builder_slots, builder_kind};
 ghost use Rattle.arrow_builders.specs.Shapes.{shape};
-ghost use Rattle.arrow_builders.specs.Tight.{IsTight};
 ghost use Rattle.avro_schema.specs.declared.schema.Schema.{Fixed as FixedSchema};
 ghost use Rattle.avro_grammar.specs.Carried.{IsFixedSize};
 ghost use Rattle.avro_infer.specs.Inference.{HasNoParts};
 ghost use Rattle.avro_reference.specs.Read.{push_one, read, fixed_at};
-ghost use Rattle.avro_reference.specs.Costs.{passed, Moves, CostsKept};
-ghost use Rattle.avro_flat.specs.Decoding.{Gives, HasMemory};
-ghost use Rattle.avro_decode.specs.Growth.{Grows, AllOffsetsReach, HaveSpare, HasFlatKind, fixed_kind};
+ghost use Rattle.avro_flat.specs.Decoding.{Gives};
+ghost use Rattle.avro_decode.specs.Growth.{AllOffsetsReach, HasFlatKind, fixed_kind};
+ghost use Rattle.avro_decode.specs.Keeping.{Keeps};
 ghost use Rattle.avro_decode.specs.Masks.{mask};
 ghost use Rattle.avro_decode.specs.Suits.{Suits};
 
@@ -35,15 +34,8 @@ pub fn decode_flat<C: Ahead>(
     requires suits { Suits schema.now (shape builder.old) }
     requires offsets { AllOffsetsReach (mask true schema.now) (length (C.rest cursor.old))
         builder.old }
-    ensures tight { OnOk result (IsTight builder.new) }
-    ensures shape { shape builder.new ≡ shape builder.old }
-    ensures grows { Grows (mask false schema.now) (passed (C.rest cursor.old) (C.rest cursor.new))
-        (nodes builder.old) (nodes builder.new) }
-    ensures has_capacity { HaveSpare (mask false schema.now) (length (C.rest cursor.old))
-        (nodes builder.old) → HasMemory result }
-    ensures same { C.whose cursor.new ≡ C.whose cursor.old }
-    ensures moves { Moves C.rest C.calls cursor.old cursor.new }
-    ensures costs { OnOk result (CostsKept C.rest C.shown C.calls cursor.old cursor.new) }
+    ensures keeps { Keeps C.rest C.shown C.calls C.whose (mask false schema.now)
+        cursor.old cursor.new builder.old builder.new result }
     ensures reads { Gives (λ _. (builder_slots builder.new, C.rest cursor.new)) result
         (push_one (builder_slots builder.old) (read schema.now (C.rest cursor.old))) }
 {
@@ -104,15 +96,8 @@ fn decode_fixed_type<C: Ahead>(
     requires size { IsFixedSize fixed.now.size fixed.now.logical }
     requires kind { builder_kind builder.old ≡ fixed_kind fixed.now.logical }
     requires suits { Suits (FixedSchema fixed.now) (shape builder.old) }
-    ensures tight { OnOk result (IsTight builder.new) }
-    ensures shape { shape builder.new ≡ shape builder.old }
-    ensures grows { Grows (true ∷ []) (passed (C.rest cursor.old) (C.rest cursor.new))
-        (nodes builder.old) (nodes builder.new) }
-    ensures has_capacity { HaveSpare (true ∷ []) (length (C.rest cursor.old))
-        (nodes builder.old) → HasMemory result }
-    ensures same { C.whose cursor.new ≡ C.whose cursor.old }
-    ensures moves { Moves C.rest C.calls cursor.old cursor.new }
-    ensures costs { OnOk result (CostsKept C.rest C.shown C.calls cursor.old cursor.new) }
+    ensures keeps { Keeps C.rest C.shown C.calls C.whose (true ∷ []) cursor.old cursor.new
+        builder.old builder.new result }
     ensures reads { Gives (λ _. (builder_slots builder.new, C.rest cursor.new)) result
         (push_one (builder_slots builder.old)
         (fixed_at fixed.now.size fixed.now.logical (C.rest cursor.old))) }

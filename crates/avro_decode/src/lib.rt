@@ -12,6 +12,7 @@ mod kept;
 mod kept_rows;
 mod laws;
 mod make;
+mod plan;
 mod prepare;
 mod reserve;
 mod rows;

@@ -25,8 +25,8 @@ use avro_infer::all_fit;
 use avro_schema::AvroField;
 use std::alloc::Global;
 
-/// Ok where fields, Avro fields and projection belong together, the symbols of kept enums aside; else
-/// the first refusal.
+/// Ok where fields, Avro fields and projection belong together, the symbols of kept enums aside;
+/// else the first refusal.
 pub(crate) fn check_types(
     fields: &[Field],
     avro_fields: &[AvroField],
@@ -69,8 +69,8 @@ fn check_fields(fields: &[Field], avro_fields: &[AvroField], projection: &[bool]
 /// In this order: `InvalidArgumentError(Lengths)` where the lengths of fields, Avro fields and
 /// projection differ, `NotYetImplemented(NoField)` where there is no field,
 /// `NotYetImplemented(NotCarried)` where a schema isn't carried, be it kept or not,
-/// `InvalidArgumentError(FieldType)` where a field hasn't the type, in small or large forms, and the
-/// nullability of its schema,
+/// `InvalidArgumentError(FieldType)` where a field hasn't the type, in small or large forms, and
+/// the nullability of its schema,
 /// `NotYetImplemented(Float)` where a kept schema holds a float or a double at any depth, and
 /// `Overflow` where one holds an enum whose symbols are more than 2147483647, or have more bytes
 /// together. `OutOfMemory` at any time.

@@ -1,29 +1,30 @@
 //! Rows, each value into the builder of its column.
 
-ghost use Rattle.std.specs.Prelude.{◌≡◌, ◌≤◌, length, map, true, false, All, OnOk};
-ghost use Rattle.arrow_builders.specs.MutableArrays.{builder_slots, nodes};
+ghost use Rattle.std.specs.Prelude.{◌≡◌, ◌≤◌, length, map, true, false};
+ghost use Rattle.arrow_builders.specs.MutableArrays.{builder_slots};
 ghost use Rattle.arrow_builders.specs.Shapes.{shape};
 ghost use Rattle.arrow_builders.specs.Tight.{IsTight};
-ghost use Rattle.avro_grammar.specs.Carried.{Carried, CarriedList};
-ghost use Rattle.avro_grammar.specs.ValidBlock.{kept};
+ghost use Rattle.avro_grammar.specs.Carried.{Carried};
 ghost use Rattle.avro_reference.specs.Read.{push_one, items, read};
 ghost use Rattle.avro_reference.specs.Skip.{skip};
 ghost use Rattle.avro_reference.specs.Block.{row, rows as rows_at, block};
-ghost use Rattle.avro_reference.specs.Costs.{passed, Moves, CostsKept};
-ghost use Rattle.avro_flat.specs.Decoding.{Gives, HasMemory};
+ghost use Rattle.avro_reference.specs.Costs.{Moves};
 ghost use Rattle.avro_decode.specs.Decoding.{BlockHasMemory, GivesField, PassesField, GivesRow, GivesRows, GivesBlock};
-ghost use Rattle.avro_decode.specs.Growth.{Grows, AllOffsetsReach, HaveSpare, ChildrenGrow, ChildrenReach, ChildrenHaveSpare};
+ghost use Rattle.avro_decode.specs.Growth.{AllOffsetsReach};
+ghost use Rattle.avro_decode.specs.Keeping.{KeepsField};
 ghost use Rattle.avro_decode.specs.Masks.{mask};
-ghost use Rattle.avro_decode.specs.Suits.{Suits, AllSuit};
+ghost use Rattle.avro_decode.specs.Plans.{PlanFits, KeepsRows};
+ghost use Rattle.avro_decode.specs.Suits.{Suits};
 
 use crate::decode::{decode_items, decode_value};
 use crate::fault::BlockFault;
 use crate::kept_rows::{all_kept, decode_kept_rows};
+use crate::plan::Plan;
 use crate::steps::MOST_STEPS;
 use arrow_builders::MutableArray;
 use avro_flat::DecodeFault;
 use avro_reference::Ahead;
-use avro_schema::{AvroField, AvroSchema};
+use avro_schema::AvroSchema;
 use avro_skip::{SkipFault, skip_value};
 
 /// Reads the rows of a whole block.
@@ -31,30 +32,18 @@ use avro_skip::{SkipFault, skip_value};
 pub fn decode_block<C: Ahead>(
     cursor: &mut C,
     rows: usize,
-    avro_fields: &[AvroField],
-    projection: &[bool],
+    plan: &Plan,
     builders: &mut [MutableArray],
 ) -> Result<(), BlockFault>
-    requires lengths { length avro_fields.now ≡ length projection.now }
-    requires carried { CarriedList avro_fields.now }
-    requires suits { AllSuit (kept avro_fields.now projection.now) builders.old }
-    requires tight { All IsTight builders.old }
-    requires offsets { ChildrenReach (length (C.rest cursor.old))
-        (kept avro_fields.now projection.now) builders.old }
+    requires plan { PlanFits plan.now (length (C.rest cursor.old)) builders.old }
     requires enough { rows ≤ length (C.rest cursor.old) }
-    ensures shapes { map shape builders.new ≡ map shape builders.old }
-    ensures tight { OnOk result (All IsTight builders.new) }
-    ensures grows { ChildrenGrow (passed (C.rest cursor.old) (C.rest cursor.new))
-        (kept avro_fields.now projection.now) builders.old builders.new }
-    ensures has_capacity { ChildrenHaveSpare (length (C.rest cursor.old))
-        (kept avro_fields.now projection.now) builders.old → BlockHasMemory result }
-    ensures same { C.whose cursor.new ≡ C.whose cursor.old }
-    ensures moves { Moves C.rest C.calls cursor.old cursor.new }
+    ensures keeps { KeepsRows C.rest C.calls C.whose plan.now cursor.old cursor.new
+        builders.old builders.new result }
     ensures reads { GivesBlock C.rest C.shown C.calls cursor.old cursor.new
         (map builder_slots builders.old) (map builder_slots builders.new) result
-        (block rows avro_fields.now projection.now (C.rest cursor.old)) }
+        (block rows plan.now.avro_fields.now plan.now.projection.now (C.rest cursor.old)) }
 {
-    decode_rows(cursor, rows, avro_fields, projection, builders)?;
+    decode_rows(cursor, rows, plan, builders)?;
     if cursor.left() > 0 {
         return Err(BlockFault::Bytes);
     }
@@ -68,65 +57,45 @@ pub fn decode_block<C: Ahead>(
 fn decode_rows<C: Ahead>(
     cursor: &mut C,
     rows: usize,
-    avro_fields: &[AvroField],
-    projection: &[bool],
+    plan: &Plan,
     builders: &mut [MutableArray],
 ) -> Result<(), BlockFault>
-    requires lengths { length avro_fields.now ≡ length projection.now }
-    requires carried { CarriedList avro_fields.now }
-    requires suits { AllSuit (kept avro_fields.now projection.now) builders.old }
-    requires tight { All IsTight builders.old }
-    requires offsets { ChildrenReach (length (C.rest cursor.old))
-        (kept avro_fields.now projection.now) builders.old }
-    ensures shapes { map shape builders.new ≡ map shape builders.old }
-    ensures tight { OnOk result (All IsTight builders.new) }
-    ensures grows { ChildrenGrow (passed (C.rest cursor.old) (C.rest cursor.new))
-        (kept avro_fields.now projection.now) builders.old builders.new }
-    ensures has_capacity { ChildrenHaveSpare (length (C.rest cursor.old))
-        (kept avro_fields.now projection.now) builders.old → BlockHasMemory result }
-    ensures same { C.whose cursor.new ≡ C.whose cursor.old }
-    ensures moves { Moves C.rest C.calls cursor.old cursor.new }
+    requires plan { PlanFits plan.now (length (C.rest cursor.old)) builders.old }
+    ensures keeps { KeepsRows C.rest C.calls C.whose plan.now cursor.old cursor.new
+        builders.old builders.new result }
     ensures reads { GivesRows C.rest C.shown C.calls cursor.old cursor.new
         (map builder_slots builders.old) (map builder_slots builders.new) result
-        (rows_at rows avro_fields.now projection.now (C.rest cursor.old)) }
+        (rows_at rows plan.now.avro_fields.now plan.now.projection.now (C.rest cursor.old)) }
 {
+    let Plan {
+        avro_fields,
+        projection,
+    } = *plan;
     if avro_fields.len() == 1 && projection[0] {
         return decode_only_field(cursor, rows, &avro_fields[0].schema, &mut builders[0]);
     }
     if avro_fields.len() <= MOST_STEPS && all_kept(projection) {
-        return decode_kept_rows(cursor, rows, avro_fields, projection, builders);
+        return decode_kept_rows(cursor, rows, plan, builders);
     }
-    decode_each_row(cursor, rows, avro_fields, projection, builders)
+    decode_each_row(cursor, rows, plan, builders)
 }
 
 #[inline(always)]
 fn decode_each_row<C: Ahead>(
     cursor: &mut C,
     rows: usize,
-    avro_fields: &[AvroField],
-    projection: &[bool],
+    plan: &Plan,
     builders: &mut [MutableArray],
 ) -> Result<(), BlockFault>
-    requires lengths { length avro_fields.now ≡ length projection.now }
-    requires carried { CarriedList avro_fields.now }
-    requires suits { AllSuit (kept avro_fields.now projection.now) builders.old }
-    requires tight { All IsTight builders.old }
-    requires offsets { ChildrenReach (length (C.rest cursor.old))
-        (kept avro_fields.now projection.now) builders.old }
-    ensures shapes { map shape builders.new ≡ map shape builders.old }
-    ensures tight { OnOk result (All IsTight builders.new) }
-    ensures grows { ChildrenGrow (passed (C.rest cursor.old) (C.rest cursor.new))
-        (kept avro_fields.now projection.now) builders.old builders.new }
-    ensures has_capacity { ChildrenHaveSpare (length (C.rest cursor.old))
-        (kept avro_fields.now projection.now) builders.old → BlockHasMemory result }
-    ensures same { C.whose cursor.new ≡ C.whose cursor.old }
-    ensures moves { Moves C.rest C.calls cursor.old cursor.new }
+    requires plan { PlanFits plan.now (length (C.rest cursor.old)) builders.old }
+    ensures keeps { KeepsRows C.rest C.calls C.whose plan.now cursor.old cursor.new
+        builders.old builders.new result }
     ensures reads { GivesRows C.rest C.shown C.calls cursor.old cursor.new
         (map builder_slots builders.old) (map builder_slots builders.new) result
-        (rows_at rows avro_fields.now projection.now (C.rest cursor.old)) }
+        (rows_at rows plan.now.avro_fields.now plan.now.projection.now (C.rest cursor.old)) }
 {
     for _ in 0..rows {
-        decode_row(cursor, avro_fields, projection, builders)?;
+        decode_row(cursor, plan, builders)?;
     }
     Ok(())
 }
@@ -142,15 +111,8 @@ fn decode_only_field<C: Ahead>(
     requires tight { IsTight builder.old }
     requires offsets { AllOffsetsReach (mask true schema.now) (length (C.rest cursor.old))
         builder.old }
-    ensures shape { shape builder.new ≡ shape builder.old }
-    ensures tight { OnOk result (IsTight builder.new) }
-    ensures grows { Grows (mask false schema.now) (passed (C.rest cursor.old) (C.rest cursor.new))
-        (nodes builder.old) (nodes builder.new) }
-    ensures has_capacity { HaveSpare (mask false schema.now) (length (C.rest cursor.old))
-        (nodes builder.old) → BlockHasMemory result }
-    ensures same { C.whose cursor.new ≡ C.whose cursor.old }
-    ensures moves { Moves C.rest C.calls cursor.old cursor.new }
-    ensures costs { OnOk result (CostsKept C.rest C.shown C.calls cursor.old cursor.new) }
+    ensures keeps { KeepsField C.rest C.shown C.calls C.whose (mask false schema.now)
+        cursor.old cursor.new builder.old builder.new result }
     ensures reads { GivesField (λ _. (builder_slots builder.new, C.rest cursor.new)) result
         (items (read schema.now) rows (builder_slots builder.old) (C.rest cursor.old)) }
 {
@@ -165,28 +127,20 @@ fn decode_only_field<C: Ahead>(
 #[inline(always)]
 fn decode_row<C: Ahead>(
     cursor: &mut C,
-    avro_fields: &[AvroField],
-    projection: &[bool],
+    plan: &Plan,
     builders: &mut [MutableArray],
 ) -> Result<(), BlockFault>
-    requires lengths { length avro_fields.now ≡ length projection.now }
-    requires carried { CarriedList avro_fields.now }
-    requires suits { AllSuit (kept avro_fields.now projection.now) builders.old }
-    requires tight { All IsTight builders.old }
-    requires offsets { ChildrenReach (length (C.rest cursor.old))
-        (kept avro_fields.now projection.now) builders.old }
-    ensures shapes { map shape builders.new ≡ map shape builders.old }
-    ensures tight { OnOk result (All IsTight builders.new) }
-    ensures grows { ChildrenGrow (passed (C.rest cursor.old) (C.rest cursor.new))
-        (kept avro_fields.now projection.now) builders.old builders.new }
-    ensures has_capacity { ChildrenHaveSpare (length (C.rest cursor.old))
-        (kept avro_fields.now projection.now) builders.old → BlockHasMemory result }
-    ensures same { C.whose cursor.new ≡ C.whose cursor.old }
-    ensures moves { Moves C.rest C.calls cursor.old cursor.new }
+    requires plan { PlanFits plan.now (length (C.rest cursor.old)) builders.old }
+    ensures keeps { KeepsRows C.rest C.calls C.whose plan.now cursor.old cursor.new
+        builders.old builders.new result }
     ensures reads { GivesRow C.rest C.shown C.calls cursor.old cursor.new
         (map builder_slots builders.old) (map builder_slots builders.new) result
-        (row avro_fields.now projection.now (C.rest cursor.old)) }
+        (row plan.now.avro_fields.now plan.now.projection.now (C.rest cursor.old)) }
 {
+    let Plan {
+        avro_fields,
+        projection,
+    } = *plan;
     let mut column = 0;
     for i in 0..avro_fields.len() {
         let field = &avro_fields[i];
@@ -211,15 +165,8 @@ fn decode_field<C: Ahead>(
     requires tight { IsTight builder.old }
     requires offsets { AllOffsetsReach (mask true schema.now) (length (C.rest cursor.old))
         builder.old }
-    ensures shape { shape builder.new ≡ shape builder.old }
-    ensures tight { OnOk result (IsTight builder.new) }
-    ensures grows { Grows (mask false schema.now) (passed (C.rest cursor.old) (C.rest cursor.new))
-        (nodes builder.old) (nodes builder.new) }
-    ensures has_capacity { HaveSpare (mask false schema.now) (length (C.rest cursor.old))
-        (nodes builder.old) → BlockHasMemory result }
-    ensures same { C.whose cursor.new ≡ C.whose cursor.old }
-    ensures moves { Moves C.rest C.calls cursor.old cursor.new }
-    ensures costs { OnOk result (CostsKept C.rest C.shown C.calls cursor.old cursor.new) }
+    ensures keeps { KeepsField C.rest C.shown C.calls C.whose (mask false schema.now)
+        cursor.old cursor.new builder.old builder.new result }
     ensures reads { GivesField (λ _. (builder_slots builder.new, C.rest cursor.new)) result
         (push_one (builder_slots builder.old) (read schema.now (C.rest cursor.old))) }
 {

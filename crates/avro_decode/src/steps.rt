@@ -8,10 +8,10 @@ ghost use Rattle.arrow_builders.specs.Shapes.{shape, nulls_at, AllTake, FitsIn};
 ghost use Rattle.arrow_builders.specs.Tight.{IsTight};
 ghost use Rattle.avro_reference.specs.Read.{push_one, read};
 ghost use Rattle.avro_reference.specs.Listed.{read_union_of};
-ghost use Rattle.avro_reference.specs.Costs.{passed, Moves, CostsKept};
 ghost use Rattle.avro_flat.specs.Decoding.{Gives, HasMemory};
-ghost use Rattle.avro_decode.specs.Decoding.{GivesField, BlockHasMemory, null_or, pair_at};
-ghost use Rattle.avro_decode.specs.Growth.{SuitsPair, HasFlatKind, mask_pair, Grows, AllOffsetsReach, HaveSpare};
+ghost use Rattle.avro_decode.specs.Decoding.{GivesField, null_or, pair_at};
+ghost use Rattle.avro_decode.specs.Growth.{SuitsPair, HasFlatKind, mask_pair, AllOffsetsReach};
+ghost use Rattle.avro_decode.specs.Keeping.{Keeps, KeepsMember, KeepsField};
 ghost use Rattle.avro_decode.specs.Masks.{mask};
 ghost use Rattle.avro_decode.specs.Steps.{IsOfKind, StepFits, PairFits, PairStepFits, other_member, StepsFit};
 ghost use Rattle.avro_decode.specs.Suits.{Suits};
@@ -120,15 +120,8 @@ pub(crate) fn decode_by_step<C: Ahead>(
     requires tight { IsTight builder.old }
     requires offsets { AllOffsetsReach (mask true schema.now) (length (C.rest cursor.old))
         builder.old }
-    ensures shape { shape builder.new ≡ shape builder.old }
-    ensures tight { OnOk result (IsTight builder.new) }
-    ensures grows { Grows (mask false schema.now) (passed (C.rest cursor.old) (C.rest cursor.new))
-        (nodes builder.old) (nodes builder.new) }
-    ensures has_capacity { HaveSpare (mask false schema.now) (length (C.rest cursor.old))
-        (nodes builder.old) → BlockHasMemory result }
-    ensures same { C.whose cursor.new ≡ C.whose cursor.old }
-    ensures moves { Moves C.rest C.calls cursor.old cursor.new }
-    ensures costs { OnOk result (CostsKept C.rest C.shown C.calls cursor.old cursor.new) }
+    ensures keeps { KeepsField C.rest C.shown C.calls C.whose (mask false schema.now)
+        cursor.old cursor.new builder.old builder.new result }
     ensures reads { GivesField (λ _. (builder_slots builder.new, C.rest cursor.new)) result
         (push_one (builder_slots builder.old) (read schema.now (C.rest cursor.old))) }
 {
@@ -151,15 +144,8 @@ fn decode_step<C: Ahead>(
     requires tight { IsTight builder.old }
     requires offsets { AllOffsetsReach (mask true schema.now) (length (C.rest cursor.old))
         builder.old }
-    ensures shape { shape builder.new ≡ shape builder.old }
-    ensures tight { OnOk result (IsTight builder.new) }
-    ensures grows { Grows (mask false schema.now) (passed (C.rest cursor.old) (C.rest cursor.new))
-        (nodes builder.old) (nodes builder.new) }
-    ensures has_capacity { HaveSpare (mask false schema.now) (length (C.rest cursor.old))
-        (nodes builder.old) → HasMemory result }
-    ensures same { C.whose cursor.new ≡ C.whose cursor.old }
-    ensures moves { Moves C.rest C.calls cursor.old cursor.new }
-    ensures costs { OnOk result (CostsKept C.rest C.shown C.calls cursor.old cursor.new) }
+    ensures keeps { Keeps C.rest C.shown C.calls C.whose (mask false schema.now)
+        cursor.old cursor.new builder.old builder.new result }
     ensures reads { Gives (λ _. (builder_slots builder.new, C.rest cursor.new)) result
         (push_one (builder_slots builder.old) (read schema.now (C.rest cursor.old))) }
 {
@@ -190,15 +176,8 @@ fn decode_kind<C: Ahead>(
     requires tight { IsTight builder.old }
     requires offsets { AllOffsetsReach (mask true schema.now) (length (C.rest cursor.old))
         builder.old }
-    ensures shape { shape builder.new ≡ shape builder.old }
-    ensures tight { OnOk result (IsTight builder.new) }
-    ensures grows { Grows (mask false schema.now) (passed (C.rest cursor.old) (C.rest cursor.new))
-        (nodes builder.old) (nodes builder.new) }
-    ensures has_capacity { HaveSpare (mask false schema.now) (length (C.rest cursor.old))
-        (nodes builder.old) → HasMemory result }
-    ensures same { C.whose cursor.new ≡ C.whose cursor.old }
-    ensures moves { Moves C.rest C.calls cursor.old cursor.new }
-    ensures costs { OnOk result (CostsKept C.rest C.shown C.calls cursor.old cursor.new) }
+    ensures keeps { Keeps C.rest C.shown C.calls C.whose (mask false schema.now)
+        cursor.old cursor.new builder.old builder.new result }
     ensures reads { Gives (λ _. (builder_slots builder.new, C.rest cursor.new)) result
         (push_one (builder_slots builder.old) (read schema.now (C.rest cursor.old))) }
 {
@@ -243,15 +222,8 @@ fn decode_frequent<C: Ahead>(
     requires tight { IsTight builder.old }
     requires offsets { AllOffsetsReach (mask true schema.now) (length (C.rest cursor.old))
         builder.old }
-    ensures shape { shape builder.new ≡ shape builder.old }
-    ensures tight { OnOk result (IsTight builder.new) }
-    ensures grows { Grows (mask false schema.now) (passed (C.rest cursor.old) (C.rest cursor.new))
-        (nodes builder.old) (nodes builder.new) }
-    ensures has_capacity { HaveSpare (mask false schema.now) (length (C.rest cursor.old))
-        (nodes builder.old) → HasMemory result }
-    ensures same { C.whose cursor.new ≡ C.whose cursor.old }
-    ensures moves { Moves C.rest C.calls cursor.old cursor.new }
-    ensures costs { OnOk result (CostsKept C.rest C.shown C.calls cursor.old cursor.new) }
+    ensures keeps { Keeps C.rest C.shown C.calls C.whose (mask false schema.now)
+        cursor.old cursor.new builder.old builder.new result }
     ensures reads { Gives (λ _. (builder_slots builder.new, C.rest cursor.new)) result
         (push_one (builder_slots builder.old) (read schema.now (C.rest cursor.old))) }
 {
@@ -290,15 +262,8 @@ fn decode_any<C: Ahead>(
     requires tight { IsTight builder.old }
     requires offsets { AllOffsetsReach (mask true schema.now) (length (C.rest cursor.old))
         builder.old }
-    ensures shape { shape builder.new ≡ shape builder.old }
-    ensures tight { OnOk result (IsTight builder.new) }
-    ensures grows { Grows (mask false schema.now) (passed (C.rest cursor.old) (C.rest cursor.new))
-        (nodes builder.old) (nodes builder.new) }
-    ensures has_capacity { HaveSpare (mask false schema.now) (length (C.rest cursor.old))
-        (nodes builder.old) → HasMemory result }
-    ensures same { C.whose cursor.new ≡ C.whose cursor.old }
-    ensures moves { Moves C.rest C.calls cursor.old cursor.new }
-    ensures costs { OnOk result (CostsKept C.rest C.shown C.calls cursor.old cursor.new) }
+    ensures keeps { Keeps C.rest C.shown C.calls C.whose (mask false schema.now)
+        cursor.old cursor.new builder.old builder.new result }
     ensures reads { Gives (λ _. (builder_slots builder.new, C.rest cursor.new)) result
         (push_one (builder_slots builder.old) (read schema.now (C.rest cursor.old))) }
 {
@@ -320,15 +285,8 @@ fn decode_nullable<C: Ahead>(
     requires tight { IsTight builder.old }
     requires offsets { AllOffsetsReach (mask_pair members.now) (length (C.rest cursor.old))
         builder.old }
-    ensures shape { shape builder.new ≡ shape builder.old }
-    ensures tight { OnOk result (IsTight builder.new) }
-    ensures grows { Grows (mask_pair members.now) (passed (C.rest cursor.old) (C.rest cursor.new))
-        (nodes builder.old) (nodes builder.new) }
-    ensures has_capacity { HaveSpare (mask_pair members.now) (length (C.rest cursor.old))
-        (nodes builder.old) → HasMemory result }
-    ensures same { C.whose cursor.new ≡ C.whose cursor.old }
-    ensures moves { Moves C.rest C.calls cursor.old cursor.new }
-    ensures costs { OnOk result (CostsKept C.rest C.shown C.calls cursor.old cursor.new) }
+    ensures keeps { Keeps C.rest C.shown C.calls C.whose (mask_pair members.now)
+        cursor.old cursor.new builder.old builder.new result }
     ensures reads { Gives (λ _. (builder_slots builder.new, C.rest cursor.new)) result
         (push_one (builder_slots builder.old) (read_union_of members.now (C.rest cursor.old))) }
 {
@@ -364,16 +322,8 @@ fn decode_pair<C: Ahead>(
     requires tight { IsTight builder.old }
     requires offsets { AllOffsetsReach (mask true schema.now) (length (C.rest cursor.old) + 1)
         builder.old }
-    ensures shape { shape builder.new ≡ shape builder.old }
-    ensures tight { OnOk result (IsTight builder.new) }
-    ensures grows { Grows (mask true schema.now)
-        (passed (C.rest cursor.old) (C.rest cursor.new) + 1) (nodes builder.old)
-        (nodes builder.new) }
-    ensures has_capacity { HaveSpare (mask true schema.now) (length (C.rest cursor.old) + 1)
-        (nodes builder.old) → HasMemory result }
-    ensures same { C.whose cursor.new ≡ C.whose cursor.old }
-    ensures moves { Moves C.rest C.calls cursor.old cursor.new }
-    ensures costs { OnOk result (CostsKept C.rest C.shown C.calls cursor.old cursor.new) }
+    ensures keeps { KeepsMember C.rest C.shown C.calls C.whose (mask true schema.now)
+        cursor.old cursor.new builder.old builder.new result }
     ensures reads { Gives (λ _. (builder_slots builder.new, C.rest cursor.new)) result
         (push_one (builder_slots builder.old)
         (pair_at index null_first schema.now (C.rest cursor.old))) }
@@ -399,16 +349,8 @@ fn decode_member<C: Ahead>(
     requires tight { IsTight builder.old }
     requires offsets { AllOffsetsReach (mask true schema.now) (length (C.rest cursor.old) + 1)
         builder.old }
-    ensures shape { shape builder.new ≡ shape builder.old }
-    ensures tight { OnOk result (IsTight builder.new) }
-    ensures grows { Grows (mask true schema.now)
-        (passed (C.rest cursor.old) (C.rest cursor.new) + 1) (nodes builder.old)
-        (nodes builder.new) }
-    ensures has_capacity { HaveSpare (mask true schema.now) (length (C.rest cursor.old) + 1)
-        (nodes builder.old) → HasMemory result }
-    ensures same { C.whose cursor.new ≡ C.whose cursor.old }
-    ensures moves { Moves C.rest C.calls cursor.old cursor.new }
-    ensures costs { OnOk result (CostsKept C.rest C.shown C.calls cursor.old cursor.new) }
+    ensures keeps { KeepsMember C.rest C.shown C.calls C.whose (mask true schema.now)
+        cursor.old cursor.new builder.old builder.new result }
     ensures reads { Gives (λ _. (builder_slots builder.new, C.rest cursor.new)) result
         (push_one (builder_slots builder.old)
         (null_or null schema.now (C.rest cursor.old))) }

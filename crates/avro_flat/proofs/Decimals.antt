@@ -38,9 +38,6 @@ pub decimal_taken : (n : ℕ) (bytes part rest : List ℕ) (v : ℤ) → n ≤ 1
 decimal_taken n bytes part rest v short p e =
     decimal_some n bytes short p.0 ∙ (λ i. Some (slot.Integer (sym (e ∙ ap twos_complement p.1) i), sym p.2 i))
 
-pub part_short : (n : ℕ) (bytes part : List ℕ) → n ≤ 16 → n ≤ length bytes → part ≡ take n bytes → length part ≤ 16
-part_short n bytes part short le e = omega (arith, short, ap length e, length-take-le n bytes le)
-
 -- ---- behind a length
 
 pub counted_decimal : (bytes mid : List ℕ) (n : ℕ) → length_at bytes ≡ Some (n, mid) → decimal_at sized_at bytes ≡ decimal_at (bytes_at n) mid

@@ -30,3 +30,7 @@ items-bad f n m old bytes target s p e =
 pub items-err : (d : DecodeFault) (f : Reader Slot) (n m : ℕ) (old : List Slot) (bytes : List ℕ) (target : State) → n ≡ suc m → Fails d (push_one old (f bytes)) → items f n old bytes ≡ target → Fails d target
 items-err Bytes f n m old bytes target s h e = items-bad f n m old bytes target s h e
 items-err Memory f n m old bytes target s h e = tt
+
+-- readers that give the same at any bytes read the same items
+pub items_same : {f g : Reader Slot} → ((bytes : List ℕ) → f bytes ≡ g bytes) → (n : ℕ) (old : List Slot) (bytes : List ℕ) → items f n old bytes ≡ items g n old bytes
+items_same h n old bytes = λ i. items (λ b. h b i) n old bytes

@@ -4,6 +4,7 @@ pub mod Durations
 pub mod Filled
 pub mod Items
 pub mod Logical
+pub mod Many
 pub mod Sized
 pub mod Pushes
 pub mod Sets

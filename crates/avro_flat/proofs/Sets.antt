@@ -11,8 +11,6 @@ pub ruleset flats = (fills_none, number_fills, byte_fills, number_has_memory, by
 
 pub ruleset strings = (fills_none, push_none, push_some, string_good, string_wrong, string_short, string_none)
 
-pub ruleset many = (fills_none)
-
 pub ruleset fixed_values = (fills_none, push_none, drop_moves, still_moves)
 
 pub ruleset fixed_pushes = (takes_none, string_takes)

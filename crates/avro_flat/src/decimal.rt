@@ -5,7 +5,7 @@ ghost use Rattle.arrow_types.specs.declared.slot.Slot.TheVariants.{Integer as In
 ghost use Rattle.avro_schema.specs.Counts.{risen};
 ghost use Rattle.avro_grammar.specs.Encodes.{twos_complement};
 ghost use Rattle.avro_reference.specs.Prefix.{bytes_at, sized_at};
-ghost use Rattle.avro_reference.specs.Read.{push_one, decimal_at};
+ghost use Rattle.avro_reference.specs.Read.{push_one, decimal_at, items};
 ghost use Rattle.arrow_flat.specs.Builders.{plain_node};
 ghost use Rattle.arrow_flat.specs.Nodes.{HasSpare};
 ghost use Rattle.avro_reference.specs.Costs.{passed, Moves, CostsKept};
@@ -22,7 +22,7 @@ const MAX_LEN: usize = 16;
 
 /// Reads a decimal over bytes: a length from 0 to 16, and as many bytes, which are the digits
 /// without their point (Avro 1.11, "Decimal"). `Bytes` where the length is another, or fewer bytes
-/// follow.
+/// follow; `Memory`.
 #[inline(never)]
 #[tactic(auto, using(crate::proofs::Sets::decimals))]
 pub fn decode_decimal<C: Ahead>(
@@ -49,9 +49,34 @@ pub fn decode_decimal<C: Ahead>(
     pushed(values.push(Some(value)))
 }
 
+/// Reads `count` decimals over bytes, each into one more slot. `Bytes` where the bytes ahead don't
+/// begin with so many of them, each of at most 16 bytes; `Memory`. After an error the decimals
+/// before it may have their slots.
+pub fn decode_decimals<C: Ahead>(
+    cursor: &mut C,
+    count: u64,
+    values: &mut MutablePrimitiveArray<i128>,
+) -> Result<(), DecodeFault>
+    ensures data_type { values.new.data_type ≡ values.old.data_type }
+    ensures grows { Fills (passed (C.rest cursor.old) (C.rest cursor.new)) (plain_node values.old)
+        (plain_node values.new) }
+    ensures has_capacity { HasSpare (length (C.rest cursor.old)) (plain_node values.old)
+        → HasMemory result }
+    ensures same { C.whose cursor.new ≡ C.whose cursor.old }
+    ensures moves { Moves C.rest C.calls cursor.old cursor.new }
+    ensures costs { OnOk result (CostsKept C.rest C.shown C.calls cursor.old cursor.new) }
+    ensures reads { Gives (λ _. (values.new.slots, C.rest cursor.new)) result
+        (items (decimal_at sized_at) count values.old.slots (C.rest cursor.old)) }
+{
+    for _ in 0..count {
+        decode_decimal(cursor, values)?;
+    }
+    Ok(())
+}
+
 /// Reads a decimal over a fixed type: as many bytes as the type has, which are the digits without
 /// their point (Avro 1.11, "Decimal"). `Bytes` where the type has more than 16, or fewer bytes are
-/// ahead.
+/// ahead; `Memory`. The type has a byte at least.
 #[inline(never)]
 #[tactic(auto, using(crate::proofs::Sets::decimals))]
 pub fn decode_fixed_decimal<C: Ahead>(
@@ -75,6 +100,34 @@ pub fn decode_fixed_decimal<C: Ahead>(
         return Err(DecodeFault::Bytes);
     };
     pushed(values.push(Some(value)))
+}
+
+/// Reads `count` decimals over a fixed type of `size` bytes, each into one more slot. `Bytes` where
+/// fewer bytes are ahead than so many decimals have, or where there is one and the type has more
+/// than 16; `Memory`. After an error the decimals before it may have their slots. The type has a
+/// byte at least.
+pub fn decode_fixed_decimals<C: Ahead>(
+    cursor: &mut C,
+    size: usize,
+    count: u64,
+    values: &mut MutablePrimitiveArray<i128>,
+) -> Result<(), DecodeFault>
+    requires some { 1 ≤ size }
+    ensures data_type { values.new.data_type ≡ values.old.data_type }
+    ensures grows { Fills (passed (C.rest cursor.old) (C.rest cursor.new)) (plain_node values.old)
+        (plain_node values.new) }
+    ensures has_capacity { HasSpare (length (C.rest cursor.old)) (plain_node values.old)
+        → HasMemory result }
+    ensures same { C.whose cursor.new ≡ C.whose cursor.old }
+    ensures moves { Moves C.rest C.calls cursor.old cursor.new }
+    ensures costs { OnOk result (CostsKept C.rest C.shown C.calls cursor.old cursor.new) }
+    ensures reads { Gives (λ _. (values.new.slots, C.rest cursor.new)) result
+        (items (decimal_at (bytes_at size)) count values.old.slots (C.rest cursor.old)) }
+{
+    for _ in 0..count {
+        decode_fixed_decimal(cursor, size, values)?;
+    }
+    Ok(())
 }
 
 /// Takes so many bytes for a decimal. None where fewer are ahead, or where more than 16 are asked

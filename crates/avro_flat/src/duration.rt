@@ -3,7 +3,7 @@
 ghost use Rattle.std.specs.Prelude.{◌≡◌, ◌+◌, ◌≤◌, pos, ◌*ℤ◌, Some, length, take, drop, OnOk};
 ghost use Rattle.avro_schema.specs.declared.schema.FixedLogical.TheVariants.{Duration as DurationLogical};
 ghost use Rattle.avro_grammar.specs.Encodes.{signed_32};
-ghost use Rattle.avro_reference.specs.Read.{push_one, fixed_at};
+ghost use Rattle.avro_reference.specs.Read.{push_one, fixed_at, items};
 ghost use Rattle.arrow_flat.specs.Builders.{plain_node};
 ghost use Rattle.arrow_flat.specs.Nodes.{HasSpare};
 ghost use Rattle.avro_reference.specs.Costs.{passed, Moves, CostsKept};
@@ -24,7 +24,7 @@ const NANOS: i64 = 1_000_000;
 
 /// Reads a duration: months, days and milliseconds, which become nanoseconds (Avro 1.11,
 /// "Duration"). Each is read with a sign, as the slots have one. `Bytes` where fewer than 12 bytes
-/// are ahead.
+/// are ahead; `Memory`.
 #[inline(never)]
 #[tactic(auto, using(crate::proofs::Sets::durations))]
 pub fn decode_duration<C: Ahead>(
@@ -46,6 +46,30 @@ pub fn decode_duration<C: Ahead>(
         return Err(DecodeFault::Bytes);
     };
     pushed(values.push(Some(interval_of(bytes.as_slice()))))
+}
+
+/// Reads `count` durations, each into one more slot. `Bytes` where fewer bytes are ahead than so
+/// many durations have; `Memory`. After an error the durations before it may have their slots.
+pub fn decode_durations<C: Ahead>(
+    cursor: &mut C,
+    count: u64,
+    values: &mut MutablePrimitiveArray<MonthsDaysNs>,
+) -> Result<(), DecodeFault>
+    ensures data_type { values.new.data_type ≡ values.old.data_type }
+    ensures grows { Fills (passed (C.rest cursor.old) (C.rest cursor.new)) (plain_node values.old)
+        (plain_node values.new) }
+    ensures has_capacity { HasSpare (length (C.rest cursor.old)) (plain_node values.old)
+        → HasMemory result }
+    ensures same { C.whose cursor.new ≡ C.whose cursor.old }
+    ensures moves { Moves C.rest C.calls cursor.old cursor.new }
+    ensures costs { OnOk result (CostsKept C.rest C.shown C.calls cursor.old cursor.new) }
+    ensures reads { Gives (λ _. (values.new.slots, C.rest cursor.new)) result
+        (items (fixed_at 12 (Some DurationLogical)) count values.old.slots (C.rest cursor.old)) }
+{
+    for _ in 0..count {
+        decode_duration(cursor, values)?;
+    }
+    Ok(())
 }
 
 /// The interval that 12 bytes stand for: months, days and milliseconds (Avro 1.11, "Duration").

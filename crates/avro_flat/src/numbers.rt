@@ -40,6 +40,30 @@ pub fn decode_boolean<C: Ahead>(
     pushed(values.push(Some(byte == 1)))
 }
 
+/// Reads `count` booleans, each into one more slot. `Bytes` where the bytes ahead don't begin with
+/// so many booleans; `Memory`. After an error the booleans before it may have their slots.
+pub fn decode_booleans<C: Ahead>(
+    cursor: &mut C,
+    count: u64,
+    values: &mut MutableBooleanArray,
+) -> Result<(), DecodeFault>
+    ensures data_type { values.new.data_type ≡ values.old.data_type }
+    ensures grows { Fills (passed (C.rest cursor.old) (C.rest cursor.new)) (plain_node values.old)
+        (plain_node values.new) }
+    ensures has_capacity { HasSpare (length (C.rest cursor.old)) (plain_node values.old)
+        → HasMemory result }
+    ensures same { C.whose cursor.new ≡ C.whose cursor.old }
+    ensures moves { Moves C.rest C.calls cursor.old cursor.new }
+    ensures costs { OnOk result (CostsKept C.rest C.shown C.calls cursor.old cursor.new) }
+    ensures reads { Gives (λ _. (values.new.slots, C.rest cursor.new)) result
+        (items boolean_at count values.old.slots (C.rest cursor.old)) }
+{
+    for _ in 0..count {
+        decode_boolean(cursor, values)?;
+    }
+    Ok(())
+}
+
 /// Reads a number of 32 bits into one more slot. `Bytes` where no prefix of the bytes is a number,
 /// or it has more bits; `Memory`.
 #[inline(always)]
@@ -68,6 +92,30 @@ pub fn decode_int<C: Ahead>(
     }
 }
 
+/// Reads `count` numbers of 32 bits, each into one more slot. `Bytes` where the bytes ahead don't
+/// begin with so many of them; `Memory`. After an error the numbers before it may have their slots.
+pub fn decode_ints<C: Ahead>(
+    cursor: &mut C,
+    count: u64,
+    values: &mut MutablePrimitiveArray<i32>,
+) -> Result<(), DecodeFault>
+    ensures data_type { values.new.data_type ≡ values.old.data_type }
+    ensures grows { Fills (passed (C.rest cursor.old) (C.rest cursor.new)) (plain_node values.old)
+        (plain_node values.new) }
+    ensures has_capacity { HasSpare (length (C.rest cursor.old)) (plain_node values.old)
+        → HasMemory result }
+    ensures same { C.whose cursor.new ≡ C.whose cursor.old }
+    ensures moves { Moves C.rest C.calls cursor.old cursor.new }
+    ensures costs { OnOk result (CostsKept C.rest C.shown C.calls cursor.old cursor.new) }
+    ensures reads { Gives (λ _. (values.new.slots, C.rest cursor.new)) result
+        (items int_at count values.old.slots (C.rest cursor.old)) }
+{
+    for _ in 0..count {
+        decode_int(cursor, values)?;
+    }
+    Ok(())
+}
+
 /// Reads a number of 64 bits into one more slot. `Bytes` where no prefix of the bytes is a number;
 /// `Memory`.
 #[inline(always)]
@@ -94,8 +142,7 @@ pub fn decode_long<C: Ahead>(
 }
 
 /// Reads `count` numbers of 64 bits, each into one more slot. `Bytes` where the bytes ahead don't
-/// begin with so many numbers; `Memory`. The numbers before may have their slots then.
-#[tactic(auto, using(crate::proofs::Sets::many))]
+/// begin with so many numbers; `Memory`. After an error the numbers before it may have their slots.
 pub fn decode_longs<C: Ahead>(
     cursor: &mut C,
     count: u64,

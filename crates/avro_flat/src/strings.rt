@@ -3,7 +3,7 @@
 ghost use Rattle.std.specs.Prelude.{◌≡◌, ◌≤◌, ◌++◌, ◌∷◌, [], length, MatchResult, OnOk};
 ghost use Rattle.std.specs.Str.{IsUtf8};
 ghost use Rattle.arrow_types.specs.declared.slot.Slot.TheVariants.{String as StringSlot};
-ghost use Rattle.avro_reference.specs.Read.{push_one, string_at};
+ghost use Rattle.avro_reference.specs.Read.{push_one, string_at, items};
 ghost use Rattle.arrow_flat.specs.Builders.{content_node};
 ghost use Rattle.arrow_flat.specs.Nodes.{Takes, HasSpare};
 ghost use Rattle.avro_reference.specs.Costs.{passed, Moves, CostsKept};
@@ -18,7 +18,8 @@ use std::convert::AsSlice;
 use utf8_check::is_utf8;
 
 /// Reads a string: a length of 0 or more, and as many bytes, which have to be UTF-8 (Avro 1.11,
-/// "Primitive Types").
+/// "Primitive Types"). `Bytes` where the length is below 0, fewer bytes follow, or they aren't
+/// UTF-8; `Memory`. The builder's offsets can count what it holds and all bytes ahead.
 // Inlined into the loop over rows it would make the other fields slower.
 #[inline(never)]
 #[tactic(auto, using(crate::proofs::Sets::strings))]
@@ -46,6 +47,33 @@ pub fn decode_string<C: Ahead, O: Offset>(
         return Err(DecodeFault::Bytes);
     };
     push_string(values, bytes.as_slice())
+}
+
+/// Reads `count` strings, each into one more slot. `Bytes` where the bytes ahead don't begin with
+/// so many strings; `Memory`. After an error the strings before it may have their slots. The
+/// builder's offsets can count what it holds and all bytes ahead.
+pub fn decode_strings<C: Ahead, O: Offset>(
+    cursor: &mut C,
+    count: u64,
+    values: &mut MutableUtf8Array<O>,
+) -> Result<(), DecodeFault>
+    requires offsets { OffsetsReach O.IS_LARGE (length (C.rest cursor.old))
+        (content_node values.old) }
+    ensures data_type { values.new.data_type ≡ values.old.data_type }
+    ensures grows { Fills (passed (C.rest cursor.old) (C.rest cursor.new)) (content_node values.old)
+        (content_node values.new) }
+    ensures has_capacity { HasSpare (length (C.rest cursor.old)) (content_node values.old)
+        → HasMemory result }
+    ensures same { C.whose cursor.new ≡ C.whose cursor.old }
+    ensures moves { Moves C.rest C.calls cursor.old cursor.new }
+    ensures costs { OnOk result (CostsKept C.rest C.shown C.calls cursor.old cursor.new) }
+    ensures reads { Gives (λ _. (values.new.slots, C.rest cursor.new)) result
+        (items string_at count values.old.slots (C.rest cursor.old)) }
+{
+    for _ in 0..count {
+        decode_string(cursor, values)?;
+    }
+    Ok(())
 }
 
 /// Pushes a string, which has to be UTF-8.

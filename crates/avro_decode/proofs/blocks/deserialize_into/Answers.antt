@@ -24,8 +24,19 @@ decode_lent-requires g c κs =
     let n = length (g.C.Cursor.rest c.args.cursor.now) in
     let fit = bytes_fit true _ (g.C.Cursor.rest c.args.cursor.now) c.args.fields.now c.args.projection.now c.left.ensures.length c.if-not-offsets_fit.ensures refl in
     let counted = bytes_counted n (kept c.args.avro_fields.now c.args.projection.now) (kept c.args.fields.now c.args.projection.now) c.args.builders.now c.left.ensures.limit c.requires.suits c.requires.types_fit c.requires.data_types fit in
-    let few = empty_reach n (kept c.args.avro_fields.now c.args.projection.now) _ counted c.requires.empty in
-    ((refl, tt), (c.requires.lengths, (c.requires.carried, (c.requires.suits, (c.requires.tight, (few, omega (arith, c.left-2.ensures.length, c.if-rows-left.false)))))))
+    let few = empty_reach n (kept c.args.avro_fields.now c.args.projection.now) _ counted c.requires.empty in (
+      (refl, tt),
+      (
+        record {
+          lengths = c.requires.lengths;
+          carried = c.requires.carried;
+          suits = c.requires.suits;
+          tight = c.requires.tight;
+          offsets = few;
+        },
+        omega (arith, c.left-2.ensures.length, c.if-rows-left.false),
+      ),
+    )
 
 pub returns-in-Ok-clause-counted : goal.returns-in-Ok-clause-counted
 returns-in-Ok-clause-counted g c =

@@ -15,8 +15,8 @@ invariant-loop-i g l = record {
   shapes : map shape l.builders ≡ map shape l.fn.builders;
   tight : All IsTight l.builders;
   within : l.i ≤ length l.fn.builders;
-  left : drop l.i (kept l.avro_fields l.projection) ≡ kept (drop l.i l.avro_fields) (drop l.i l.projection);
-  reads : RowSoFar g.C.Ahead.rest g.C.Ahead.shown g.C.Ahead.calls l.fn.cursor l.cursor l.i l.i l.avro_fields l.projection (map builder_slots l.fn.builders) (map builder_slots l.builders);
+  left : drop l.i (kept l.avro_fields l.plan.projection.now) ≡ kept (drop l.i l.avro_fields) (drop l.i l.plan.projection.now);
+  reads : RowSoFar g.C.Ahead.rest g.C.Ahead.shown g.C.Ahead.calls l.fn.cursor l.cursor l.i l.i l.avro_fields l.plan.projection.now (map builder_slots l.fn.builders) (map builder_slots l.builders);
   forward : MovesForward (g.C.Ahead.rest l.fn.cursor) (g.C.Ahead.rest l.cursor);
-  grows : ChildrenGrow (passed (g.C.Ahead.rest l.fn.cursor) (g.C.Ahead.rest l.cursor)) (kept l.avro_fields l.projection) l.fn.builders l.builders;
+  grows : ChildrenGrow (passed (g.C.Ahead.rest l.fn.cursor) (g.C.Ahead.rest l.cursor)) (kept l.avro_fields l.plan.projection.now) l.fn.builders l.builders;
 }

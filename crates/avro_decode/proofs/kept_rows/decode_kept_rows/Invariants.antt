@@ -14,7 +14,7 @@ invariant-loop g l = record {
   same : g.C.Ahead.whose l.cursor ≡ g.C.Ahead.whose l.fn.cursor;
   shapes : map shape l.builders ≡ map shape l.fn.builders;
   tight : All IsTight l.builders;
-  reads : RowsSoFar g.C.Ahead.rest g.C.Ahead.shown g.C.Ahead.calls l.fn.cursor l.cursor l.rows (l.rows - l.counter) l.avro_fields l.projection (map builder_slots l.fn.builders) (map builder_slots l.builders);
+  reads : RowsSoFar g.C.Ahead.rest g.C.Ahead.shown g.C.Ahead.calls l.fn.cursor l.cursor l.rows (l.rows - l.counter) l.plan.avro_fields.now l.plan.projection.now (map builder_slots l.fn.builders) (map builder_slots l.builders);
   forward : MovesForward (g.C.Ahead.rest l.fn.cursor) (g.C.Ahead.rest l.cursor);
-  grows : ChildrenGrow (passed (g.C.Ahead.rest l.fn.cursor) (g.C.Ahead.rest l.cursor)) (kept l.avro_fields l.projection) l.fn.builders l.builders;
+  grows : ChildrenGrow (passed (g.C.Ahead.rest l.fn.cursor) (g.C.Ahead.rest l.cursor)) (kept l.plan.avro_fields.now l.plan.projection.now) l.fn.builders l.builders;
 }

@@ -8,10 +8,22 @@ returns-in_err-decode_rows-clause-reads g c =
     let p = err_from_is_err_and c.from_residual.result c.from_residual.ensures.1 in
     rw (p.1, p.2) (block_fault c.args.rows _ _ _ c.requires.enough _ c.in_err-decode_rows.ensures.reads)
 
-pub returns-in_err-decode_rows-clause-has_capacity : goal.returns-in_err-decode_rows-clause-has_capacity
-returns-in_err-decode_rows-clause-has_capacity g c =
+pub returns-in_err-decode_rows-clause-keeps : goal.returns-in_err-decode_rows-clause-keeps
+returns-in_err-decode_rows-clause-keeps g c =
     let p = err_from_is_err_and c.from_residual.result c.from_residual.ensures.1 in
-    rw (p.1, p.2) c.in_err-decode_rows.ensures.has_capacity
+    rw (p.1, p.2) c.in_err-decode_rows.ensures.keeps
+
+pub returns-then-left-gt0-clause-keeps : goal.returns-then-left-gt0-clause-keeps
+returns-then-left-gt0-clause-keeps g c =
+    let e = c.in_ok-decode_rows.ensures.keeps in
+    record {
+      shapes = e.shapes;
+      tight = tt;
+      grows = e.grows;
+      has_capacity = λ h. tt;
+      same = e.same;
+      moves = e.moves;
+    }
 
 pub returns-then-left-gt0-clause-reads : goal.returns-then-left-gt0-clause-reads
 returns-then-left-gt0-clause-reads g c =

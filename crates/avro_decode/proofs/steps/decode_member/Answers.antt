@@ -1,4 +1,4 @@
-use Rattle.std.proofs.Common.{true, false, arith}
+use Rattle.std.proofs.Common.{true, false, refl, arith, rules}
 use Rattle.arrow_builders.specs.MutableArrays.{builder_slots}
 use Rattle.avro_decode.specs.Masks.{mask}
 use Rattle.avro_decode.proofs.FieldSteps.{null_read, on_given}
@@ -17,28 +17,33 @@ decode_frequent-requires g c = record {
   offsets = offsets_less _ _ _ c.args.builder.now (omega arith) c.requires.offsets;
 }
 
-pub returns-then-null-clause-tight : goal.returns-then-null-clause-tight
-returns-then-null-clause-tight g c =
-    on_given c.push_null.result _ _ c.push_null.ensures.tight c.requires.tight
-
-pub returns-then-null-clause-grows : goal.returns-then-null-clause-grows
-returns-then-null-clause-grows g c =
-    null_grows _ c.args.schema.now c.args.builder.now _ c.requires.suits c.push_null.ensures.takes
-
-pub returns-then-null-clause-has_capacity : goal.returns-then-null-clause-has_capacity
-returns-then-null-clause-has_capacity g c = λ h.
-    c.push_null.ensures.has_capacity (null_fits _ c.args.schema.now c.args.builder.now c.requires.suits h)
+pub returns-then-null-clause-keeps : goal.returns-then-null-clause-keeps
+returns-then-null-clause-keeps g c =
+    let e = c.push_null.ensures in
+    record {
+      same_shape = e.shape;
+      tight = on_given c.push_null.result _ _ e.tight c.requires.tight;
+      grows = null_grows _ c.args.schema.now c.args.builder.now _ c.requires.suits e.takes;
+      has_capacity = λ h. e.has_capacity (null_fits _ c.args.schema.now c.args.builder.now c.requires.suits h);
+      same = refl;
+      moves = search rules;
+      costs = search rules;
+    }
 
 pub returns-then-null-clause-reads : goal.returns-then-null-clause-reads
 returns-then-null-clause-reads g c =
     null_read c.push_null.result c.args.null c.args.schema.now (builder_slots c.args.builder.now) (builder_slots c.push_null.new.builder) (g.C.Ahead.rest c.args.cursor.now) c.if-null.true c.push_null.ensures.err c.push_null.ensures.ok
 
-pub returns-else-null-clause-grows : goal.returns-else-null-clause-grows
-returns-else-null-clause-grows g c =
+pub returns-else-null-clause-keeps : goal.returns-else-null-clause-keeps
+returns-else-null-clause-keeps g c =
     let s = c.args.schema.now in
-    grows_wider _ _ _ _ _ (grows_fewer (mask true s) (mask false s) _ _ _ (mask_fewer s) c.decode_frequent.ensures.grows) (omega arith)
-
-pub returns-else-null-clause-has_capacity : goal.returns-else-null-clause-has_capacity
-returns-else-null-clause-has_capacity g c = λ h.
-    let s = c.args.schema.now in
-    c.decode_frequent.ensures.has_capacity (spare_fewer (mask true s) (mask false s) _ _ _ (mask_fewer s) (omega arith) h)
+    let e = c.decode_frequent.ensures.keeps in
+    record {
+      same_shape = e.same_shape;
+      tight = e.tight;
+      grows = grows_wider _ _ _ _ _ (grows_fewer (mask true s) (mask false s) _ _ _ (mask_fewer s) e.grows) (omega arith);
+      has_capacity = λ h. e.has_capacity (spare_fewer (mask true s) (mask false s) _ _ _ (mask_fewer s) (omega arith) h);
+      same = e.same;
+      moves = e.moves;
+      costs = e.costs;
+    }

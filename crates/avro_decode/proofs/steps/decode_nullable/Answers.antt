@@ -1,4 +1,4 @@
-use Rattle.std.proofs.Common.{length, true, Bool, List, sym, subst, w64, rules, arith}
+use Rattle.std.proofs.Common.{◌∙◌, refl, length, true, Bool, List, sym, subst, w64, rules, arith}
 use Rattle.std.proofs.lemmas.Int.{to_z-of_z}
 use mir.Val.{SFits}
 use Rattle.arrow_builders.specs.MutableArrays.{nodes}
@@ -6,14 +6,27 @@ use Rattle.avro_reference.specs.Costs.{passed}
 use Rattle.avro_reference.proofs.Counting.{number_first}
 use Rattle.avro_decode.specs.Growth.{Grows, AllOffsetsReach, HaveSpare}
 use Rattle.avro_decode.specs.Masks.{mask}
-use Rattle.avro_decode.proofs.Going.{grows_behind, offsets_less}
+use Rattle.avro_decode.proofs.Going.{costs_behind, grows_behind, offsets_less}
 use Rattle.avro_decode.proofs.Members.{no_index}
-use Rattle.avro_decode.proofs.Nodes.{spare_less}
+use Rattle.avro_decode.proofs.Nodes.{grows_none, spare_less}
 use Rattle.avro_decode.proofs.FieldSteps.{pair_two, other_fits, other_suits, other_gives}
 use Rattle.avro_decode.proofs.steps.decode_nullable.Goals as goal
 
 pub other_of-schema-requires : goal.other_of-schema-requires
 other_of-schema-requires g c = record { two = pair_two _ _ _ c.requires.fits }
+
+pub returns-in_default-clause-keeps : goal.returns-in_default-clause-keeps
+returns-in_default-clause-keeps g c =
+    let n = c.number.ensures in
+    record {
+      same_shape = refl;
+      tight = tt;
+      grows = grows_none _ _ _;
+      has_capacity = λ h. tt;
+      same = n.same;
+      moves = n.moves;
+      costs = tt;
+    }
 
 pub returns-in_default-clause-reads : goal.returns-in_default-clause-reads
 returns-in_default-clause-reads g c = no_index _ _ _ c.in_default.ensures.reads
@@ -31,25 +44,22 @@ decode_pair-requires g c =
       offsets = offsets_less (mask true s) _ _ c.args.builder.now (omega (arith, n)) r;
     }
 
-pub returns-clause-grows : goal.returns-clause-grows
-returns-clause-grows g c =
+pub returns-clause-keeps : goal.returns-clause-keeps
+returns-clause-keeps g c =
     let s = c.other_of-schema.result.now in
     let o = other_suits c.args.null_first c.args.kind c.args.members.now s c.other_of-schema.ensures c.requires.fits _ c.requires.suits in
-    let e = c.decode_pair.ensures in
+    let e = c.decode_pair.ensures.keeps in
     let n = c.in-Some.ensures in
-    subst (λ (xs : List Bool). Grows xs (passed (g.C.Ahead.rest c.args.cursor.now) (g.C.Ahead.rest c.decode_pair.new.cursor)) (nodes c.args.builder.now) (nodes c.decode_pair.new.builder)) (sym o.1) (grows_behind (mask true s) _ _ _ _ _ n.costs.shorter e.moves.forward e.grows)
-
-pub returns-clause-has_capacity : goal.returns-clause-has_capacity
-returns-clause-has_capacity g c = λ h.
-    let s = c.other_of-schema.result.now in
-    let o = other_suits c.args.null_first c.args.kind c.args.members.now s c.other_of-schema.ensures c.requires.fits _ c.requires.suits in
-    let n = c.in-Some.ensures.costs.shorter in
-    c.decode_pair.ensures.has_capacity (spare_less (mask true s) _ _ _ (omega (arith, n)) (subst (λ (xs : List Bool). HaveSpare xs (length (g.C.Ahead.rest c.args.cursor.now)) (nodes c.args.builder.now)) o.1 h))
-
-pub returns-clause-moves : goal.returns-clause-moves
-returns-clause-moves g c =
-    let n = c.in-Some.ensures in
-    number_first _ _ _ _ _ _ n.costs n.moves c.decode_pair.ensures.moves
+    let l = n.costs.shorter in
+    record {
+      same_shape = e.same_shape;
+      tight = e.tight;
+      grows = subst (λ (xs : List Bool). Grows xs (passed (g.C.Ahead.rest c.args.cursor.now) (g.C.Ahead.rest c.decode_pair.new.cursor)) (nodes c.args.builder.now) (nodes c.decode_pair.new.builder)) (sym o.1) (grows_behind (mask true s) _ _ _ _ _ l e.moves.forward e.grows);
+      has_capacity = λ h. e.has_capacity (spare_less (mask true s) _ _ _ (omega (arith, l)) (subst (λ (xs : List Bool). HaveSpare xs (length (g.C.Ahead.rest c.args.cursor.now)) (nodes c.args.builder.now)) o.1 h));
+      same = e.same ∙ n.same;
+      moves = number_first _ _ _ _ _ _ n.costs n.moves e.moves;
+      costs = costs_behind _ _ _ _ _ _ _ n.moves.forward e.moves.forward n.costs e.costs;
+    }
 
 pub returns-clause-reads : goal.returns-clause-reads
 returns-clause-reads g c =

@@ -24,11 +24,18 @@ decode_nullable-requires g c = record {
   offsets = union_reach c.args.schema.now c.in-Union.members c.as_slice.result.now c.in-Union.is c.as_slice.ensures _ c.args.builder.now c.requires.offsets;
 }
 
-pub returns-in-Union-clause-grows : goal.returns-in-Union-clause-grows
-returns-in-Union-clause-grows g c = union_grows c.args.schema.now c.in-Union.members c.as_slice.result.now c.in-Union.is c.as_slice.ensures _ _ _ c.decode_nullable.ensures.grows
-
-pub returns-in-Union-clause-has_capacity : goal.returns-in-Union-clause-has_capacity
-returns-in-Union-clause-has_capacity g c = λ h. c.decode_nullable.ensures.has_capacity (union_spare c.args.schema.now c.in-Union.members c.as_slice.result.now c.in-Union.is c.as_slice.ensures _ _ h)
+pub returns-in-Union-clause-keeps : goal.returns-in-Union-clause-keeps
+returns-in-Union-clause-keeps g c =
+    let e = c.decode_nullable.ensures.keeps in
+    record {
+      same_shape = e.same_shape;
+      tight = e.tight;
+      grows = union_grows c.args.schema.now c.in-Union.members c.as_slice.result.now c.in-Union.is c.as_slice.ensures _ _ _ e.grows;
+      has_capacity = λ h. e.has_capacity (union_spare c.args.schema.now c.in-Union.members c.as_slice.result.now c.in-Union.is c.as_slice.ensures _ _ h);
+      same = e.same;
+      moves = e.moves;
+      costs = e.costs;
+    }
 
 pub returns-in-Union-clause-reads : goal.returns-in-Union-clause-reads
 returns-in-Union-clause-reads g c = union_gives c.args.schema.now c.in-Union.members c.as_slice.result.now c.in-Union.is c.as_slice.ensures _ c.decode_nullable.result _ _ c.decode_nullable.ensures.reads

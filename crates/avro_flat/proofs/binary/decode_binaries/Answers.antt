@@ -1,0 +1,20 @@
+use Rattle.std.proofs.Common.{arith}
+use Rattle.std.proofs.lemmas.Result.{err_from_is_err_and}
+use Rattle.avro_flat.proofs.Many.{many_none, many_more, many_done, many_err, many_reach}
+use Rattle.avro_flat.proofs.binary.decode_binaries.Goals as goal
+
+pub decode_binary-requires : goal.decode_binary-requires
+decode_binary-requires g c = record { offsets = many_reach c.loop.invariant g.O.Offset.IS_LARGE c.requires.offsets }
+
+pub loop-init : goal.loop-init
+loop-init g c = many_none (omega arith)
+
+pub loop-preserved : goal.loop-preserved
+loop-preserved g c = many_more c.loop.invariant (omega arith) c.in_ok-decode_binary.ensures
+
+pub returns-in_err-decode_binary : goal.returns-in_err-decode_binary
+returns-in_err-decode_binary g c =
+    many_err c.loop.invariant _ (omega arith) (err_from_is_err_and c.from_residual.result c.from_residual.ensures.1) c.in_err-decode_binary.ensures
+
+pub returns : goal.returns
+returns g c = many_done c.loop.invariant (omega arith)

@@ -1,0 +1,8 @@
+use Rattle.arrow_flat.specs.Builders.{content_node}
+use Rattle.avro_reference.specs.Read.{string_at}
+use Rattle.avro_flat.proofs.Many.{ManySoFar}
+use Rattle.avro_flat.proofs.strings.decode_strings.Given as goal
+
+abbrev pub invariant-loop : goal.invariant-loop
+invariant-loop g l =
+    ManySoFar g.C.Ahead.rest g.C.Ahead.shown g.C.Ahead.calls g.C.Ahead.whose string_at l.count l.counter l.fn.cursor l.cursor l.fn.values.data_type l.values.data_type (content_node l.fn.values) (content_node l.values) l.fn.values.slots l.values.slots
