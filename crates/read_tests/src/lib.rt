@@ -1,15 +1,9 @@
-//! Tests of what JSON values are read as, and of dictionaries, in a crate of their own, so that the
-//! crates beneath are proved once.
+//! Tests of what JSON values are read as, in a crate of their own, so that the crates beneath are
+//! proved once.
 #![tactic(auto)]
 
 #[cfg(test)]
 mod columns;
-#[cfg(test)]
-mod dictionaries;
-#[cfg(test)]
-mod encoded;
-#[cfg(test)]
-mod lines;
 #[cfg(test)]
 mod numbers;
 #[cfg(test)]

@@ -1,5 +1,5 @@
 //! Dictionaries of arrays. What is expected was worked by hand.
-use crate::dictionaries::indices;
+use crate::samples::indices;
 use arrow_array::{PrimitiveArray, Utf8Array};
 use arrow_core::{Error, Result};
 use arrow_dictionaries::{encode_primitives, encode_strings};

@@ -1,8 +1,7 @@
-//! Lines into columns without trees: that dictionaries at every depth are read, and not given up.
+//! Lines into columns without trees: that dictionaries beneath lists and structs are read, and not
+//! given up.
 //! What is expected is the table of types, worked by hand.
-use crate::columns::has_text;
-use crate::dictionaries::bytes;
-use crate::types::{dictionary, list, one_field, sized_list};
+use crate::samples::{dictionary, has_text, list, one_field, sized_list, value_bytes};
 use arrow_array::Array;
 use arrow_core::{Result, Text};
 use arrow_types::{DataType, IntegerType};
@@ -39,10 +38,7 @@ fn read(alloc: Global, lines: &[Text], row_type: &DataType) -> Result<Option<Arr
     let Some(mut columns) = LineColumns::new(alloc, fields.into_vec())? else {
         return Ok(None);
     };
-    match columns.read_rows(lines, row_type) {
-        Ok(rows) => Ok(Some(rows)),
-        Err(_) => Ok(None),
-    }
+    Ok(columns.read_rows(lines, row_type).ok())
 }
 
 /// The first column beneath one; itself where it has none.
@@ -61,11 +57,13 @@ fn bytes_beneath(rows: &Array) -> &[u8] {
     for _ in 0..4 {
         column = beneath(column);
     }
-    bytes(column)
+    value_bytes(column)
 }
 
 #[test]
-fn a_dictionary_is_made_at_every_depth(rt: HostRuntime) -> std::result::Result<(), Fail> {
+fn a_dictionary_is_made_beneath_lists_and_structs(
+    rt: HostRuntime,
+) -> std::result::Result<(), Fail> {
     let alloc = rt.alloc();
     let lines = three_lines(alloc)?;
     let rows = read(alloc, lines.as_slice(), &row_type(alloc)?)?;
@@ -74,6 +72,6 @@ fn a_dictionary_is_made_at_every_depth(rt: HostRuntime) -> std::result::Result<(
     assert!(rt; bytes_beneath(&rows) == b"xtrue1.50".as_slice());
     let wanted =
         b"{\"a\":[[{\"d\":\"x\"},{\"d\":\"true\"}],null,[{\"d\":\"x\"},{\"d\":null}]]},{\"a\":[[{\"d\":\"1.50\"},{\"d\":\"x\"}]]},{\"a\":null}";
-    assert!(rt; has_text(&rt, alloc, Ok(rows), wanted));
+    assert!(rt; has_text(&rt, alloc, rows, wanted));
     Ok(())
 }

@@ -1,40 +1,17 @@
 //! Dictionaries of JSON values. What is expected was worked by hand.
-use crate::columns::{column, has_text};
-use crate::refusals::is_refused;
-use crate::types::dictionary;
-use arrow_array::{Array, Keys, PrimitiveArray};
+use crate::samples::{column, dictionary, has_text, indices, value_bytes};
+use arrow_array::{Array, PrimitiveArray};
 use arrow_core::{Error, Result};
 use arrow_types::{DataType, IntegerType, NativeType};
 use std::alloc::Global;
 use std::process::Abort;
 use std::test::Fail;
 
-/// Keys as indices.
-pub(crate) fn indices(alloc: Global, keys: &Keys) -> Result<Vec<Option<usize>>> {
-    let mut indices = Vec::new(alloc);
-    for i in 0..keys.len() {
-        indices.push(keys.index(i))?;
-    }
-    Ok(indices)
-}
-
 /// The keys of a column of a dictionary, as indices.
 fn column_indices(alloc: Global, column: &Array) -> Result<Vec<Option<usize>>> {
     match column {
         Array::Dictionary(array) => indices(alloc, array.keys()),
         _ => Ok(Vec::new(alloc)),
-    }
-}
-
-/// The bytes of the values of a column of a dictionary over strings.
-pub(crate) fn bytes(column: &Array) -> &[u8] {
-    match column {
-        Array::Dictionary(array) => match array.values() {
-            Array::Utf8(values) => values.values(),
-            Array::LargeUtf8(values) => values.values(),
-            _ => &[],
-        },
-        _ => &[],
     }
 }
 
@@ -45,9 +22,10 @@ fn stand_once(rt: &impl Abort, alloc: Global, strings: DataType) -> Result<bool>
     let column = column(alloc, text, data_type)?;
     let keys = column_indices(alloc, &column)?;
     let wanted = [Some(0), Some(1), Some(1), Some(0), None];
-    let has_keys = keys.as_slice() == wanted.as_slice() && bytes(&column) == b"btrue".as_slice();
+    let has_keys = keys.as_slice() == wanted.as_slice()
+        && value_bytes(&column) == b"btrue".as_slice();
     let text = b"\"b\",\"true\",\"true\",\"b\",null";
-    Ok(has_keys && has_text(rt, alloc, Ok(column), text))
+    Ok(has_keys && has_text(rt, alloc, column, text))
 }
 
 #[test]
@@ -114,13 +92,11 @@ fn there_are_as_many_values_as_keys(rt: HostRuntime) -> std::result::Result<(), 
     let data_type = dictionary(alloc, IntegerType::Int8, DataType::LargeUtf8)?;
     let column_of_all = column(alloc, text.as_str().as_bytes(), data_type)?;
     assert!(rt; column_of_all.len() == 128);
+    // The digits of 1 to 127, after the empty string.
+    assert!(rt; value_bytes(&column_of_all).len() == 9 + 2 * 90 + 3 * 28);
     let text = counted(alloc, 129)?;
     let data_type = dictionary(alloc, IntegerType::Int8, DataType::LargeUtf8)?;
-    assert!(rt;
-        is_refused(
-            column(alloc, text.as_str().as_bytes(), data_type),
-            Error::Overflow
-        )
-    );
+    let column_of_more = column(alloc, text.as_str().as_bytes(), data_type);
+    assert!(rt; column_of_more.err() == Some(Error::Overflow));
     Ok(())
 }
