@@ -25,7 +25,7 @@ typedef void (*hook)(void);
 typedef void (*constructor)(int, char **, char **);
 typedef struct {
     char *bytes;
-    size_t length, room;
+    size_t length, capacity;
 } buffer;
 
 /* How many calls of a kind there were, and the number of the one that is refused. */
@@ -66,15 +66,15 @@ void *realloc(void *old, size_t size)
     return is_refused(&growths, ENOMEM) ? NULL : next(old, size);
 }
 
-/* Room for so many bytes more. It is no growth of the program's. */
+/* Capacity for so many bytes more. It is no growth of the program's. */
 static char *reserve(buffer *to, size_t count)
 {
     int was_running = is_running;
 
     is_running = 0;
-    while (to->room - to->length < count) {
-        to->room = 2 * to->room + 4096;
-        to->bytes = realloc(to->bytes, to->room);
+    while (to->capacity - to->length < count) {
+        to->capacity = 2 * to->capacity + 4096;
+        to->bytes = realloc(to->bytes, to->capacity);
         if (!to->bytes)
             abort();
     }

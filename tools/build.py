@@ -20,7 +20,7 @@ import tempfile
 import time
 
 TOP = os.path.dirname(os.path.dirname(os.path.abspath(__file__)))
-ROOMS = os.path.join(TOP, ".built")
+WORKSPACES = os.path.join(TOP, ".built")
 PROCESSORS = os.cpu_count() or 1
 # The folders of a crate that nothing is built of.
 EDITS = ("must-fail", "edits")
@@ -91,27 +91,27 @@ def is_program(name):
     return os.path.exists(os.path.join(folder_of(name), "src", "main.rt"))
 
 
-def make_room(lines, names, name):
+def make_workspace(lines, names, name):
     """A repository of this crate and of those beneath it."""
-    room = os.path.join(ROOMS, name)
-    os.makedirs(room)
-    with open(os.path.join(room, "crates.txt"), "w") as file:
+    workspace = os.path.join(WORKSPACES, name)
+    os.makedirs(workspace)
+    with open(os.path.join(workspace, "crates.txt"), "w") as file:
         file.writelines(lines[it] for it in sorted(names))
-    shutil.copy(os.path.join(TOP, "HANDLES"), room)
+    shutil.copy(os.path.join(TOP, "HANDLES"), workspace)
     leave = shutil.ignore_patterns("incremental", *EDITS)
     for it in names - {name}:
-        shutil.copytree(folder_of(it), folder_of(it, room), ignore=leave, copy_function=os.link)
+        shutil.copytree(folder_of(it), folder_of(it, workspace), ignore=leave, copy_function=os.link)
     leave = shutil.ignore_patterns("out", *EDITS)
-    shutil.copytree(folder_of(name), folder_of(name, room), ignore=leave, copy_function=os.link)
-    return room
+    shutil.copytree(folder_of(name), folder_of(name, workspace), ignore=leave, copy_function=os.link)
+    return workspace
 
 
-def take_out(name, room):
+def take_out(name, workspace):
     """Moves what an earlier run made of the crate into its repository."""
-    move_out(name, TOP, room)
+    move_out(name, TOP, workspace)
     # A program of an earlier run is no sign that this one built it.
-    if is_program(name) and os.path.exists(program_of(name, room)):
-        os.remove(program_of(name, room))
+    if is_program(name) and os.path.exists(program_of(name, workspace)):
+        os.remove(program_of(name, workspace))
 
 
 def move_out(name, top, to):
@@ -121,14 +121,14 @@ def move_out(name, top, to):
         os.rename(made, target)
 
 
-def start(name, room, jobs):
+def start(name, workspace, jobs):
     """Begins to build a crate; what it prints goes to a file."""
     # A program is built by running it once; its own words are no command.
     command = ["rt", "run", "--jobs", str(jobs), "--", "usage"] if is_program(name) else ["rt", "lib", "--jobs", str(jobs)]
     log = tempfile.TemporaryFile("w+", errors="replace")
     process = subprocess.Popen(
         command,
-        cwd=folder_of(name, room),
+        cwd=folder_of(name, workspace),
         stdin=subprocess.DEVNULL,
         stdout=log,
         stderr=subprocess.STDOUT,
@@ -158,7 +158,7 @@ def main():
             with contextlib.suppress(ProcessLookupError):
                 os.killpg(process.pid, signal.SIGTERM)
             process.wait()
-        clear_rooms()
+        clear_workspaces()
 
 
 def build(uses, lines, waiting, running, built):
@@ -175,22 +175,22 @@ def build(uses, lines, waiting, running, built):
             if idle > 0:
                 waiting.remove(name)
                 jobs = max(1, min(4, idle // (len(ready) - at)))
-                room = make_room(lines, beneath(uses, name), name)
-                take_out(name, room)
-                running[name] = (*start(name, room, jobs), room, jobs, time.monotonic())
+                workspace = make_workspace(lines, beneath(uses, name), name)
+                take_out(name, workspace)
+                running[name] = (*start(name, workspace, jobs), workspace, jobs, time.monotonic())
                 say(f"{name}: proving")
         time.sleep(0.2)
-        for name, (process, log, room, _, since) in list(running.items()):
+        for name, (process, log, workspace, _, since) in list(running.items()):
             if process.poll() is None:
                 continue
             del running[name]
             # A folder that something made meanwhile gives way to what was proved.
             shutil.rmtree(os.path.join(folder_of(name), "out"), ignore_errors=True)
-            move_out(name, room, TOP)
-            shutil.rmtree(room)
+            move_out(name, workspace, TOP)
+            shutil.rmtree(workspace)
             if not is_built(name, process):
                 log.seek(0)
-                sys.stderr.write(log.read().replace(room, TOP))
+                sys.stderr.write(log.read().replace(workspace, TOP))
                 say(f"{name}: FAILED, as said above")
                 sys.exit(1)
             built.add(name)
@@ -198,11 +198,11 @@ def build(uses, lines, waiting, running, built):
             say(f"{name}: proved and built in {took}, {total - len(built)} of {total} crates left")
 
 
-def clear_rooms():
+def clear_workspaces():
     """Gives back what a run that was stopped or killed had kept."""
-    for name in os.listdir(ROOMS) if os.path.isdir(ROOMS) else []:
-        move_out(name, os.path.join(ROOMS, name), TOP)
-    shutil.rmtree(ROOMS, ignore_errors=True)
+    for name in os.listdir(WORKSPACES) if os.path.isdir(WORKSPACES) else []:
+        move_out(name, os.path.join(WORKSPACES, name), TOP)
+    shutil.rmtree(WORKSPACES, ignore_errors=True)
 
 
 @contextlib.contextmanager
@@ -214,7 +214,7 @@ def alone():
     LOCKS.append(lock)
     try:
         fcntl.flock(lock, fcntl.LOCK_EX)
-        clear_rooms()
+        clear_workspaces()
         yield
     finally:
         LOCKS.remove(lock)

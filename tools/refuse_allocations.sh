@@ -16,9 +16,9 @@
 set -eu
 tools=$(cd "$(dirname "$0")" && pwd)
 crates=$(cd "$tools/../crates" && pwd)
-room=$(mktemp -d)
-trap 'rm -rf "$room"' EXIT
-cc -O2 -shared -fPIC -o "$room/refuse.so" "$tools/refuse.c" -ldl
+work=$(mktemp -d)
+trap 'rm -rf "$work"' EXIT
+cc -O2 -shared -fPIC -o "$work/refuse.so" "$tools/refuse.c" -ldl
 
 # The tests of a crate as a program.
 program_of() {
@@ -29,10 +29,10 @@ program_of() {
 # Runs a test while the nth allocation is refused. Its report stands in `report` then, and the number
 # of its allocations in `count`: 0 where it was stopped.
 try() {
-    rm -f "$room/count"
-    report=$(COUNT="$room/count" REFUSED=$n LD_PRELOAD="$room/refuse.so" "$program" "$1" 2>&1) || true
+    rm -f "$work/count"
+    report=$(COUNT="$work/count" REFUSED=$n LD_PRELOAD="$work/refuse.so" "$program" "$1" 2>&1) || true
     count=0
-    [ ! -f "$room/count" ] || count=$(cat "$room/count")
+    [ ! -f "$work/count" ] || count=$(cat "$work/count")
 }
 
 # Whether the test that was run last has passed.

@@ -21,11 +21,11 @@ def edits_of(name):
 def try_edits(name):
     """Whether all edits of the crate are refused. They are tried in a repository of its own."""
     uses, lines = build.read_crates()
-    room = build.make_room(lines, build.beneath(uses, name), name)
-    shutil.copytree(edits_of(name), os.path.join(build.folder_of(name, room), "must-fail"))
+    workspace = build.make_workspace(lines, build.beneath(uses, name), name)
+    shutil.copytree(edits_of(name), os.path.join(build.folder_of(name, workspace), "must-fail"))
     run = subprocess.run(
         ["rt", "must-fail", name],
-        cwd=room,
+        cwd=workspace,
         stdin=subprocess.DEVNULL,
         stdout=subprocess.PIPE,
         stderr=subprocess.STDOUT,
@@ -33,7 +33,7 @@ def try_edits(name):
         text=True,
         errors="replace",
     )
-    shutil.rmtree(room)
+    shutil.rmtree(workspace)
     print(run.stdout, end="", flush=True)
     return run.returncode == 0
 
