@@ -46,8 +46,6 @@ one_more_bytes b c d i s h k =
 pub AllGetBytes-append : (ps bs : List Added) (xs ys us vs : List Node) → AllGetBytes ps xs ys → AllGetBytes bs us vs → AllGetBytes (ps ++ bs) (xs ++ us) (ys ++ vs)
 AllGetBytes-append ps bs xs ys us vs h k = AllAdded-append (λ (a : Added) (x y : Node). y.bytes ≡ x.bytes + a.bytes) ps bs xs ys us vs h k
 
--- ---- a null of a builder of structs
-
 -- ---- answers
 
 -- what is told of two builders is told of two that equal them

@@ -60,8 +60,6 @@ one_more_null b c d i s h k =
     let both = AllAdded-then (λ a x y. y ≡ x ++ null_slots a.slots) (λ p q x y z f g. g ∙ ap (λ (xs : List Slot). xs ++ null_slots q.slots) f ∙ nulls-append x p.slots q.slots) (nulls_in i (shape b)) (nulls_in 1 (shape b)) (slots_at b) (slots_at c) (slots_at d) h t in
     subst (λ (ps : List Added). AllGetNulls ps (slots_at b) (slots_at d)) (sym (nulls-sum i 1 (shape b))) both
 
--- ---- a null of a builder of structs
-
 -- ---- answers
 
 -- what is told of two builders is told of two that equal them

@@ -17,8 +17,6 @@ use Rattle.avro_blocks.specs.Blocks.{WritesBlock, NextWritten}
 use Rattle.avro_blocks.specs.Changes.{change_of}
 use Rattle.avro_blocks.specs.Written.{WritesBlocks, BlockFails, StopsAtBlock}
 
--- ---- the faults of a source never fall
-
 -- ---- how many rows a block has at most
 
 pub block_within : (bytes marker : List ℕ) (block : FileBlock) → MarkedBlock bytes (block, marker) → length block.bytes ≤ length bytes

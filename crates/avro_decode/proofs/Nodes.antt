@@ -225,5 +225,3 @@ spare_append [] ns n [] zs l h = (tt, h)
 spare_append (m ∷ ms) ns n [] zs l h = absurd (omega (arith, l))
 spare_append [] ns n (x ∷ xs) zs l h = absurd (omega (arith, l))
 spare_append (m ∷ ms) ns n (x ∷ xs) zs l h = let r = spare_append ms ns n xs zs (omega (arith, l)) h.2 in ((h.0, h.1, r.0), r.1)
-
--- ---- one node over two calls

@@ -100,7 +100,7 @@ drop_set [] k d h = absurd (omega (arith, h))
 drop_set (x ∷ xs) zero d h = refl
 drop_set (x ∷ xs) (suc k) d h = drop_set xs k d (omega (arith, h))
 
--- one more byte was written in front
+-- one more byte was written before the others
 pub written_more : (xs all : List ℕ) (size done n : ℕ) → length xs ≡ 16 → size ≤ 16 → done < size → high_first (size - done) n ++ drop (16 - done) xs ≡ all
     → high_first (size - (done + 1)) (n / 256) ++ drop (16 - (done + 1)) (set xs (15 - done) (n % 256)) ≡ all
 written_more xs all size done n l s h e =

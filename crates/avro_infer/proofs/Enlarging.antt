@@ -39,7 +39,7 @@ pub large_of_extension : (name : List ℕ) (t : DataType) (metadata : Option (Li
 unfolding shape-the_row-DataType-2 hidden-the_row-DataType-2 denote.Hole.Carrier.hidden
 large_of_extension name t metadata = refl
 
--- a field more in front
+-- with one more field before the others
 abbrev with_field : Field → DataType → DataType
 with_field f (Struct' shape row) = Struct' (tt ∷ shape) (more_of-Field f.name f.data_type f.is_nullable f.metadata row)
 with_field f (Union' shape row ids mode) = Union' (tt ∷ shape) (more_of-Field f.name f.data_type f.is_nullable f.metadata row) ids mode

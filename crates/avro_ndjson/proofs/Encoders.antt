@@ -52,7 +52,7 @@ first_item : {A : Type 0} (xs : List A) (i : ℕ) → i < length xs → A
 first_item [] i lt = absurd (omega (arith, lt))
 first_item (x ∷ xs) i lt = x
 
--- what is kept of two lists stands at the same places
+-- what is kept of two lists stands at the same indices
 kept_zip : {A B : Type 0} (R : A → B → Type 0) (xs : List A) (ys : List B) (projection : List Bool) → AllZip R xs ys → AllZip R (kept xs projection) (kept ys projection)
 kept_zip R [] [] projection h = tt
 kept_zip R [] (y ∷ ys) projection h = absurd h

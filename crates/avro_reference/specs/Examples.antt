@@ -200,7 +200,7 @@ sizes_below_zero =
     -- what comes later is not looked at; but rows are no more than bytes
     ∷ first_skipped 2 (Array (Long None)) (0x03 ∷ 0x01 ∷ []) (Err Negative)
     ∷ first_skipped 3 (Array (Long None)) (0x03 ∷ 0x01 ∷ []) (Err Bad)
-    -- a count of -2^63 is no count, though its size is below 0; one above it is
+    -- no block has a count of -2 ^ 63, though a size below 0 follows; with a count of -(2 ^ 63 - 1) that size is told
     ∷ first_skipped 1 (Array (Long None)) (least ++ 0x01 ∷ 0x02 ∷ []) (Err Bad)
     ∷ first_skipped 1 (Array (Long None)) (0xfd ∷ replicate 8 0xff ++ 0x01 ∷ 0x01 ∷ 0x02 ∷ []) (Err Negative)
     -- in an array of arrays, after an empty one, and beneath a union

@@ -51,7 +51,7 @@ record_done old before now xs e d =
     let grouped : ((old ++ codes "{") ++ J) ++ codes "}" ≡ old ++ (codes "{" ++ (J ++ codes "}")) = append_assoc (old ++ codes "{") J (codes "}") ∙ append_assoc old (codes "{") (J ++ codes "}") in
     d ∙ ap (λ z. z ++ codes "}") e ∙ grouped ∙ ap (λ z. old ++ z) (sym (fields_text xs))
 
--- the slots of the children at place i
+-- the slots of the children at index i
 abbrev pub fields_at : List Array → ℕ → List Slot
 fields_at children i = map (λ slots. slot_at slots i) (map array_slots children)
 

@@ -143,8 +143,6 @@ pub no_words : (words : List (List ℕ)) → length words < 1 → IsUsage words
 no_words [] low command (ws, is, h) = absurd (nil_cons is)
 no_words (w ∷ ws) low command h = absurd (omega (arith, low))
 
--- ---- the words of `make`
-
 -- ---- the words of `rewrite`
 
 -- they are a name and a marker

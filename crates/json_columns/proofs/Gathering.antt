@@ -91,8 +91,6 @@ list_err r v array old new greatest n end e l o t h b =
     let k = gathered_length array old new l in
     count_err r greatest n end _ h b (omega (arith, k, o, t)) (omega (arith, k, t, ap length (array_items v array e)))
 
--- ---- one value more
-
 -- ---- the lists of the values so far
 
 pub lens_end : (vs : List Json) (ls : List (Option ℕ)) (items : List (Bor Json)) → ls ≡ list_lens vs → lent items ≡ all_items vs → items_of ls ≡ length items

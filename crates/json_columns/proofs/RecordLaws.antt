@@ -43,8 +43,6 @@ read_fields (f ∷ fs) e =
     let h = both (has_reading f.data_type) (not (holds_more f.data_type)) p.0 in
     (λ i. h.0 i && all_have_reading fs) ∙ read_fields fs p.1
 
--- ---- rows
-
 -- ---- columns
 
 -- each column has a slot for each row

@@ -45,7 +45,7 @@ module _ {A : Type 0} where
   once_more (y ∷ xs) x h k =
       ((λ e. elim (among_append y xs (x ∷ []) e) [ inl e' ↦ h.0 e' | inr e' ↦ elim e' [ inl p ↦ k (inl (sym p)) | inr e'' ↦ e'' ] ]), once_more xs x h.1 (λ e. k (inr e)))
 
-  -- the list without one place of x
+  -- the list without one occurrence of x
   less : (x : A) (ys : List A) → Among x ys → List A
   less x [] h = absurd h
   less x (y ∷ ys) (inl h) = ys

@@ -51,7 +51,7 @@ more-fuel {A} g w z (suc n) (suc m) old b l k = first (λ o r. more-fuel g w z n
 abbrev Behind : {A : Type 0} → List A → Outcome (List A) → Outcome (List A)
 Behind old o = bind o (λ xs r. found (old ++ xs) r)
 
--- what was read before stays in front
+-- what was read before stays as a prefix
 more-behind : {A : Type 0} (g : Reader A) (z n : ℕ) (old new : List A) (b : List ℕ) → more_at g z n (old ++ new) b ≡ Behind old (more_at g z n new b)
 unfolding more_at
 more-behind g z zero old new b = refl

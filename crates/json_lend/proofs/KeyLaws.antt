@@ -8,7 +8,7 @@ use Rattle.json_tree.proofs.ListLaws.{bind_found, found_parts, wrong-found}
 use Rattle.json_tree.proofs.CharTurns.{Turn}
 use Rattle.json_tree.proofs.Turns.{ne-eqb}
 
--- what was read before stays in front
+-- what was read before stays as a prefix
 chars-behind : (n : ℕ) (old b s r : List ℕ) → chars_at n old b ≡ found s r → (t : List ℕ) × (s ≡ old ++ t)
 unfolding chars_at
 chars-behind zero old b s r e = absurd (wrong-found s r e)

@@ -343,9 +343,9 @@ here xs k x l e = rw add-one (drop-cons xs k x l ∙ ap (λ z. z ∷ drop (suc k
 abbrev pub others : List Column → List Column
 others rest = take (length rest - 1) (drop 1 rest)
 
-pub prefix_is : (rest : List Column) (c : Column) → 1 ≤ length rest → c ≡ get_or rest 0 c → rest ≡ c ∷ others rest
-prefix_is [] c l e = absurd (omega (arith, l))
-prefix_is (d ∷ rest) c l e =
+pub first_is : (rest : List Column) (c : Column) → 1 ≤ length rest → c ≡ get_or rest 0 c → rest ≡ c ∷ others rest
+first_is [] c l e = absurd (omega (arith, l))
+first_is (d ∷ rest) c l e =
     let n : suc (length rest) - 1 ≡ length rest = omega arith in
     ap (λ z. z ∷ rest) (sym e) ∙ ap (λ z. c ∷ z) (sym (ap (λ m. take m rest) n ∙ take-length rest))
 

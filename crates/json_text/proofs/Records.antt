@@ -1,4 +1,4 @@
--- Structs of the slots of several children at one place.
+-- Structs of the slots of several children at one index.
 use Rattle.std.proofs.Common.{◌≡◌, ℕ, zero, suc, ◌+◌, ◌<◌, ◌≤◌, Bool, true, false, ◌&&◌, IsTrue, take, add-one, List, [], ◌∷◌, length, map, get_or, pos, refl, sym, ap, ◌∙◌, arith, subst}
 use Rattle.arrow_types.specs.declared.slot.Slot.{Slot}
 use Rattle.arrow_types.specs.declared.slot.Slot.TheVariants as slot

@@ -1,4 +1,4 @@
--- Runs of slots in range, and of structs by their places.
+-- Runs of slots in range, and of structs by their indices.
 use Rattle.std.proofs.Common.{◌≡◌, ℕ, zero, suc, ◌+◌, ◌-◌, ◌<◌, ◌≤◌, Bool, true, false, ◌&&◌, ◌⊎◌, List, [], ◌∷◌, length, take, drop, get_or, refl, sym, ap, ◌∙◌, subst, arith, inl, inr}
 use Rattle.std.specs.List.{list_all, range_with_len}
 use Rattle.std.proofs.lemmas.List.{drop_more, take_all}
@@ -14,7 +14,7 @@ use Rattle.arrow_array.specs.Structs.{HaveSlots}
 use Rattle.json_text.proofs.Joined.{part_at, part_length}
 use Rattle.json_text.proofs.Records.{and_left, and_right, and_both}
 
--- each of the places from a on, n of them
+-- each index from a on, n of them
 pub each_index : (p : ℕ → Bool) (a n : ℕ) → ((i : ℕ) → a ≤ i → i < a + n → p i ≡ true) → list_all p (range_with_len a n) ≡ true
 each_index p a zero h = refl
 each_index p a (suc n) h = and_both (p a) _ (h a (omega arith) (omega arith)) (each_index p (a + 1) n (λ i l m. h i (omega (arith, l)) (omega (arith, m))))
@@ -70,7 +70,7 @@ out_of_run p xs a b o w h =
     let below : out.0 < b - a = omega (arith, out.1.1.0, n) in
     (a + out.0, (omega arith, (omega (arith, below), ap p (sym (part_at xs a b out.0 slot.Null o w below)) ∙ out.1.1.1)))
 
--- a run by its places
+-- a run by its indices
 pub by_indices : (p : Slot → Bool) (q : ℕ → Bool) (xs : List Slot) (a n : ℕ) → a + n ≤ length xs → ((i : ℕ) → a ≤ i → i < a + n → q i ≡ p (slot_at xs i)) → list_all q (range_with_len a n) ≡ list_all p (take n (drop a xs))
 by_indices p q xs a zero l h = refl
 by_indices p q xs a (suc n) l h =

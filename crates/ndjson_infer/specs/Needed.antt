@@ -9,7 +9,7 @@ abbrev pub first_rows : Option ℕ → List (List ℕ) → List (List ℕ)
 first_rows None rows = rows
 first_rows (Some number) rows = take number rows
 
--- each value is what the row at its place stands for, as a JSON text in which at most 128 brackets are open at once
+-- each value is what the row at its index stands for, as a JSON text in which at most 128 brackets are open at once
 abbrev pub StandFor : List (List ℕ) → List Value → Type 0
 StandFor [] [] = Unit {0}
 StandFor (row ∷ rows) (value ∷ values) = IsJson value row × StandFor rows values

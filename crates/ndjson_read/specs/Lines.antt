@@ -2,7 +2,7 @@
 use Rattle.std.specs.Prelude.{◌≡◌, ◌⊎◌, ℕ, ◌==◌, ◌<◌, List, [], ◌∷◌, ◌++◌, Bool, not, if◌then◌else◌, length, take, filter, count_by, All, IsUtf8}
 use Rattle.std.specs.Str.{trim}
 
--- a byte in front of the first of some lines
+-- a byte before the first of some lines
 unfoldable pub onto_first : ℕ → List (List ℕ) → List (List ℕ)
 onto_first byte [] = (byte ∷ []) ∷ []
 onto_first byte (line ∷ lines) = (byte ∷ line) ∷ lines

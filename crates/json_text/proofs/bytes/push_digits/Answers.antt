@@ -1,4 +1,4 @@
--- There is room for the digits.
+-- There is capacity for the digits.
 use Rattle.std.proofs.Common.{◌≤◌, arith, rules}
 use Rattle.std.proofs.lemmas.Fmt.{length-decimal-le}
 use Rattle.json_text.proofs.bytes.push_digits.Goals as goal

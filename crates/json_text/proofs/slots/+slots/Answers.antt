@@ -14,7 +14,7 @@ use Rattle.arrow_array.specs.Slots.{slot_at, is_held}
 use Rattle.arrow_array.proofs.Records.{capacity}
 use Rattle.json_text.specs.Columns.{AreColumns, AreWithin, columns_text, integer_text}
 use Rattle.json_text.specs.JsonText.{array, text}
-use Rattle.json_text.proofs.ColumnLemmas.{in_list, in_fixed_list, in_dictionary, within_item, within_fixed_item, within_value, children_columns, children_object, column_here, text_more, object_closed, no_column, plain_form, prefix_is, none_is}
+use Rattle.json_text.proofs.ColumnLemmas.{in_list, in_fixed_list, in_dictionary, within_item, within_fixed_item, within_value, children_columns, children_object, column_here, text_more, object_closed, no_column, plain_form, first_is, none_is}
 use Rattle.json_text.proofs.Forms.{appended, list_is, fixed_list_is, value_is}
 use Rattle.json_text.proofs.Joined.{empty_part, joined_more, map_at, map_length, part_at, part_length}
 use Rattle.json_text.proofs.Records.{child_below, looked_up_at}
@@ -209,14 +209,14 @@ push_object-unreachable-requires t c =
 pub push_object-split_at-requires : goal.push_object-split_at-requires
 push_object-split_at-requires t c =
     let arrays = c.args.arrays.now in
-    let prefix = prefix_is _ c.column-item.result c.in-len1-up.len_at_least c.column-item.is in
+    let prefix = first_is _ c.column-item.result c.in-len1-up.len_at_least c.column-item.is in
     (column_here arrays c.loop-array.array-index c.array-item.result _ _ _ c.loop-array-test.true c.array-item.is prefix c.loop-array.invariant.columns).0.0
 
 pub push_object-push_value-requires : goal.push_object-push_value-requires
 push_object-push_value-requires t c =
     let arrays = c.args.arrays.now in
     let k = c.loop-array.array-index in
-    let prefix = prefix_is _ c.column-item.result c.in-len1-up.len_at_least c.column-item.is in
+    let prefix = first_is _ c.column-item.result c.in-len1-up.len_at_least c.column-item.is in
     let here = column_here arrays k c.array-item.result _ _ _ c.loop-array-test.true c.array-item.is prefix c.loop-array.invariant.columns in
     let below : 5 * size-DataType (array_type c.array-item.result) + 3 < 5 * children_depth arrays = omega (arith, child_below arrays k c.array-item.result c.loop-array-test.true c.array-item.is) in
     (search (rules, below), (search rules, (here.0.1.0, subst (AreWithin (array_type c.array-item.result)) (sym c.split_at.ensures.front) here.0.1.1)))
@@ -225,7 +225,7 @@ pub push_object-loop-array-preserved : goal.push_object-loop-array-preserved
 push_object-loop-array-preserved t c =
     let arrays = c.args.arrays.now in
     let k = c.loop-array.array-index in
-    let prefix = prefix_is _ c.column-item.result c.in-len1-up.len_at_least c.column-item.is in
+    let prefix = first_is _ c.column-item.result c.in-len1-up.len_at_least c.column-item.is in
     let here = column_here arrays k c.array-item.result _ _ _ c.loop-array-test.true c.array-item.is prefix c.loop-array.invariant.columns in
     record {
       columns = subst (AreColumns (drop (k + 1) arrays)) (sym c.split_at.ensures.back) here.1;
