@@ -3,11 +3,7 @@
 from canonical_model import block, column_schema, header, marker_of, name_of
 from formats_model import (
     MOST_32,
-    Fault,
-    JsonNumber,
-    JsonReader,
     Refused,
-    TooDeep,
     Usage,
     digits_of,
     field_of,
@@ -15,6 +11,7 @@ from formats_model import (
     json_string,
     parts,
 )
+from json_model import Fault, JsonNumber, JsonReader, TooDeep
 
 MOST_64 = (1 << 63) - 1
 # Unicode's white space (property White_Space), as `str::trim` has it.

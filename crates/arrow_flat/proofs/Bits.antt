@@ -9,7 +9,7 @@ use Rattle.std.proofs.lemmas.Nat.Bits.{bit_at_set_same, bit_at_set_other}
 use Rattle.std.proofs.lemmas.List.{get_or_read, set-get_or}
 use Rattle.std.proofs.lemmas.List.FromFn.{length-map-range_with_len, map-range_with_len_more}
 use Rattle.arrow_bitmap.specs.Bits.{bit_of, boolean_of, booleans_of}
-use Rattle.arrow_flat.specs.Bits.{HoldBits}
+use Rattle.arrow_flat.specs.Bits.{HoldBits, CountsDown}
 
 abbrev with_bit : List ℕ → ℕ → ℕ → Bool → List ℕ
 with_bit ws i w v = slice_set ws (i / 64) (bit_or w (from_bool v * 2 ^ (i % 64) % 18446744073709551616))
@@ -84,3 +84,8 @@ HoldBits-push old new n v p w f = record {
 
 pub booleans-written : (old new : List ℕ) (n : ℕ) (v : Bool) → Written old new n v → booleans_of new 0 (n + 1) ≡ booleans_of old 0 n ++ v ∷ []
 booleans-written old new n v w = booleans-push old new n v (λ k l. w.same k (omega (arith, l))) w.here
+
+-- where a bit is written no slot is counted
+pub none_counted : (bits : List Bool) (spare capacity free : ℕ) → CountsDown bits spare capacity free → 0 < length bits → capacity ≡ 0
+none_counted bits spare zero free c lt = refl
+none_counted bits spare (suc n) free c lt = absurd (omega (arith, lt, ap length (c.apart (omega arith))))

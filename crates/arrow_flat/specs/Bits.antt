@@ -10,10 +10,12 @@ pub record HoldBits (words : List ℕ) (n : ℕ) : Type 0 where
   pub clear : (k : ℕ) → n ≤ k → bit_of words k ≡ 0
   pub fits : n + 64 ≤ 2 ^ 63
 
--- Either no bit is written, and slots are counted down within spare capacity for their bits, or there is nothing to count.
+-- Either no bit is written, and slots are counted down within the spare capacity for their bits, or there is nothing to
+-- count.
 pub record CountsDown (bits : List Bool) (spare capacity free : ℕ) : Type 0 where
   pub below : free ≤ capacity
   pub within : capacity ≤ spare
+  pub whole : length bits ≡ 0 → capacity ≡ spare
   pub apart : 1 ≤ capacity → bits ≡ []
   pub few : capacity ≤ 9223372036854775744
 

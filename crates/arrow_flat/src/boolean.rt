@@ -1,6 +1,6 @@
 //! A builder of booleans.
 
-ghost use Rattle.std.specs.Prelude.{◌≡◌, ◌≤◌, ◌++◌, ◌∷◌, [], length, if◌then◌else◌, IsOk, IfOk, OnOk, OnErr};
+ghost use Rattle.std.specs.Prelude.{◌≡◌, ◌+◌, ◌≤◌, ◌++◌, ◌∷◌, [], length, if◌then◌else◌, IsOk, IfOk, OnOk, OnErr};
 ghost use Rattle.arrow_core.specs.Errors.{OnlyOutOfMemory};
 ghost use Rattle.arrow_core.specs.declared.error.Error.TheVariants.{OutOfMemory};
 ghost use Rattle.arrow_types.specs.declared.slot.Slot.TheVariants.{Null as NullSlot, Boolean as BooleanSlot};
@@ -116,6 +116,18 @@ impl MutableBooleanArray {
         }
     }
 
+    /// Appends a boolean, for which there is spare capacity: no memory is asked for.
+    #[inline(always)]
+    pub fn push_reserved(&mut self, boolean: bool)
+        requires { 1 ≤ self.old.spare }
+        ensures data_type { self.new.data_type ≡ self.old.data_type }
+        ensures slots { self.new.slots ≡ self.old.slots ++ BooleanSlot boolean ∷ [] }
+        ensures spare { self.new.spare + 1 ≡ self.old.spare }
+    {
+        self.validity.push_valid_reserved();
+        self.values.push_reserved(boolean);
+    }
+
     /// Appends a null. `OutOfMemory` changes nothing.
     #[inline(always)]
     pub fn push_null(&mut self) -> Result<()>
@@ -146,12 +158,14 @@ impl MutableBooleanArray {
     }
 
     /// Makes spare capacity for so many more slots. `OutOfMemory` leaves the slots as they are.
+    #[inline]
     pub fn reserve_for(&mut self, bytes: usize) -> Result<()>
         ensures data_type { self.new.data_type ≡ self.old.data_type }
         ensures slots { self.new.slots ≡ self.old.slots }
         ensures memory { OnlyOutOfMemory result }
         ensures capacity { NoLessSpare (plain_node self.old) (plain_node self.new) }
         ensures ok { OnOk result (HasSpare bytes (plain_node self.new)) }
+        ensures has_capacity { bytes ≤ self.old.spare → IsOk result }
     {
         self.values.reserve(bytes)?;
         self.validity.reserve(bytes)?;

@@ -1,6 +1,6 @@
 //! A builder of values of one size.
 
-ghost use Rattle.std.specs.Prelude.{◌≡◌, ◌≤◌, ◌++◌, ◌∷◌, [], length, if◌then◌else◌, IsOk, IfOk, OnOk, OnErr};
+ghost use Rattle.std.specs.Prelude.{◌≡◌, ◌+◌, ◌≤◌, ◌++◌, ◌∷◌, [], length, if◌then◌else◌, IsOk, IfOk, OnOk, OnErr};
 ghost use Rattle.arrow_core.specs.Errors.{OnlyOutOfMemory};
 ghost use Rattle.arrow_core.specs.declared.error.Error.TheVariants.{OutOfMemory};
 ghost use Rattle.arrow_types.specs.declared.slot.Slot.TheVariants.{Null as NullSlot};
@@ -157,6 +157,18 @@ impl<T: NativeType> MutablePrimitiveArray<T> {
         }
     }
 
+    /// Appends a value, for which there is spare capacity: no memory is asked for.
+    #[inline(always)]
+    pub fn push_reserved(&mut self, value: T)
+        requires { 1 ≤ self.old.spare }
+        ensures data_type { self.new.data_type ≡ self.old.data_type }
+        ensures slots { self.new.slots ≡ self.old.slots ++ T.native_slot value ∷ [] }
+        ensures spare { self.new.spare + 1 ≡ self.old.spare }
+    {
+        self.validity.push_valid_reserved();
+        self.values.push_reserved(value);
+    }
+
     /// Appends a null. `OutOfMemory` changes nothing.
     #[inline(always)]
     pub fn push_null(&mut self) -> Result<()>
@@ -187,12 +199,14 @@ impl<T: NativeType> MutablePrimitiveArray<T> {
     }
 
     /// Makes spare capacity for so many more slots. `OutOfMemory` leaves the slots as they are.
+    #[inline]
     pub fn reserve_for(&mut self, bytes: usize) -> Result<()>
         ensures data_type { self.new.data_type ≡ self.old.data_type }
         ensures slots { self.new.slots ≡ self.old.slots }
         ensures memory { OnlyOutOfMemory result }
         ensures capacity { NoLessSpare (plain_node self.old) (plain_node self.new) }
         ensures ok { OnOk result (HasSpare bytes (plain_node self.new)) }
+        ensures has_capacity { bytes ≤ self.old.spare → IsOk result }
     {
         self.values.reserve(bytes)?;
         self.validity.reserve(bytes)?;

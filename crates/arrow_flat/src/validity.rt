@@ -59,10 +59,12 @@ impl MutableValidity {
     pub fn new(alloc: Global) -> MutableValidity
         ensures { result.items ≡ [] }
     {
+        let bits = MutableBitmap::new(alloc);
+        let capacity = bits.capacity();
         MutableValidity {
-            bits: MutableBitmap::new(alloc),
-            capacity: 0,
-            free: 0,
+            bits,
+            capacity,
+            free: capacity,
         }
     }
 
@@ -72,7 +74,11 @@ impl MutableValidity {
         ensures capacity { self.old.spare ≤ self.new.spare }
         ensures ok { OnOk result (additional ≤ self.new.spare) }
         ensures err { OnErr result (self.new ≡ self.old) }
+        ensures succeeds { additional ≤ self.old.spare → IsOk result }
     {
+        if additional <= self.free {
+            return Ok(());
+        }
         let counted = self.capacity - self.free;
         let Some(wanted) = counted.checked_add(additional) else {
             return Err(AllocError);
@@ -102,6 +108,20 @@ impl MutableValidity {
             return Ok(());
         }
         self.push_bit(is_valid)
+    }
+
+    /// Appends that one more slot is valid, for which there is spare capacity.
+    #[inline(always)]
+    pub fn push_valid_reserved(&mut self)
+        requires { 1 ≤ self.old.spare }
+        ensures items { self.new.items ≡ self.old.items ++ true ∷ [] }
+        ensures capacity { self.new.spare + 1 ≡ self.old.spare }
+    {
+        if self.free > 0 {
+            self.free -= 1;
+        } else {
+            self.bits.push_reserved(true);
+        }
     }
 
     /// `push`, where the bit begins a word, or no bit is written yet.

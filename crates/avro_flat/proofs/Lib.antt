@@ -7,6 +7,7 @@ pub mod Logical
 pub mod Many
 pub mod Sized
 pub mod Pushes
+pub mod Reserved
 pub mod Sets
 pub mod Symbols
 pub mod TwosComplement

@@ -79,8 +79,8 @@ module _ {X : Type 0} {rest : X → List ℕ} {shown calls whose : X → ℕ} {f
   }
 
   -- a turn fails
-  many-fault : {z : X} {u : DataType} {c : Node} (zs : List Slot) (d : DecodeFault) → turns < count → Reads rest shown calls whose y z t u b c zs (Err d) (push_one ys (f (rest y))) → Reads rest shown calls whose x z s u a c zs (Err d) (items f count xs (rest x))
-  many-fault {z} {u} {c} zs d lt e = record {
+  pub many_fault : {z : X} {u : DataType} {c : Node} (zs : List Slot) (d : DecodeFault) → turns < count → Reads rest shown calls whose y z t u b c zs (Err d) (push_one ys (f (rest y))) → Reads rest shown calls whose x z s u a c zs (Err d) (items f count xs (rest x))
+  many_fault {z} {u} {c} zs d lt e = record {
     data_type = e.data_type ∙ m.data_type;
     grows = fills_then (rest x) (rest y) (rest z) a b c m.forward e.moves.forward m.grows e.grows;
     has_capacity = λ h. e.has_capacity (spare_then (rest x) (rest y) a b m.forward m.grows h);
@@ -92,7 +92,7 @@ module _ {X : Type 0} {rest : X → List ℕ} {shown calls whose : X → ℕ} {f
 
   -- the same of what `?` returns then
   pub many_err : {z : X} {u : DataType} {c : Node} {r : Result (Unit {0}) DecodeFault} {d : DecodeFault} (zs : List Slot) → turns < count → (p : DecodeFault) × (r ≡ Err p) × (p ≡ d) → Reads rest shown calls whose y z t u b c zs (Err d) (push_one ys (f (rest y))) → Reads rest shown calls whose x z s u a c zs r (items f count xs (rest x))
-  many_err zs lt p e = rw (p.1, p.2) (many-fault zs _ lt e)
+  many_err zs lt p e = rw (p.1, p.2) (many_fault zs _ lt e)
 
   -- the offsets still reach all bytes ahead
   pub many_reach : (large : Bool) → OffsetsReach large (length (rest x)) a → OffsetsReach large (length (rest y)) b

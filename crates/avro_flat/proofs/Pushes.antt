@@ -43,19 +43,13 @@ fills_none n x = record {
   byte_capacity = omega arith;
 }
 
--- a push after a number, and one after a byte
+-- a push after a number or a byte
 pub number_fills : {X E : Type 0} (start rest : List ℕ) (r : Result X E) (old new : PlainBuilder) (x : Slot) → length rest < length start → OnOk r (new.slots ≡ old.slots ++ x ∷ []) → OnErr r (new ≡ old) → KeepsCapacity (plain_node old) (plain_node new) → Fills (passed start rest) (plain_node old) (plain_node new)
 number_fills start rest r old new x lt h e k =
     fills 1 0 (passed start rest) (plain_node old) (plain_node new) (plain_takes r old new x h e k) (omega (arith, lt)) (omega arith)
 
-pub byte_fills : {X E : Type 0} (start rest : List ℕ) (b : ℕ) (r : Result X E) (old new : PlainBuilder) (x : Slot) → start ≡ b ∷ rest → OnOk r (new.slots ≡ old.slots ++ x ∷ []) → OnErr r (new ≡ old) → KeepsCapacity (plain_node old) (plain_node new) → Fills (passed start rest) (plain_node old) (plain_node new)
-byte_fills start rest b r old new x is h e k = number_fills start rest r old new x (omega (arith, ap length is)) h e k
-
 pub number_has_memory : (start rest : List ℕ) (n : Node) (A : Type 0) (r : Result (Unit {0}) DecodeFault) → length rest < length start → (1 ≤ n.spare → A) → (A → HasMemory r) → HasSpare (length start) n → HasMemory r
 number_has_memory start rest n A r lt has_capacity answered capacity = answered (has_capacity (omega (arith, lt, capacity.slots)))
-
-pub byte_has_memory : (start rest : List ℕ) (b : ℕ) (n : Node) (A : Type 0) (r : Result (Unit {0}) DecodeFault) → start ≡ b ∷ rest → (1 ≤ n.spare → A) → (A → HasMemory r) → HasSpare (length start) n → HasMemory r
-byte_has_memory start rest b n A r is has_capacity answered capacity = answered (has_capacity (omega (arith, ap length is, capacity.slots)))
 
 -- ---- strings
 

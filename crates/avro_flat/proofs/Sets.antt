@@ -2,12 +2,14 @@
 use Rattle.avro_reference.proofs.Counting.{number_costs, byte_moves, ended_moves, byte_costs, still_moves, drop_moves}
 use Rattle.avro_flat.proofs.Counted.{binary_none, binary_short}
 use Rattle.avro_flat.proofs.Decimals.{decimal_none}
-use Rattle.avro_flat.proofs.Pushes.{fills_none, takes_none, number_fills, byte_fills, number_has_memory, byte_has_memory, string_takes}
+use Rattle.avro_flat.proofs.Pushes.{fills_none, takes_none, number_fills, number_has_memory, string_takes}
 use Rattle.avro_flat.proofs.Sized.{string_good, string_wrong, string_short, string_none}
 use Rattle.avro_flat.proofs.Symbols.{symbol_none, symbol_out, symbol_fills}
 use Rattle.avro_flat.proofs.Unfolded.{push_none, push_some, boolean_none, boolean_some, int_is, long_is}
 
-pub ruleset flats = (fills_none, number_fills, byte_fills, number_has_memory, byte_has_memory, number_costs, byte_moves, ended_moves, byte_costs, push_none, push_some, boolean_none, boolean_some, int_is, long_is)
+pub ruleset numbers = (byte_moves, ended_moves, byte_costs, boolean_none, boolean_some, int_is)
+
+pub ruleset flats = (fills_none, number_fills, number_has_memory, number_costs, push_none, push_some, long_is)
 
 pub ruleset strings = (fills_none, push_none, push_some, string_good, string_wrong, string_short, string_none)
 

@@ -1,5 +1,5 @@
 -- What the reading functions are, as equations that a check rewrites by.
-use Rattle.std.proofs.Common.{◌≡◌, ℕ, true, false, List, [], ◌∷◌, ◌++◌, Some, None, refl}
+use Rattle.std.proofs.Common.{◌≡◌, ℕ, ℤ, true, false, List, [], ◌∷◌, ◌++◌, Some, None, refl}
 use Rattle.std.specs.Prelude.{◌==◌, if◌then◌else◌}
 use Rattle.arrow_types.specs.declared.slot.Slot.{Slot}
 use Rattle.arrow_types.specs.declared.slot.Slot.TheVariants as slot
@@ -30,3 +30,11 @@ int_is bytes = refl
 pub long_is : (bytes : List ℕ) → long_at bytes ≡ (number_at bytes >>= λ n. Some (slot.Integer n.0, n.1))
 unfolding long_at
 long_is bytes = refl
+
+pub long_read : (bytes rest : List ℕ) (v : ℤ) → number_at bytes ≡ Some (v, rest) → long_at bytes ≡ Some (slot.Integer v, rest)
+unfolding long_at
+long_read bytes rest v e = rw e refl
+
+pub long_missing : (bytes : List ℕ) → number_at bytes ≡ None → long_at bytes ≡ None
+unfolding long_at
+long_missing bytes e = rw e refl

@@ -1,16 +1,65 @@
 //! Booleans and numbers (Avro 1.11, "Primitive Types": boolean, int and long).
 
-ghost use Rattle.std.specs.Prelude.{◌≡◌, length, OnOk};
+ghost use Rattle.std.specs.Prelude.{◌≡◌, ◌<◌, ◌≤◌, length, Some, None, MatchOption, OnSome, IfOk, IfErr, OnOk};
+ghost use Rattle.arrow_types.specs.declared.slot.Slot.TheVariants.{Boolean as BooleanSlot, Integer as IntegerSlot};
 ghost use Rattle.avro_reference.specs.Read.{push_one, boolean_at, int_at, long_at, items};
 ghost use Rattle.arrow_flat.specs.Builders.{plain_node};
 ghost use Rattle.arrow_flat.specs.Nodes.{HasSpare};
-ghost use Rattle.avro_reference.specs.Costs.{passed, Moves, CostsKept};
+ghost use Rattle.avro_reference.specs.Costs.{passed, Moves, CostsKept, CostsNumber};
 ghost use Rattle.avro_flat.specs.Decoding.{Gives, HasMemory};
 ghost use Rattle.avro_flat.specs.Growing.{Fills};
 
 use crate::fault::{DecodeFault, pushed};
 use arrow_flat::{MutableBooleanArray, MutablePrimitiveArray};
 use avro_reference::Ahead;
+
+/// How many slots `count` values take that have a byte or more each. `Bytes` where fewer bytes are
+/// ahead, so that no capacity is made for a count that the bytes don't back.
+#[inline(always)]
+fn slots_for<C: Ahead>(cursor: &C, count: u64) -> Result<usize, DecodeFault>
+    ensures ok { IfOk result (λ n. (n ≡ count) × (n ≤ length (C.rest cursor.now))) }
+    ensures err { IfErr result (λ e. (e ≡ DecodeFault.Bytes)
+        × (length (C.rest cursor.now) < count)) }
+{
+    if count > cursor.left() as u64 {
+        return Err(DecodeFault::Bytes);
+    }
+    Ok(count as usize)
+}
+
+/// The boolean at the start of the bytes ahead, a byte 0 or 1, which is passed. None for any other
+/// byte, or for none.
+#[inline(always)]
+#[tactic(auto, using(crate::proofs::Sets::numbers))]
+fn next_boolean<C: Ahead>(cursor: &mut C) -> Option<bool>
+    ensures same { C.whose cursor.new ≡ C.whose cursor.old }
+    ensures moves { Moves C.rest C.calls cursor.old cursor.new }
+    ensures shorter { OnSome result (length (C.rest cursor.new) < length (C.rest cursor.old)) }
+    ensures costs { OnSome result (CostsKept C.rest C.shown C.calls cursor.old cursor.new) }
+    ensures reads { MatchOption result (boolean_at (C.rest cursor.old) ≡ None)
+        (λ b. boolean_at (C.rest cursor.old) ≡ Some (BooleanSlot b, C.rest cursor.new)) }
+{
+    let byte = cursor.byte()?;
+    if byte > 1 {
+        return None;
+    }
+    Some(byte == 1)
+}
+
+/// The number of 32 bits at the start of the bytes ahead, which is passed. None where no prefix of
+/// them is a number, or it has more bits.
+#[inline(always)]
+#[tactic(auto, using(crate::proofs::Sets::numbers))]
+fn next_int<C: Ahead>(cursor: &mut C) -> Option<i32>
+    ensures same { C.whose cursor.new ≡ C.whose cursor.old }
+    ensures moves { Moves C.rest C.calls cursor.old cursor.new }
+    ensures costs { OnSome result (CostsNumber C.rest C.shown C.calls cursor.old cursor.new) }
+    ensures reads { MatchOption result (int_at (C.rest cursor.old) ≡ None)
+        (λ v. int_at (C.rest cursor.old) ≡ Some (IntegerSlot v, C.rest cursor.new)) }
+{
+    let number = cursor.number()?;
+    i32::try_from(number).ok()
+}
 
 /// Reads a boolean, a byte 0 or 1, into one more slot. `Bytes` for any other byte, or for none;
 /// `Memory`.
@@ -31,13 +80,10 @@ pub fn decode_boolean<C: Ahead>(
     ensures reads { Gives (λ _. (values.new.slots, C.rest cursor.new)) result
         (push_one values.old.slots (boolean_at (C.rest cursor.old))) }
 {
-    let Some(byte) = cursor.byte() else {
-        return Err(DecodeFault::Bytes);
-    };
-    if byte > 1 {
-        return Err(DecodeFault::Bytes);
+    match next_boolean(cursor) {
+        Some(boolean) => pushed(values.push(Some(boolean))),
+        None => Err(DecodeFault::Bytes),
     }
-    pushed(values.push(Some(byte == 1)))
 }
 
 /// Reads `count` booleans, each into one more slot. `Bytes` where the bytes ahead don't begin with
@@ -58,8 +104,13 @@ pub fn decode_booleans<C: Ahead>(
     ensures reads { Gives (λ _. (values.new.slots, C.rest cursor.new)) result
         (items boolean_at count values.old.slots (C.rest cursor.old)) }
 {
-    for _ in 0..count {
-        decode_boolean(cursor, values)?;
+    let slots = slots_for(cursor, count)?;
+    pushed(values.reserve_for(slots))?;
+    for _ in 0..slots {
+        let Some(boolean) = next_boolean(cursor) else {
+            return Err(DecodeFault::Bytes);
+        };
+        values.push_reserved(boolean);
     }
     Ok(())
 }
@@ -83,12 +134,9 @@ pub fn decode_int<C: Ahead>(
     ensures reads { Gives (λ _. (values.new.slots, C.rest cursor.new)) result
         (push_one values.old.slots (int_at (C.rest cursor.old))) }
 {
-    let Some(number) = cursor.number() else {
-        return Err(DecodeFault::Bytes);
-    };
-    match i32::try_from(number) {
-        Ok(value) => pushed(values.push(Some(value))),
-        Err(_) => Err(DecodeFault::Bytes),
+    match next_int(cursor) {
+        Some(number) => pushed(values.push(Some(number))),
+        None => Err(DecodeFault::Bytes),
     }
 }
 
@@ -110,8 +158,13 @@ pub fn decode_ints<C: Ahead>(
     ensures reads { Gives (λ _. (values.new.slots, C.rest cursor.new)) result
         (items int_at count values.old.slots (C.rest cursor.old)) }
 {
-    for _ in 0..count {
-        decode_int(cursor, values)?;
+    let slots = slots_for(cursor, count)?;
+    pushed(values.reserve_for(slots))?;
+    for _ in 0..slots {
+        let Some(number) = next_int(cursor) else {
+            return Err(DecodeFault::Bytes);
+        };
+        values.push_reserved(number);
     }
     Ok(())
 }
@@ -159,8 +212,13 @@ pub fn decode_longs<C: Ahead>(
     ensures reads { Gives (λ _. (values.new.slots, C.rest cursor.new)) result
         (items long_at count values.old.slots (C.rest cursor.old)) }
 {
-    for _ in 0..count {
-        decode_long(cursor, values)?;
+    let slots = slots_for(cursor, count)?;
+    pushed(values.reserve_for(slots))?;
+    for _ in 0..slots {
+        let Some(number) = cursor.number() else {
+            return Err(DecodeFault::Bytes);
+        };
+        values.push_reserved(number);
     }
     Ok(())
 }

@@ -7,7 +7,6 @@ use denote.Param.Weighed.{at_most}
 use Rattle.avro_schema.proofs.schema.AvroField.TheLaws.{the_size as field_size}
 use Rattle.avro_schema.proofs.schema.Schema.TheLaws.{the_size}
 use Rattle.avro_decode.proofs.Fields.{shapes_length, two_of}
-use Rattle.avro_decode.proofs.Going.{grows_behind}
 use Rattle.avro_decode.proofs.Members.{has_kind, has_flat_kind, no_list, list_grown, list_spare_below, members_size, same_at, record_kind, union_suits, union_reach, union_grows, union_spare, union_gives, union_size, record_suits, record_is_tight, record_reaches, record_grown, record_spare_below, record_given}
 use Rattle.avro_schema.specs.declared.schema.Schema.TheViews.{the_lemmas}
 use Rattle.arrow_builders.specs.declared.array.MutableArray.TheViews.{the_lemmas as builder_lemmas}
@@ -25,10 +24,11 @@ use Rattle.avro_decode.specs.Masks.{mask}
 use Rattle.avro_decode.specs.Growth.{Grows, AllOffsetsReach, HaveSpare, ChildrenGrow}
 use Rattle.avro_decode.specs.Suits.{Suits}
 use Rattle.arrow_builders.specs.Tight.{IsTight}
-use Rattle.avro_reference.proofs.Counting.{not_longer, forward_more, forward_none, moves_within, kept_then, kept_none, number_costs, number_first}
+use Rattle.avro_reference.proofs.Counting.{not_longer, forward_more, forward_none, moves_within, kept_then, kept_none}
 use Rattle.avro_decode.proofs.Fields.{suit_length, suit_at, suit_same, part_at, part_next, part_all, children_none, children_then, children_set, reach_at, children_reach, spare_at, children_spare, record_reach, record_spare, record_grows, fields_begun, field_step, field_fault, fields_ended, push_length, record_fails}
-use Rattle.avro_decode.proofs.Going.{costs_behind, grows_on, grows_then, grows_first, offsets_on, offsets_then, offsets_less, spare_on, list_suits, large_list_suits, item_reach, large_item_reach, items_counted, large_items_counted, list_spare, list_grows, array_fails, list_order, list_gives}
-use Rattle.avro_decode.proofs.Nodes.{grows_none, grows_wider, spare_less, grows_fewer, spare_fewer}
+use Rattle.avro_decode.proofs.Going.{offsets_on, offsets_then, offsets_less, list_suits, large_list_suits, item_reach, large_item_reach, items_counted, large_items_counted, list_spare, list_grows, array_fails, list_order, list_gives}
+use Rattle.avro_decode.proofs.Keeping.{keeps_none, keeps_number, keeps_unread, keeps_fault, keeps_then, keeps_behind}
+use Rattle.avro_decode.proofs.Nodes.{grows_wider, grows_fewer, spare_fewer}
 use Rattle.avro_decode.proofs.Members.{null_gives, no_index, suits_first, suits_second, second_gives, shorter_by, null_tight, record_tight, pushed_tight, record_gives}
 use Rattle.avro_reference.specs.Costs.{passed}
 use Rattle.avro_flat.proofs.Pushes.{takes_none}
@@ -154,16 +154,7 @@ decode_large_array-returns-clause-reads g t c =
 -- ---- blocks
 
 pub decode_block_items-returns-in_default-clause-keeps : goal.decode_block_items-returns-in_default-clause-keeps
-decode_block_items-returns-in_default-clause-keeps g t c =
-    record {
-      same_shape = refl;
-      tight = tt;
-      grows = grows_none _ _ _;
-      has_capacity = λ h. tt;
-      same = refl;
-      moves = search rules;
-      costs = tt;
-    }
+decode_block_items-returns-in_default-clause-keeps g t c = keeps_unread refl (search rules) tt
 
 pub decode_block_items-returns-in_default-clause-reads : goal.decode_block_items-returns-in_default-clause-reads
 decode_block_items-returns-in_default-clause-reads g t c =
@@ -188,17 +179,7 @@ decode_block_items-returns-in-Some-clause-reads g t c =
 
 pub decode_blocks-returns-in_default-clause-keeps : goal.decode_blocks-returns-in_default-clause-keeps
 decode_blocks-returns-in_default-clause-keeps g t c =
-    let inv = c.loop-count.invariant in
-    let n = c.number.ensures in
-    record {
-      same_shape = inv.shape;
-      tight = tt;
-      grows = grows_on _ _ _ _ _ _ inv.forward n.moves.forward inv.grows;
-      has_capacity = λ h. tt;
-      same = n.same ∙ inv.same;
-      moves = moves_within _ _ _ _ _ _ _ _ inv.costs inv.forward n.moves;
-      costs = tt;
-    }
+    keeps_then c.loop-count.invariant.keeps (keeps_unread c.number.ensures.same c.number.ensures.moves tt)
 
 pub decode_blocks-returns-in_default-clause-reads : goal.decode_blocks-returns-in_default-clause-reads
 decode_blocks-returns-in_default-clause-reads g t c =
@@ -209,15 +190,7 @@ pub decode_blocks-returns-then-count-eq0-clause-keeps : goal.decode_blocks-retur
 decode_blocks-returns-then-count-eq0-clause-keeps g t c =
     let inv = c.loop-count.invariant in
     let n = c.in-Some.ensures in
-    record {
-      same_shape = inv.shape;
-      tight = inv.tight;
-      grows = grows_on _ _ _ _ _ _ inv.forward n.moves.forward inv.grows;
-      has_capacity = λ h. tt;
-      same = n.same ∙ inv.same;
-      moves = moves_within _ _ _ _ _ _ _ _ inv.costs inv.forward n.moves;
-      costs = kept_then _ _ _ _ _ _ inv.forward n.moves.forward inv.costs (number_costs _ _ _ _ _ n.costs);
-    }
+    keeps_then inv.keeps (keeps_number n.same n.moves n.costs inv.keeps.tight)
 
 pub decode_blocks-returns-then-count-eq0-clause-reads : goal.decode_blocks-returns-then-count-eq0-clause-reads
 decode_blocks-returns-then-count-eq0-clause-reads g t c =
@@ -228,28 +201,25 @@ decode_blocks-returns-then-count-eq0-clause-reads g t c =
 pub decode_blocks-decode_block_items-requires : goal.decode_blocks-decode_block_items-requires
 decode_blocks-decode_block_items-requires g t c κs within =
     let inv = c.loop-count.invariant in
+    let k = inv.keeps in
     let d = c.decreases in
     let i = c.args.item.now in
     let s : SFits w64 c.in-Some.count = search rules in
-    (omega arith, (within.0, (within.1, (not_as c.in-Some.count (pos 0) s c.if-count-eq0.false, (subst (Suits i) (sym inv.shape) c.requires.suits, (inv.tight, offsets_then i _ _ _ c.args.child.now c.loop-count.child inv.shape inv.forward c.in-Some.ensures.moves.forward inv.grows c.requires.offsets))))))
+    (omega arith, (within.0, (within.1, (not_as c.in-Some.count (pos 0) s c.if-count-eq0.false, (subst (Suits i) (sym k.same_shape) c.requires.suits, (k.tight, offsets_then i _ _ _ c.args.child.now c.loop-count.child k.same_shape k.moves.forward c.in-Some.ensures.moves.forward k.grows c.requires.offsets))))))
+
+pub decode_blocks-loop-count-init : goal.decode_blocks-loop-count-init
+decode_blocks-loop-count-init g t c = record { keeps = keeps_none c.requires.tight; reads = search rules }
 
 pub decode_blocks-loop-count-preserved : goal.decode_blocks-loop-count-preserved
 decode_blocks-loop-count-preserved g t c =
     let inv = c.loop-count.invariant in
     let n = c.in-Some.ensures in
     let e = c.in_ok-decode_block_items.ensures in
-    let k = e.keeps in
-    let f = forward_more _ _ _ n.moves.forward k.moves.forward in
-    let l = not_longer _ _ k.moves.forward in
+    let l = not_longer _ _ e.keeps.moves.forward in
     let s = n.costs.shorter in
     let w : SFits w64 c.in-Some.count = search rules in
     record {
-      same = k.same ∙ n.same ∙ inv.same;
-      shape = k.same_shape ∙ inv.shape;
-      tight = k.tight;
-      forward = forward_more _ _ _ inv.forward f;
-      grows = grows_then _ _ _ _ _ _ _ inv.forward f inv.grows (grows_first _ _ _ _ _ _ n.moves.forward k.moves.forward k.grows);
-      costs = kept_then _ _ _ _ _ _ inv.forward f inv.costs (kept_then _ _ _ _ _ _ n.moves.forward k.moves.forward (number_costs _ _ _ _ _ n.costs) k.costs);
+      keeps = keeps_then inv.keeps (keeps_then (keeps_number n.same n.moves n.costs inv.keeps.tight) e.keeps);
       reads = blocks-next _ inv.reads.0 _ _ _ _ _ _ _ inv.reads.1 (omega (arith, l, s)) n.reads (not_is c.in-Some.count (pos 0) c.if-count-eq0.false) (rw (to_z-of_z w64 c.in-Some.count w) at e.reads) inv.reads.2;
     }
 
@@ -257,17 +227,8 @@ pub decode_blocks-returns-in_err-decode_block_items-clause-keeps : goal.decode_b
 decode_blocks-returns-in_err-decode_block_items-clause-keeps g t c =
     let inv = c.loop-count.invariant in
     let n = c.in-Some.ensures in
-    let e = c.in_err-decode_block_items.ensures.keeps in
     let p = err_from_is_err_and c.from_residual.result c.from_residual.ensures.1 in
-    rw (p.1, p.2) (record {
-      same_shape = e.same_shape ∙ inv.shape;
-      tight = tt;
-      grows = grows_then _ _ _ _ _ _ _ inv.forward (forward_more _ _ _ n.moves.forward e.moves.forward) inv.grows (grows_first _ _ _ _ _ _ n.moves.forward e.moves.forward e.grows);
-      has_capacity = λ h. e.has_capacity (spare_on _ _ _ _ _ _ inv.forward n.moves.forward inv.grows h);
-      same = e.same ∙ (n.same ∙ inv.same);
-      moves = moves_within _ _ _ _ _ _ _ _ inv.costs inv.forward (number_first _ _ _ _ _ _ n.costs n.moves e.moves);
-      costs = tt;
-    })
+    rw (p.1, p.2) (keeps_then inv.keeps (keeps_then (keeps_number n.same n.moves n.costs inv.keeps.tight) c.in_err-decode_block_items.ensures.keeps))
 
 pub decode_blocks-returns-in_err-decode_block_items-clause-reads : goal.decode_blocks-returns-in_err-decode_block_items-clause-reads
 decode_blocks-returns-in_err-decode_block_items-clause-reads g t c =
@@ -431,25 +392,15 @@ decode_fields-returns-clause-reads g t c =
 
 pub decode_nested_items-decode_value-requires : goal.decode_nested_items-decode_value-requires
 decode_nested_items-decode_value-requires g t c κs within =
-    let inv = c.loop.invariant in
+    let k = c.loop.invariant.keeps in
     let d = c.decreases in
     let i = c.args.item.now in
-    (omega arith, (within.0, (within.1, (has_kind i c.loop.child (subst (Suits i) (sym inv.shape) c.requires.suits), (subst (Suits i) (sym inv.shape) c.requires.suits, (inv.tight, offsets_on i _ _ c.args.child.now c.loop.child inv.shape inv.forward inv.grows c.requires.offsets))))))
+    (omega arith, (within.0, (within.1, (has_kind i c.loop.child (subst (Suits i) (sym k.same_shape) c.requires.suits), (subst (Suits i) (sym k.same_shape) c.requires.suits, (k.tight, offsets_on i _ _ c.args.child.now c.loop.child k.same_shape k.moves.forward k.grows c.requires.offsets))))))
 
 pub decode_nested_items-returns-in_err-decode_value-clause-keeps : goal.decode_nested_items-returns-in_err-decode_value-clause-keeps
 decode_nested_items-returns-in_err-decode_value-clause-keeps g t c =
-    let inv = c.loop.invariant in
-    let e = c.in_err-decode_value.ensures.keeps in
     let p = err_from_is_err_and c.from_residual.result c.from_residual.ensures.1 in
-    rw (p.1, p.2) (record {
-      same_shape = e.same_shape ∙ inv.shape;
-      tight = tt;
-      grows = grows_then _ _ _ _ _ _ _ inv.forward e.moves.forward inv.grows e.grows;
-      has_capacity = λ h. e.has_capacity (spare_on _ _ _ _ _ _ inv.forward (forward_none _) inv.grows h);
-      same = e.same ∙ inv.same;
-      moves = moves_within _ _ _ _ _ _ _ _ inv.costs inv.forward e.moves;
-      costs = tt;
-    })
+    rw (p.1, p.2) (keeps_then c.loop.invariant.keeps c.in_err-decode_value.ensures.keeps)
 
 pub decode_nested_items-returns-in_err-decode_value-clause-reads : goal.decode_nested_items-returns-in_err-decode_value-clause-reads
 decode_nested_items-returns-in_err-decode_value-clause-reads g t c =
@@ -457,34 +408,21 @@ decode_nested_items-returns-in_err-decode_value-clause-reads g t c =
     let s : c.args.count - c.loop.counter ≡ suc (c.args.count - (c.loop.counter + 1)) = omega arith in
     rw (p.1, p.2) (items-err _ _ _ _ _ _ _ s c.in_err-decode_value.ensures.reads c.loop.invariant.reads)
 
+pub decode_nested_items-loop-init : goal.decode_nested_items-loop-init
+decode_nested_items-loop-init g t c = record { keeps = keeps_none c.requires.tight; reads = search rules }
+
 pub decode_nested_items-loop-preserved : goal.decode_nested_items-loop-preserved
 decode_nested_items-loop-preserved g t c =
     let inv = c.loop.invariant in
     let e = c.in_ok-decode_value.ensures in
-    let k = e.keeps in
     let s : c.args.count - c.loop.counter ≡ suc (c.args.count - (c.loop.counter + 1)) = omega arith in
     record {
-      same = k.same ∙ inv.same;
-      shape = k.same_shape ∙ inv.shape;
-      tight = k.tight;
-      forward = forward_more _ _ _ inv.forward k.moves.forward;
-      grows = grows_then _ _ _ _ _ _ _ inv.forward k.moves.forward inv.grows k.grows;
-      costs = kept_then _ _ _ _ _ _ inv.forward k.moves.forward inv.costs k.costs;
+      keeps = keeps_then inv.keeps e.keeps;
       reads = items-next _ _ _ _ _ _ _ _ s e.reads inv.reads;
     }
 
 pub decode_nested_items-returns-clause-keeps : goal.decode_nested_items-returns-clause-keeps
-decode_nested_items-returns-clause-keeps g t c =
-    let inv = c.loop.invariant in
-    record {
-      same_shape = inv.shape;
-      tight = inv.tight;
-      grows = inv.grows;
-      has_capacity = λ h. tt;
-      same = inv.same;
-      moves = search rules;
-      costs = inv.costs;
-    }
+decode_nested_items-returns-clause-keeps g t c = c.loop.invariant.keeps
 
 pub decode_nested_items-returns-clause-reads : goal.decode_nested_items-returns-clause-reads
 decode_nested_items-returns-clause-reads g t c =
@@ -532,16 +470,7 @@ decode_pair-returns-in-Some-clause-reads g t c =
     pair_gives _ c.decode_member.result _ c.args.index c.args.null_first c.in-Some.null c.args.schema.now _ (sym (rw (to_z-of_z w64 c.args.index c.ranges.index) at c.in-Some.ensures)) c.decode_member.ensures.reads
 
 pub decode_pair-returns-in-None-clause-keeps : goal.decode_pair-returns-in-None-clause-keeps
-decode_pair-returns-in-None-clause-keeps g t c =
-    record {
-      same_shape = refl;
-      tight = tt;
-      grows = grows_none _ _ _;
-      has_capacity = λ h. tt;
-      same = refl;
-      moves = search rules;
-      costs = tt;
-    }
+decode_pair-returns-in-None-clause-keeps g t c = keeps_unread refl (search rules) tt
 
 pub decode_pair-returns-in-None-clause-reads : goal.decode_pair-returns-in-None-clause-reads
 decode_pair-returns-in-None-clause-reads g t c =
@@ -610,60 +539,23 @@ decode_sized-decode_items-requires g t c κs within =
 pub decode_sized-returns-in_err-decode_items-clause-keeps : goal.decode_sized-returns-in_err-decode_items-clause-keeps
 decode_sized-returns-in_err-decode_items-clause-keeps g t c =
     let n = c.in-Some.ensures in
-    let e = c.in_err-decode_items.ensures.keeps in
     let p = err_from_is_err_and c.from_residual.result c.from_residual.ensures.1 in
-    rw (p.1, p.2) (record {
-      same_shape = e.same_shape;
-      tight = tt;
-      grows = grows_first _ _ _ _ _ _ n.moves.forward e.moves.forward e.grows;
-      has_capacity = λ h. e.has_capacity (spare_less _ _ _ _ (not_longer _ _ n.moves.forward) h);
-      same = e.same ∙ n.same;
-      moves = number_first _ _ _ _ _ _ n.costs n.moves e.moves;
-      costs = tt;
-    })
+    rw (p.1, p.2) (keeps_then (keeps_number n.same n.moves n.costs c.requires.tight) c.in_err-decode_items.ensures.keeps)
 
 pub decode_sized-returns-then-ne-clause-keeps : goal.decode_sized-returns-then-ne-clause-keeps
 decode_sized-returns-then-ne-clause-keeps g t c =
     let n = c.in-Some.ensures in
-    let e = c.in_ok-decode_items.ensures.keeps in
-    record {
-      same_shape = e.same_shape;
-      tight = tt;
-      grows = grows_first _ _ _ _ _ _ n.moves.forward e.moves.forward e.grows;
-      has_capacity = λ h. tt;
-      same = e.same ∙ n.same;
-      moves = number_first _ _ _ _ _ _ n.costs n.moves e.moves;
-      costs = tt;
-    }
+    keeps_fault (keeps_then (keeps_number n.same n.moves n.costs c.requires.tight) c.in_ok-decode_items.ensures.keeps)
 
 pub decode_sized-returns-clause-keeps : goal.decode_sized-returns-clause-keeps
 decode_sized-returns-clause-keeps g t c =
     let n = c.in-Some.ensures in
-    let e = c.in_ok-decode_items.ensures.keeps in
-    record {
-      same_shape = e.same_shape;
-      tight = e.tight;
-      grows = grows_first _ _ _ _ _ _ n.moves.forward e.moves.forward e.grows;
-      has_capacity = λ h. tt;
-      same = e.same ∙ n.same;
-      moves = number_first _ _ _ _ _ _ n.costs n.moves e.moves;
-      costs = kept_then _ _ _ _ _ _ n.moves.forward e.moves.forward (number_costs _ _ _ _ _ n.costs) e.costs;
-    }
+    keeps_then (keeps_number n.same n.moves n.costs c.requires.tight) c.in_ok-decode_items.ensures.keeps
 
 -- ---- unions
 
 pub decode_union-returns-in_default-number-clause-keeps : goal.decode_union-returns-in_default-number-clause-keeps
-decode_union-returns-in_default-number-clause-keeps g t c =
-    let n = c.number.ensures in
-    record {
-      same_shape = refl;
-      tight = tt;
-      grows = grows_none _ _ _;
-      has_capacity = λ h. tt;
-      same = n.same;
-      moves = n.moves;
-      costs = tt;
-    }
+decode_union-returns-in_default-number-clause-keeps g t c = keeps_unread c.number.ensures.same c.number.ensures.moves tt
 
 pub decode_union-returns-in_default-number-clause-reads : goal.decode_union-returns-in_default-number-clause-reads
 decode_union-returns-in_default-number-clause-reads g t c =
@@ -702,18 +594,8 @@ decode_union-returns-then-is_null-clause-keeps g t c =
     let b = c.second-item.result in
     let two = two_of ms a b c.in-len2.len_at_least c.in-len2.len_below c.first-item.is c.second-item.is in
     let s = suits_first ms a b _ two (c.is_null.ensures.0 c.if-is_null.true) c.requires.suits in
-    let e = c.decode_pair.ensures.keeps in
     let n = c.in-Some.ensures in
-    let l = n.costs.shorter in
-    record {
-      same_shape = e.same_shape;
-      tight = e.tight;
-      grows = subst (λ (xs : ListOf Bool). Grows xs (passed (g.C.Ahead.rest c.args.cursor.now) (g.C.Ahead.rest c.decode_pair.new.cursor)) (nodes c.args.builder.now) (nodes c.decode_pair.new.builder)) (sym s.1) (grows_behind (mask true b) _ _ _ _ _ l e.moves.forward e.grows);
-      has_capacity = λ h. e.has_capacity (spare_less (mask true b) _ _ _ (omega (arith, l)) (subst (λ (xs : ListOf Bool). HaveSpare xs (length (g.C.Ahead.rest c.args.cursor.now)) (nodes c.args.builder.now)) s.1 h));
-      same = e.same ∙ n.same;
-      moves = number_first _ _ _ _ _ _ n.costs n.moves e.moves;
-      costs = costs_behind _ _ _ _ _ _ _ n.moves.forward e.moves.forward n.costs e.costs;
-    }
+    keeps_behind (sym s.1) n.same n.moves n.costs c.decode_pair.ensures.keeps
 
 pub decode_union-returns-else-is_null-clause-keeps : goal.decode_union-returns-else-is_null-clause-keeps
 decode_union-returns-else-is_null-clause-keeps g t c =
@@ -722,18 +604,8 @@ decode_union-returns-else-is_null-clause-keeps g t c =
     let b = c.second-item.result in
     let two = two_of ms a b c.in-len2.len_at_least c.in-len2.len_below c.first-item.is c.second-item.is in
     let s = suits_second ms a b _ two (λ h. let q : true ≡ false = sym (c.is_null.ensures.1 h) ∙ c.if-is_null.false in absurd cc) c.requires.suits in
-    let e = c.decode_pair-else-is_null.ensures.keeps in
     let n = c.in-Some.ensures in
-    let l = n.costs.shorter in
-    record {
-      same_shape = e.same_shape;
-      tight = e.tight;
-      grows = subst (λ (xs : ListOf Bool). Grows xs (passed (g.C.Ahead.rest c.args.cursor.now) (g.C.Ahead.rest c.decode_pair-else-is_null.new.cursor)) (nodes c.args.builder.now) (nodes c.decode_pair-else-is_null.new.builder)) (sym s.1) (grows_behind (mask true a) _ _ _ _ _ l e.moves.forward e.grows);
-      has_capacity = λ h. e.has_capacity (spare_less (mask true a) _ _ _ (omega (arith, l)) (subst (λ (xs : ListOf Bool). HaveSpare xs (length (g.C.Ahead.rest c.args.cursor.now)) (nodes c.args.builder.now)) s.1 h));
-      same = e.same ∙ n.same;
-      moves = number_first _ _ _ _ _ _ n.costs n.moves e.moves;
-      costs = costs_behind _ _ _ _ _ _ _ n.moves.forward e.moves.forward n.costs e.costs;
-    }
+    keeps_behind (sym s.1) n.same n.moves n.costs c.decode_pair-else-is_null.ensures.keeps
 
 pub decode_union-returns-else-is_null-clause-reads : goal.decode_union-returns-else-is_null-clause-reads
 decode_union-returns-else-is_null-clause-reads g t c =

@@ -1,6 +1,6 @@
 use Rattle.std.proofs.Common.{◌≡◌, ◌≤◌, ◌<◌, ◌-◌, ◌+◌, ℕ, false, length, map, drop, [], List}
 use Rattle.arrow_types.specs.declared.slot.Slot.{Slot}
-use Rattle.arrow_builders.specs.MutableArrays.{builder_slots, nodes}
+use Rattle.arrow_builders.specs.MutableArrays.{builder_slots}
 use Rattle.arrow_builders.specs.Shapes.{shape}
 use Rattle.avro_schema.specs.Number.{MovesForward}
 use Rattle.avro_reference.specs.Read.{items, blocks, read}
@@ -9,19 +9,13 @@ use Rattle.avro_decode.specs.Decoding.{grown}
 use Rattle.avro_reference.specs.Costs.{passed, CostsKept}
 use Rattle.avro_decode.specs.Decoding.{all_blocks}
 use Rattle.avro_decode.specs.Masks.{mask}
-use Rattle.avro_decode.specs.Growth.{Grows, ChildrenGrow}
-use Rattle.arrow_builders.specs.Tight.{IsTight}
-use Rattle.avro_decode.specs.Growth.{PartTight}
+use Rattle.avro_decode.specs.Growth.{ChildrenGrow, PartTight}
+use Rattle.avro_decode.proofs.Keeping.{KeepsSoFar}
 use Rattle.avro_decode.proofs.decode.+decode.Given as goal
 
 abbrev pub invariant-decode_blocks-loop-count : goal.invariant-decode_blocks-loop-count
 invariant-decode_blocks-loop-count g l = record {
-  same : g.C.Ahead.whose l.cursor ≡ g.C.Ahead.whose l.fn.cursor;
-  shape : shape l.child ≡ shape l.fn.child;
-  tight : IsTight l.child;
-  forward : MovesForward (g.C.Ahead.rest l.fn.cursor) (g.C.Ahead.rest l.cursor);
-  grows : Grows (mask false l.item) (passed (g.C.Ahead.rest l.fn.cursor) (g.C.Ahead.rest l.cursor)) (nodes l.fn.child) (nodes l.child);
-  costs : CostsKept g.C.Ahead.rest g.C.Ahead.shown g.C.Ahead.calls l.fn.cursor l.cursor;
+  keeps : KeepsSoFar g.C.Ahead.rest g.C.Ahead.shown g.C.Ahead.calls g.C.Ahead.whose (mask false l.item) l.fn.cursor l.cursor l.fn.child l.child;
   reads : (fuel : ℕ) × (length (g.C.Ahead.rest l.cursor) < fuel) × (blocks (read l.item) fuel (builder_slots l.child) (g.C.Ahead.rest l.cursor) ≡ all_blocks (read l.item) (builder_slots l.fn.child) (g.C.Ahead.rest l.fn.cursor));
 }
 
@@ -30,12 +24,7 @@ decreases-decode_blocks-loop-count g l = length (g.C.Ahead.rest l.cursor)
 
 abbrev pub invariant-decode_nested_items-loop : goal.invariant-decode_nested_items-loop
 invariant-decode_nested_items-loop g l = record {
-  same : g.C.Ahead.whose l.cursor ≡ g.C.Ahead.whose l.fn.cursor;
-  shape : shape l.child ≡ shape l.fn.child;
-  tight : IsTight l.child;
-  forward : MovesForward (g.C.Ahead.rest l.fn.cursor) (g.C.Ahead.rest l.cursor);
-  grows : Grows (mask false l.item) (passed (g.C.Ahead.rest l.fn.cursor) (g.C.Ahead.rest l.cursor)) (nodes l.fn.child) (nodes l.child);
-  costs : CostsKept g.C.Ahead.rest g.C.Ahead.shown g.C.Ahead.calls l.fn.cursor l.cursor;
+  keeps : KeepsSoFar g.C.Ahead.rest g.C.Ahead.shown g.C.Ahead.calls g.C.Ahead.whose (mask false l.item) l.fn.cursor l.cursor l.fn.child l.child;
   reads : items (read l.item) (l.count - l.counter) (builder_slots l.child) (g.C.Ahead.rest l.cursor) ≡ items (read l.item) l.count (builder_slots l.fn.child) (g.C.Ahead.rest l.fn.cursor);
 }
 

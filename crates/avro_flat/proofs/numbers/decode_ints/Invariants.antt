@@ -1,8 +1,11 @@
+use Rattle.std.proofs.Common.{◌+◌, ◌≤◌}
 use Rattle.arrow_flat.specs.Builders.{plain_node}
 use Rattle.avro_reference.specs.Read.{int_at}
 use Rattle.avro_flat.proofs.Many.{ManySoFar}
 use Rattle.avro_flat.proofs.numbers.decode_ints.Given as goal
 
 abbrev pub invariant-loop : goal.invariant-loop
-invariant-loop g l =
-    ManySoFar g.C.Ahead.rest g.C.Ahead.shown g.C.Ahead.calls g.C.Ahead.whose int_at l.count l.counter l.fn.cursor l.cursor l.fn.values.data_type l.values.data_type (plain_node l.fn.values) (plain_node l.values) l.fn.values.slots l.values.slots
+invariant-loop g l = record {
+  many : ManySoFar g.C.Ahead.rest g.C.Ahead.shown g.C.Ahead.calls g.C.Ahead.whose int_at l.count l.counter l.fn.cursor l.cursor l.fn.values.data_type l.values.data_type (plain_node l.fn.values) (plain_node l.values) l.fn.values.slots l.values.slots;
+  spare : l.count ≤ l.counter + l.values.spare;
+}
