@@ -35,23 +35,11 @@ use Rattle.std.proofs.lemmas.List.{length-append}
 
 -- ---- growth over two calls
 
-pub grows_on : (ms : List Bool) (x y z : List ℕ) (xs ys : List Node) → MovesForward x y → MovesForward y z → Grows ms (passed x y) xs ys → Grows ms (passed x z) xs ys
-grows_on ms x y z xs ys f g h =
-    let a = not_longer x y f in
-    let b = not_longer y z g in
-    grows_wider ms (passed x y) (passed x z) xs ys h (omega (arith, a, b))
-
 pub grows_then : (ms : List Bool) (x y z : List ℕ) (xs ys zs : List Node) → MovesForward x y → MovesForward y z → Grows ms (passed x y) xs ys → Grows ms (passed y z) ys zs → Grows ms (passed x z) xs zs
 grows_then ms x y z xs ys zs f g h k =
     let a = not_longer x y f in
     let b = not_longer y z g in
     grows_more ms (passed x y) (passed y z) (passed x z) xs ys zs h k (omega (arith, a, b))
-
-pub grows_first : (ms : List Bool) (x y z : List ℕ) (xs ys : List Node) → MovesForward x y → MovesForward y z → Grows ms (passed y z) xs ys → Grows ms (passed x z) xs ys
-grows_first ms x y z xs ys f g h =
-    let a = not_longer x y f in
-    let b = not_longer y z g in
-    grows_wider ms (passed y z) (passed x z) xs ys h (omega (arith, a, b))
 
 -- behind a number, with a slot more than bytes
 pub grows_behind : (ms : List Bool) (x y z : List ℕ) (xs ys : List Node) → length y < length x → MovesForward y z → Grows ms (passed y z + 1) xs ys → Grows ms (passed x z) xs ys

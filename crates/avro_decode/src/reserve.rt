@@ -12,7 +12,8 @@ use avro_schema::Block;
 
 /// Makes spare capacity in each builder for the rows of a block, before they are read.
 ///
-/// Where there is no memory for it, the builders grow as they are filled.
+/// Where there is no memory for it, the builders grow as they are filled; but a single field of
+/// booleans, ints or longs asks for all of it once more.
 pub(crate) fn reserve_rows(block: &Block, fields: usize, builders: &mut [MutableArray])
     requires tight { All IsTight builders.old }
     requires empty { AtNodes IsEmpty builders.old }

@@ -1,5 +1,5 @@
 -- Loops that read many values of a kind, each into one more slot: what holds so far, one turn more, and the end.
-use Rattle.std.proofs.Common.{◌≡◌, ◌∙◌, ℕ, suc, ◌+◌, ◌-◌, ◌<◌, ◌≤◌, List, length, Bool, Option, Result, Ok, Err, ap, arith}
+use Rattle.std.proofs.Common.{◌≡◌, ◌∙◌, ℕ, suc, ◌+◌, ◌-◌, ◌<◌, ◌≤◌, List, length, Bool, Option, Result, Ok, Err, refl, ap, arith}
 use Rattle.std.specs.Prelude.{OnOk}
 use Rattle.arrow_types.specs.declared.slot.Slot.{Slot}
 use Rattle.arrow_types.specs.declared.types.DataType.{DataType}
@@ -38,8 +38,8 @@ pub record ManySoFar {X : Type 0} (rest : X → List ℕ) (shown calls whose : X
   pub costs : CostsKept rest shown calls x y
   pub reads : items f (count - turns) ys (rest y) ≡ items f count xs (rest x)
 
-all-left : (f : Reader Slot) (count turns : ℕ) (xs : List Slot) (bytes : List ℕ) → turns ≡ 0 → items f (count - turns) xs bytes ≡ items f count xs bytes
-all-left f count turns xs bytes z = let e : count - turns ≡ count = omega (arith, z) in ap (λ n. items f n xs bytes) e
+pub all_left : (f : Reader Slot) (count turns : ℕ) (xs ys : List Slot) (bytes : List ℕ) → turns ≡ 0 → ys ≡ xs → items f (count - turns) ys bytes ≡ items f count xs bytes
+all_left f count turns xs ys bytes z e = let n : count - turns ≡ count = omega (arith, z) in ap (λ k. items f k ys bytes) n ∙ ap (λ zs. items f count zs bytes) e
 
 pub many_none : {X : Type 0} {rest : X → List ℕ} {shown calls whose : X → ℕ} {f : Reader Slot} {count turns : ℕ} {x : X} {s : DataType} {a : Node} {xs : List Slot} → turns ≡ 0 → ManySoFar rest shown calls whose f count turns x x s s a a xs xs
 many_none {rest = rest} {shown = shown} {calls = calls} {whose = whose} {f = f} {count = count} {turns = turns} {x = x} {s = s} {a = a} {xs = xs} z = record {
@@ -48,7 +48,7 @@ many_none {rest = rest} {shown = shown} {calls = calls} {whose = whose} {f = f} 
   forward = forward_none (rest x);
   grows = fills_none (passed (rest x) (rest x)) a;
   costs = kept_none rest shown calls x;
-  reads = all-left f count turns xs (rest x) z;
+  reads = all_left f count turns xs xs (rest x) z refl;
 }
 
 module _ {X : Type 0} {rest : X → List ℕ} {shown calls whose : X → ℕ} {f : Reader Slot} {count turns : ℕ} {x y : X} {s t : DataType} {a b : Node} {xs ys : List Slot} (m : ManySoFar rest shown calls whose f count turns x y s t a b xs ys) where

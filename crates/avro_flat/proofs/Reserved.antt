@@ -1,6 +1,6 @@
 -- Loops that read many values of a byte or more each, and push each where there is spare capacity: when fewer bytes are
 -- ahead than values are wanted, what is reserved, and one turn.
-use Rattle.std.proofs.Common.{◌≡◌, ◌∙◌, ℕ, zero, suc, ◌+◌, ◌-◌, ◌<◌, ◌≤◌, Bool, true, false, cond, eqb, List, [], ◌∷◌, ◌++◌, length, Option, Some, None, Result, Ok, Err, refl, ap, arith}
+use Rattle.std.proofs.Common.{◌≡◌, ◌∙◌, ℕ, zero, suc, ◌+◌, ◌<◌, ◌≤◌, Bool, true, false, cond, eqb, List, [], ◌∷◌, ◌++◌, length, Option, Some, None, Result, Ok, Err, refl, ap, arith}
 use Rattle.std.specs.Prelude.{OnOk, OnErr}
 use Rattle.std.proofs.lemmas.List.{length-append}
 use Rattle.std.proofs.lemmas.Option.{some_pair_parts, none-some}
@@ -20,8 +20,9 @@ use Rattle.avro_flat.specs.Decoding.{HasMemory}
 use Rattle.avro_flat.specs.Growing.{Fills}
 use Rattle.avro_flat.specs.declared.fault.DecodeFault.{DecodeFault}
 use Rattle.avro_flat.specs.declared.fault.DecodeFault.TheVariants.{Bytes, Memory}
-use Rattle.avro_flat.proofs.Many.{Reads, ManySoFar}
+use Rattle.avro_flat.proofs.Many.{Reads, ManySoFar, all_left}
 use Rattle.avro_flat.proofs.Pushes.{fills_none}
+use Rattle.avro_flat.proofs.Unfolded.{push_none}
 
 -- ---- values that have a byte
 
@@ -86,18 +87,29 @@ none-where (Some x) h = absurd (h x refl)
 items-short : {f : Reader Slot} → HasByte f → (n : ℕ) (old : List Slot) (bytes : List ℕ) → length bytes < n → items f n old bytes ≡ None
 items-short {f} h n old bytes lt = none-where (items f n old bytes) (λ x e. let l = items-within {f = f} h n old x.0 bytes x.1 e in omega (arith, l, lt))
 
+-- ---- nothing is read
+
+-- a fault, and no value
+unread : {X : Type 0} (rest : X → List ℕ) (shown calls whose : X → ℕ) (y z : X) (s : DataType) (a : Node) (xs : List Slot) (reading : Option (List Slot × List ℕ)) → whose z ≡ whose y → Moves rest calls y z → reading ≡ None → Reads rest shown calls whose y z s s a a xs (Err Bytes) reading
+unread rest shown calls whose y z s a xs reading w m e = record {
+  data_type = λ _. s;
+  grows = fills_none (passed (rest y) (rest z)) a;
+  has_capacity = λ _. tt;
+  same = w;
+  moves = m;
+  costs = tt;
+  reads = e;
+}
+
 -- ---- before the loop
 
--- what an answer tells that is no error
+-- what an Ok tells, of an answer that is no error
 pub on_no_error : {A E P : Type 0} (r : Result A E) → OnErr r ⊥ → OnOk r P → P
 on_no_error (Ok x) h p = p
 on_no_error (Err e) h p = absurd h
 
-all-left : (f : Reader Slot) (count turns : ℕ) (xs ys : List Slot) (bytes : List ℕ) → turns ≡ 0 → ys ≡ xs → items f (count - turns) ys bytes ≡ items f count xs bytes
-all-left f count turns xs ys bytes z e = let n : count - turns ≡ count = omega (arith, z) in ap (λ k. items f k ys bytes) n ∙ ap (λ zs. items f count zs bytes) e
-
-no_less_fills : (n : ℕ) (x y : Node) → NoLessSpare x y → Fills n x y
-no_less_fills n x y h = record {
+no-less-fills : (n : ℕ) (x y : Node) → NoLessSpare x y → Fills n x y
+no-less-fills n x y h = record {
   slots_added = omega (arith, h.slots);
   slots_kept = omega (arith, h.slots);
   bytes_added = omega (arith, h.bytes);
@@ -109,21 +121,13 @@ no_less_fills n x y h = record {
 module _ {X : Type 0} (rest : X → List ℕ) (shown calls whose : X → ℕ) (f : Reader Slot) (count : ℕ) (x : X) where
   -- fewer bytes are ahead than values are wanted
   pub many_short : (s : DataType) (a : Node) (xs : List Slot) → HasByte f → length (rest x) < count → Reads rest shown calls whose x x s s a a xs (Err Bytes) (items f count xs (rest x))
-  many_short s a xs h lt = record {
-    data_type = λ _. s;
-    grows = fills_none (passed (rest x) (rest x)) a;
-    has_capacity = λ _. tt;
-    same = λ _. whose x;
-    moves = moves_none rest calls x;
-    costs = tt;
-    reads = items-short {f = f} h count xs (rest x) lt;
-  }
+  many_short s a xs h lt = unread rest shown calls whose x x s a xs (items f count xs (rest x)) refl (moves_none rest calls x) (items-short {f = f} h count xs (rest x) lt)
 
   -- there is no memory for so many
   pub many_refused : (s t : DataType) (a b : Node) (xs ys : List Slot) (d : DecodeFault) → count ≤ length (rest x) → t ≡ s → NoLessSpare a b → (count ≤ a.spare → HasMemory {X = Unit {0}} (Err d)) → d ≡ Memory → Reads rest shown calls whose x x s t a b ys (Err d) (items f count xs (rest x))
   many_refused s t a b xs ys d le e c h m = rw m (record {
     data_type = e;
-    grows = no_less_fills (passed (rest x) (rest x)) a b c;
+    grows = no-less-fills (passed (rest x) (rest x)) a b c;
     has_capacity = λ k. rw m at h (omega (arith, le, k.slots));
     same = λ _. whose x;
     moves = moves_none rest calls x;
@@ -131,21 +135,21 @@ module _ {X : Type 0} (rest : X → List ℕ) (shown calls whose : X → ℕ) (f
     reads = tt;
   })
 
-  -- there is spare capacity for all of them
+  -- no turn was made yet, after capacity was asked for
   pub many_begin : (s t : DataType) (a b : Node) (xs ys : List Slot) (turns : ℕ) → turns ≡ 0 → t ≡ s → ys ≡ xs → NoLessSpare a b → ManySoFar rest shown calls whose f count turns x x s t a b xs ys
   many_begin s t a b xs ys turns z d e c = record {
     data_type = d;
     same = λ _. whose x;
     forward = forward_none (rest x);
-    grows = no_less_fills (passed (rest x) (rest x)) a b c;
+    grows = no-less-fills (passed (rest x) (rest x)) a b c;
     costs = kept_none rest shown calls x;
-    reads = all-left f count turns xs ys (rest x) z e;
+    reads = all_left f count turns xs ys (rest x) z e;
   }
 
 -- ---- one turn
 
 module _ {X : Type 0} (rest : X → List ℕ) (shown calls whose : X → ℕ) (f : Reader Slot) (y z : X) where
-  -- a value is read, and pushed where there is spare capacity
+  -- a value is read, and pushed into spare capacity
   pub value_pushed : (old new : PlainBuilder) (x : Slot) → whose z ≡ whose y → Moves rest calls y z → length (rest z) < length (rest y) → CostsKept rest shown calls y z → f (rest y) ≡ Some (x, rest z) → new.data_type ≡ old.data_type → new.slots ≡ old.slots ++ x ∷ [] → new.spare + 1 ≡ old.spare → Reads rest shown calls whose y z old.data_type new.data_type (plain_node old) (plain_node new) new.slots (Ok tt) (push_one old.slots (f (rest y)))
   unfolding push_one
   value_pushed old new x w m lt c e d s k =
@@ -169,13 +173,4 @@ module _ {X : Type 0} (rest : X → List ℕ) (shown calls whose : X → ℕ) (f
 
   -- no value is read
   pub value_missing : (s : DataType) (a : Node) (xs : List Slot) → whose z ≡ whose y → Moves rest calls y z → f (rest y) ≡ None → Reads rest shown calls whose y z s s a a xs (Err Bytes) (push_one xs (f (rest y)))
-  unfolding push_one
-  value_missing s a xs w m e = record {
-    data_type = λ _. s;
-    grows = fills_none (passed (rest y) (rest z)) a;
-    has_capacity = λ _. tt;
-    same = w;
-    moves = m;
-    costs = tt;
-    reads = rw e refl;
-  }
+  value_missing s a xs w m e = unread rest shown calls whose y z s a xs (push_one xs (f (rest y))) w m (ap (push_one xs) e ∙ push_none xs)

@@ -1,5 +1,5 @@
 -- The lemmas that several functions want, by what they are about.
-use Rattle.avro_reference.proofs.Counting.{number_costs, byte_moves, ended_moves, byte_costs, still_moves, drop_moves}
+use Rattle.avro_reference.proofs.Counting.{number_costs, ended_moves, byte_costs, still_moves, drop_moves}
 use Rattle.avro_flat.proofs.Counted.{binary_none, binary_short}
 use Rattle.avro_flat.proofs.Decimals.{decimal_none}
 use Rattle.avro_flat.proofs.Pushes.{fills_none, takes_none, number_fills, number_has_memory, string_takes}
@@ -7,7 +7,7 @@ use Rattle.avro_flat.proofs.Sized.{string_good, string_wrong, string_short, stri
 use Rattle.avro_flat.proofs.Symbols.{symbol_none, symbol_out, symbol_fills}
 use Rattle.avro_flat.proofs.Unfolded.{push_none, push_some, boolean_none, boolean_some, int_is, long_is}
 
-pub ruleset numbers = (byte_moves, ended_moves, byte_costs, boolean_none, boolean_some, int_is)
+pub ruleset next_values = (ended_moves, byte_costs, boolean_none, boolean_some, int_is)
 
 pub ruleset flats = (fills_none, number_fills, number_has_memory, number_costs, push_none, push_some, long_is)
 

@@ -13,8 +13,8 @@ use crate::fault::{DecodeFault, pushed};
 use arrow_flat::{MutableBooleanArray, MutablePrimitiveArray};
 use avro_reference::Ahead;
 
-/// How many slots `count` values take that have a byte or more each. `Bytes` where fewer bytes are
-/// ahead, so that no capacity is made for a count that the bytes don't back.
+/// The number of slots that `count` values take, which is `count`, where each has a byte or more.
+/// `Bytes` where fewer bytes are ahead: no capacity is made for these.
 #[inline(always)]
 fn slots_for<C: Ahead>(cursor: &C, count: u64) -> Result<usize, DecodeFault>
     ensures ok { IfOk result (λ n. (n ≡ count) × (n ≤ length (C.rest cursor.now))) }
@@ -28,9 +28,9 @@ fn slots_for<C: Ahead>(cursor: &C, count: u64) -> Result<usize, DecodeFault>
 }
 
 /// The boolean at the start of the bytes ahead, a byte 0 or 1, which is passed. None for any other
-/// byte, or for none.
+/// byte, or for none; how far the cursor moved is then not told.
 #[inline(always)]
-#[tactic(auto, using(crate::proofs::Sets::numbers))]
+#[tactic(auto, using(crate::proofs::Sets::next_values))]
 fn next_boolean<C: Ahead>(cursor: &mut C) -> Option<bool>
     ensures same { C.whose cursor.new ≡ C.whose cursor.old }
     ensures moves { Moves C.rest C.calls cursor.old cursor.new }
@@ -47,9 +47,9 @@ fn next_boolean<C: Ahead>(cursor: &mut C) -> Option<bool>
 }
 
 /// The number of 32 bits at the start of the bytes ahead, which is passed. None where no prefix of
-/// them is a number, or it has more bits.
+/// them is a number, or where the number has more bits; how far the cursor moved is then not told.
 #[inline(always)]
-#[tactic(auto, using(crate::proofs::Sets::numbers))]
+#[tactic(auto, using(crate::proofs::Sets::next_values))]
 fn next_int<C: Ahead>(cursor: &mut C) -> Option<i32>
     ensures same { C.whose cursor.new ≡ C.whose cursor.old }
     ensures moves { Moves C.rest C.calls cursor.old cursor.new }
@@ -87,7 +87,8 @@ pub fn decode_boolean<C: Ahead>(
 }
 
 /// Reads `count` booleans, each into one more slot. `Bytes` where the bytes ahead don't begin with
-/// so many booleans; `Memory`. After an error the booleans before it may have their slots.
+/// so many booleans, at once where they are fewer than `count`; `Memory` where capacity for all of
+/// them is refused. After `Bytes` the booleans before the fault may have their slots.
 pub fn decode_booleans<C: Ahead>(
     cursor: &mut C,
     count: u64,
@@ -141,7 +142,9 @@ pub fn decode_int<C: Ahead>(
 }
 
 /// Reads `count` numbers of 32 bits, each into one more slot. `Bytes` where the bytes ahead don't
-/// begin with so many of them; `Memory`. After an error the numbers before it may have their slots.
+/// begin with so many of them, at once where there are fewer bytes than `count`; `Memory` where
+/// capacity for all of them is refused. After `Bytes` the numbers before the fault may have their
+/// slots.
 pub fn decode_ints<C: Ahead>(
     cursor: &mut C,
     count: u64,
@@ -195,7 +198,9 @@ pub fn decode_long<C: Ahead>(
 }
 
 /// Reads `count` numbers of 64 bits, each into one more slot. `Bytes` where the bytes ahead don't
-/// begin with so many numbers; `Memory`. After an error the numbers before it may have their slots.
+/// begin with so many of them, at once where there are fewer bytes than `count`; `Memory` where
+/// capacity for all of them is refused. After `Bytes` the numbers before the fault may have their
+/// slots.
 pub fn decode_longs<C: Ahead>(
     cursor: &mut C,
     count: u64,

@@ -1,14 +1,11 @@
-use Rattle.std.proofs.Common.{◌∙◌, refl, length, true, Bool, List, sym, subst, w64, rules, arith}
+use Rattle.std.proofs.Common.{length, true, Bool, List, sym, subst, w64, rules, arith}
 use Rattle.std.proofs.lemmas.Int.{to_z-of_z}
 use mir.Val.{SFits}
-use Rattle.arrow_builders.specs.MutableArrays.{nodes}
-use Rattle.avro_reference.specs.Costs.{passed}
-use Rattle.avro_reference.proofs.Counting.{number_first}
-use Rattle.avro_decode.specs.Growth.{Grows, AllOffsetsReach, HaveSpare}
+use Rattle.avro_decode.specs.Growth.{AllOffsetsReach}
 use Rattle.avro_decode.specs.Masks.{mask}
-use Rattle.avro_decode.proofs.Going.{costs_behind, grows_behind, offsets_less}
+use Rattle.avro_decode.proofs.Going.{offsets_less}
+use Rattle.avro_decode.proofs.Keeping.{keeps_unread, keeps_behind}
 use Rattle.avro_decode.proofs.Members.{no_index}
-use Rattle.avro_decode.proofs.Nodes.{grows_none, spare_less}
 use Rattle.avro_decode.proofs.FieldSteps.{pair_two, other_fits, other_suits, other_gives}
 use Rattle.avro_decode.proofs.steps.decode_nullable.Goals as goal
 
@@ -16,17 +13,7 @@ pub other_of-schema-requires : goal.other_of-schema-requires
 other_of-schema-requires g c = record { two = pair_two _ _ _ c.requires.fits }
 
 pub returns-in_default-clause-keeps : goal.returns-in_default-clause-keeps
-returns-in_default-clause-keeps g c =
-    let n = c.number.ensures in
-    record {
-      same_shape = refl;
-      tight = tt;
-      grows = grows_none _ _ _;
-      has_capacity = λ h. tt;
-      same = n.same;
-      moves = n.moves;
-      costs = tt;
-    }
+returns-in_default-clause-keeps g c = keeps_unread c.number.ensures.same c.number.ensures.moves tt
 
 pub returns-in_default-clause-reads : goal.returns-in_default-clause-reads
 returns-in_default-clause-reads g c = no_index _ _ _ c.in_default.ensures.reads
@@ -48,18 +35,8 @@ pub returns-clause-keeps : goal.returns-clause-keeps
 returns-clause-keeps g c =
     let s = c.other_of-schema.result.now in
     let o = other_suits c.args.null_first c.args.kind c.args.members.now s c.other_of-schema.ensures c.requires.fits _ c.requires.suits in
-    let e = c.decode_pair.ensures.keeps in
     let n = c.in-Some.ensures in
-    let l = n.costs.shorter in
-    record {
-      same_shape = e.same_shape;
-      tight = e.tight;
-      grows = subst (λ (xs : List Bool). Grows xs (passed (g.C.Ahead.rest c.args.cursor.now) (g.C.Ahead.rest c.decode_pair.new.cursor)) (nodes c.args.builder.now) (nodes c.decode_pair.new.builder)) (sym o.1) (grows_behind (mask true s) _ _ _ _ _ l e.moves.forward e.grows);
-      has_capacity = λ h. e.has_capacity (spare_less (mask true s) _ _ _ (omega (arith, l)) (subst (λ (xs : List Bool). HaveSpare xs (length (g.C.Ahead.rest c.args.cursor.now)) (nodes c.args.builder.now)) o.1 h));
-      same = e.same ∙ n.same;
-      moves = number_first _ _ _ _ _ _ n.costs n.moves e.moves;
-      costs = costs_behind _ _ _ _ _ _ _ n.moves.forward e.moves.forward n.costs e.costs;
-    }
+    keeps_behind (sym o.1) n.same n.moves n.costs c.decode_pair.ensures.keeps
 
 pub returns-clause-reads : goal.returns-clause-reads
 returns-clause-reads g c =
