@@ -1,7 +1,6 @@
 """A slow model of canonical files, written from docs/FORMATS.md: what `rewrite` and `make` answer."""
 
 from formats_model import (
-    DIGITS,
     MOST_32,
     Refused,
     Usage,
@@ -13,6 +12,7 @@ from formats_model import (
     json_string,
     table_of,
 )
+from json_model import DIGITS
 
 NANOSECONDS = 1000000
 MOST_DRAWN = 1000000

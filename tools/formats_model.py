@@ -1,5 +1,6 @@
-"""A slow model of the formats, written from docs/FORMATS.md: schemas, blocks and files read, words, JSON texts, and what
-`block`, `block-large` and `ndjson` answer. `canonical_model.py` and `lines_model.py` beside it have the other commands.
+"""A slow model of the formats, written from docs/FORMATS.md: schemas, blocks and files read, words, the JSON of rows, and
+what `block`, `block-large` and `ndjson` answer. `json_model.py` beside it reads JSON texts; `canonical_model.py` and
+`lines_model.py` have the other commands.
 
 Schemas are tuples: a kind, and what belongs to it. A logical type is its name, of a decimal a tuple of `decimal`,
 precision and scale. A slot is None, a bool, an int, a str, bytes, a list, or a tuple for a struct.
