@@ -13,8 +13,8 @@ use crate::fault::{DecodeFault, pushed};
 use arrow_flat::{MutableBooleanArray, MutablePrimitiveArray};
 use avro_reference::Ahead;
 
-/// The number of slots that `count` values take, which is `count`, where each has a byte or more.
-/// `Bytes` where fewer bytes are ahead: no capacity is made for these.
+/// `count` as a number of slots. Each value has a byte or more, so it is `Bytes` where fewer bytes
+/// are ahead: no capacity is made for a count that the bytes don't back.
 #[inline(always)]
 fn slots_for<C: Ahead>(cursor: &C, count: u64) -> Result<usize, DecodeFault>
     ensures ok { IfOk result (λ n. (n ≡ count) × (n ≤ length (C.rest cursor.now))) }
@@ -87,8 +87,7 @@ pub fn decode_boolean<C: Ahead>(
 }
 
 /// Reads `count` booleans, each into one more slot. `Bytes` where the bytes ahead don't begin with
-/// so many booleans, at once where they are fewer than `count`; `Memory` where capacity for all of
-/// them is refused. After `Bytes` the booleans before the fault may have their slots.
+/// so many booleans; `Memory`. After `Bytes` the booleans before the fault may have their slots.
 pub fn decode_booleans<C: Ahead>(
     cursor: &mut C,
     count: u64,
@@ -142,8 +141,7 @@ pub fn decode_int<C: Ahead>(
 }
 
 /// Reads `count` numbers of 32 bits, each into one more slot. `Bytes` where the bytes ahead don't
-/// begin with so many of them, at once where there are fewer bytes than `count`; `Memory` where
-/// capacity for all of them is refused. After `Bytes` the numbers before the fault may have their
+/// begin with so many of them; `Memory`. After `Bytes` the numbers before the fault may have their
 /// slots.
 pub fn decode_ints<C: Ahead>(
     cursor: &mut C,
@@ -198,8 +196,7 @@ pub fn decode_long<C: Ahead>(
 }
 
 /// Reads `count` numbers of 64 bits, each into one more slot. `Bytes` where the bytes ahead don't
-/// begin with so many of them, at once where there are fewer bytes than `count`; `Memory` where
-/// capacity for all of them is refused. After `Bytes` the numbers before the fault may have their
+/// begin with so many of them; `Memory`. After `Bytes` the numbers before the fault may have their
 /// slots.
 pub fn decode_longs<C: Ahead>(
     cursor: &mut C,

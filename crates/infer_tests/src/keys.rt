@@ -1,4 +1,5 @@
-//! An object of many keys, each named twice: a key keeps its first place and has its last value.
+//! An object of many keys, each named twice: a key keeps the index of its first appearance and has
+//! its last value.
 use arrow_core::Result;
 use json_tree::{Number, Object, Value, parse};
 use std::alloc::Global;
