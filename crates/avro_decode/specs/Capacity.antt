@@ -1,5 +1,5 @@
 -- What builders hold, and the spare capacity that they have, at each of their nodes.
-use Rattle.std.specs.Prelude.{ℕ, List, All}
+use Rattle.std.specs.Prelude.{◌≡◌, ℕ, ◌≤◌, ◌⊎◌, List, length, All}
 use Rattle.std.specs.List.{AllZip}
 use Rattle.arrow_builders.specs.Nodes.{Node, KeepsCapacity, Emptied, HasSpare, IsEmpty}
 use Rattle.arrow_builders.specs.declared.array.MutableArray.{MutableArray}
@@ -17,3 +17,7 @@ BetweenNodes R old new = AllZip (λ b c. AllZip R (nodes b) (nodes c)) old new
 -- empty and have spare capacity for n.
 abbrev pub ReservedCapacityStays : Type 0
 ReservedCapacityStays = (n : ℕ) (reserved filled cleared : List MutableArray) → AtNodes (HasSpare n) reserved → BetweenNodes KeepsCapacity reserved filled → BetweenNodes Emptied filled cleared → AtNodes IsEmpty cleared × AtNodes (HasSpare n) cleared
+
+-- cited by private contracts alone: a builder of several nodes is as it was; one of a single node may have got capacity
+abbrev pub IsReserved : MutableArray → MutableArray → Type 0
+IsReserved old new = (length (nodes old) ≤ 1) ⊎ (new ≡ old)

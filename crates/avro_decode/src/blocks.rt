@@ -59,6 +59,10 @@ use std::marker::PhantomData;
 /// where after whole rows, and whole fields of one more, a block of an array that isn't kept states
 /// a size below 0, and `ExternalFormat(BlockBytes)` where its bytes aren't its rows otherwise.
 /// `OutOfMemory` at any time.
+///
+/// Before the rows are read capacity is made for no more slots, over all columns, than the block has
+/// bytes. No clause says so, nor how far the builders grow, which no contract sees here:
+/// `deserialize_into` tells that of its builders.
 pub fn deserialize(
     alloc: Global,
     block: &Block,
@@ -106,7 +110,7 @@ pub(crate) fn decode_into(
     ensures err { IfErr result (BytesRefused block.now.number_of_rows fields.now avro_fields.now
         projection.now block.now.bytes) }
 {
-    reserve_rows(block, avro_fields.len(), builders);
+    reserve_rows(block, builders);
     let mut cursor = SliceCursor::new(block.bytes.as_slice());
     let rows = block.number_of_rows;
     deserialize_into(&mut cursor, rows, fields, avro_fields, projection, builders)?;
@@ -117,8 +121,11 @@ pub(crate) fn decode_into(
 ///
 /// The builders are as `make_builders` gives them for these lists, or as `clear` leaves such: of
 /// kinds and dictionary values that suit their schemas, of the fields' data types at every node,
-/// tight, and empty. Ok: no byte is left, and the builders hold the columns. The refusals are those
-/// of `deserialize` over the bytes ahead, from `Overflow` of too many bytes on, and `OutOfMemory`.
+/// tight, and empty. Ok: no byte is left, and the builders hold the columns; where fields, Avro
+/// fields and projection belong together, as `make_builders` ensures of them, the bytes are a valid
+/// block. The refusals are those of `deserialize` over the bytes ahead, from `Overflow` of too many
+/// bytes on, and `OutOfMemory`. The lists may be empty, which `make_builders` and `deserialize`
+/// refuse with `NoField`: then 0 rows of no bytes are Ok, and all else is refused.
 ///
 /// With n bytes ahead, on every answer kinds, data types and dictionary values stay at every node;
 /// no node has more than n slots, all nodes together have no more than n content bytes, and none
@@ -155,6 +162,8 @@ pub fn deserialize_into<'a, C: Cursor<'a>>(
     ensures counted { OnOk result (AreCounted rows fields.now projection.now (C.rest cursor.old)) }
     ensures columns { OnOk result (AreColumns rows avro_fields.now projection.now
         (C.rest cursor.old) (map builder_slots builders.new)) }
+    ensures valid { OnOk result (BelongTogether fields.now avro_fields.now projection.now
+        → ValidBlock rows (C.rest cursor.old) fields.now avro_fields.now projection.now) }
     ensures done { OnOk result (C.rest cursor.new ≡ []) }
     ensures err { IfErr result (BytesRefused rows fields.now avro_fields.now projection.now
         (C.rest cursor.old)) }

@@ -5,6 +5,7 @@ use Rattle.avro_infer.proofs.ColumnTypes.{zip_length}
 use Rattle.avro_reference.proofs.Counting.{forward_none}
 use Rattle.avro_decode.proofs.Capacity.{empty_reach, slots_empty, few_slots_left, few_slots_passed, few_content_left, few_content_passed, capacity_left, capacity_kept, all_spare, types_stay}
 use Rattle.avro_decode.proofs.Large.{bytes_counted, bytes_fit, bytes_do_not_fit}
+use Rattle.avro_decode.proofs.Valid.{decoded_is_valid}
 use Rattle.avro_decode.proofs.Wholes.{a_column_each, block_columns, bytes_refused, not_memory, shows_at_most, calls_at_most}
 use Rattle.avro_decode.proofs.blocks.deserialize_into.Goals as goal
 
@@ -46,6 +47,10 @@ pub returns-in-Ok-clause-columns : goal.returns-in-Ok-clause-columns
 returns-in-Ok-clause-columns g c =
     let r = c.in-Ok.ensures.reads in
     block_columns _ _ _ _ _ _ (a_column_each _ _ _ c.requires.suits c.in-Ok.ensures.shapes) (slots_empty _ c.requires.empty) (r.1, r.2, r.3, r.4)
+
+pub returns-in-Ok-clause-valid : goal.returns-in-Ok-clause-valid
+returns-in-Ok-clause-valid g c =
+    λ together. decoded_is_valid _ _ _ _ _ _ _ refl together (returns-in-Ok-clause-counted g c) (returns-in-Ok-clause-columns g c)
 
 pub returns-in-Ok-clause-shown : goal.returns-in-Ok-clause-shown
 returns-in-Ok-clause-shown g c =
