@@ -7,7 +7,7 @@ from formats_model import (
     Word,
     block_of,
     check_fields,
-    digits_of,
+    decimal_of,
     header_of,
     json_string,
     table_of,
@@ -193,8 +193,8 @@ def drawn_rows(state, count):
 def run_make(words):
     if len(words) != 3:
         raise Usage()
-    start = digits_of(words[1], 20, MOST_32)
-    rows = list(drawn_rows(start, digits_of(words[2], 20, MOST_DRAWN)))
+    start = decimal_of(words[1], MOST_32)
+    rows = list(drawn_rows(start, decimal_of(words[2], MOST_DRAWN)))
     encoded = b"".join(encoding(it, slot) for row in rows for (_, it), slot in zip(DRAWN, row))
     ids, true = sum(row[0] for row in rows), sum(row[3] for row in rows)
     lines = [

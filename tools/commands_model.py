@@ -1,7 +1,9 @@
 """A slow model of the program, written from docs/FORMATS.md: what it answers of words and bytes."""
 
 from canonical_model import run_make, run_rewrite
+from fields_model import run_fields
 from formats_model import Refused, Usage, run_block, run_ndjson
+from inspect_model import run_count, run_help, run_schema, run_version
 from lines_model import run_avro, run_infer
 
 
@@ -18,6 +20,16 @@ def carry_out(words, data, out):
         run_avro(words, data, out)
     elif command == "infer":
         out.append(run_infer(words, data))
+    elif command == "count":
+        out.append(run_count(words, data))
+    elif command == "schema":
+        out.append(run_schema(words, data))
+    elif command == "fields":
+        out.append(run_fields(words, data))
+    elif command in ("help", "--help", "-h"):
+        out.append(run_help(words))
+    elif command in ("version", "--version"):
+        out.append(run_version(words))
     elif command == "make":
         out.append(run_make(words))
     else:

@@ -300,6 +300,14 @@ def digits_of(word, most, limit):
     return int(word)
 
 
+def decimal_of(word, limit):
+    """The number of digits that have no zero before them."""
+    number = digits_of(word, len(word), limit)
+    if str(number) != word:
+        raise Usage()
+    return number
+
+
 class Word:
     """A word that is read from the left."""
 

@@ -5,7 +5,7 @@ Schemas, rows, encodings, JSON lines, words, files and damages are random; tools
 written from docs/FORMATS.md, say what the program has to answer: exit status, standard output and the note. A trial calls
 the program's `main` in a process that goes on (`program.py`), and one in a hundred of them starts the program besides.
 
-Use: tools/fuzz.py SEED TRIALS [WORKERS], from anywhere, once `./avrocat` was built; AVROCAT names another program. It needs a
+Use: tools/fuzz.py SEED TRIALS [WORKERS], from anywhere, after `./avrocat --prove`; AVROCAT names another program. It needs a
 C compiler, and prints the first difference, with what shows it again, and then its status is 1.
 """
 import collections
@@ -275,6 +275,8 @@ def schema_value(r, schema):
         text = "[" + ",".join(schema_value(r, member) for member in schema[1]) + "]"
     elif kind == "array":
         text = members(r, [("type", '"array"'), ("items", schema_value(r, schema[1]))])
+    elif kind == "map":
+        text = members(r, [("type", '"map"'), ("values", schema_value(r, schema[1]))])
     elif kind == "record":
         text = record_value(r, schema)
     elif kind == "enum":
@@ -402,10 +404,19 @@ def marker_word(r):
     return "".join(r.choice("0123456789abcdefABCDEF") for _ in range(32 if r.random() < 0.99 else 31))
 
 
+def inspect_trial(r):
+    """Of a file of any fields, or of what the program says of itself."""
+    if r.random() < 0.1:
+        return [r.choice(["help", "--help", "-h", "version", "--version"])], r.choice([b"", b"\xff"])
+    fields = [(name, ("map", it) if r.random() < 0.1 else it) for name, it in fields_of(r)]
+    return [r.choice(["count", "schema", "fields"])], file_of(r, fields)
+
+
 def make_trial(r):
     start = r.choice([0, 1, 2147483647, 2147483648, r.randrange(1 << 31), r.randrange(1 << 31)])
     rows = r.choice([0, 1, 2, 3, 5, 9, 40, 300 if r.random() < 0.1 else 4, 1000001])
-    return ["make", str(start), str(rows)], r.choice([b"", b"\xff"])
+    zeros = r.choice(["", "", "", "", "0"])
+    return ["make", zeros + str(start), str(rows)], r.choice([b"", b"\xff"])
 
 
 # ---- lines
@@ -593,7 +604,7 @@ def damaged_text(r, text):
     return text[:at] + r.choice(["", '"', "\\", "[", "]", "{", "}", ",", ":", "1", "\\u12", "é"]) + text[at + r.randint(0, 2) :]
 
 
-TRIALS = [block_trial] * 7 + [ndjson_trial] * 4 + [rewrite_trial] * 4 + [avro_trial] * 6 + [infer_trial] * 3 + [make_trial]
+TRIALS = [block_trial] * 7 + [ndjson_trial] * 4 + [rewrite_trial] * 4 + [avro_trial] * 6 + [infer_trial] * 3 + [inspect_trial] * 3 + [make_trial]
 # One in so many trials starts the program; so many are sent at once; and after so many batches a line is printed.
 ALONE, BATCH, TOLD = 100, 100, 500
 
@@ -646,7 +657,7 @@ def main():
     seed, trials = int(sys.argv[1]), int(sys.argv[2])
     workers = int(sys.argv[3]) if len(sys.argv) == 4 else 1
     if not os.access(PROGRAM, os.X_OK):
-        sys.exit("build the program first: ./avrocat")
+        sys.exit("build the program first: ./avrocat --prove")
     results, statuses = multiprocessing.Queue(), collections.Counter()
     batches = [range(first, min(first + BATCH, trials)) for first in range(0, trials, BATCH)]
     with tempfile.TemporaryDirectory() as folder:

@@ -6,7 +6,7 @@ answers one of them with an error (`again.c`). Then the program ends as it does 
 of a read of lines with the number of the line, and with what may stand at standard output then: of a growth or a read the
 output of whole blocks before, after a header where there is one, or nothing; of a write the bytes taken before.
 
-Use: tools/refuse_calls.py, from anywhere, once `./avrocat` was built; AVROCAT names another program. It needs a C compiler, and
+Use: tools/refuse_calls.py, from anywhere, after `./avrocat --prove`; AVROCAT names another program. It needs a C compiler, and
 prints how many calls it refused. Its status is 0 where all answers were right.
 """
 import os
@@ -148,6 +148,18 @@ def inputs():
         (["infer"], b"1\ntrue\n2.5\n"),
         (["infer"], b'{"a":1,"b":null,"c":[1,2.5]}\n{"d":[{"e":"f"}],"a":true}\n'),
         (["infer"], b""),
+        (["count"], one),
+        (["count"], small),
+        (["count"], small[:-1]),
+        (["count"], events),
+        (["count", "1"], one),
+        (["schema"], event),
+        (["fields"], event),
+        (["fields"], events),
+        (["schema"], events),
+        (["schema"], small[:60]),
+        (["help"], b""),
+        (["--version"], b""),
         (["make", "1", "2"], b""),
         (["make", "1", "0"], b""),
     ]
@@ -241,7 +253,7 @@ def refuse_all(server, words, given):
 
 def main():
     if not os.access(PROGRAM, os.X_OK):
-        sys.exit("build the program first: ./avrocat")
+        sys.exit("build the program first: ./avrocat --prove")
     with tempfile.TemporaryDirectory() as folder:
         server = Server(library_of(folder))
         counts = [refuse_all(server, words, given) for words, given in inputs()]

@@ -1,3 +1,4 @@
+pub mod Alone
 pub mod Encoder
 pub mod Keep
 pub mod Laws

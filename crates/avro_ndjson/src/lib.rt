@@ -1,6 +1,7 @@
 //! Avro files into JSON lines.
 #![tactic(auto)]
 
+mod alone;
 mod fields;
 mod keep;
 mod laws;
@@ -8,5 +9,6 @@ mod lines;
 mod ndjson;
 mod plan;
 
+pub use alone::reason_not_shown;
 pub use laws::conversion_answers;
 pub use ndjson::avro_to_ndjson;

@@ -9,7 +9,7 @@ use Rattle.arrow_core.specs.Errors.{status_of}
 use Rattle.avro_grammar.proofs.RowLaws.{rows_have, rows_exclude}
 use Rattle.command_words.specs.declared.command.BlockWords.{BlockWords}
 use Rattle.command_words.specs.declared.command.Command.{Command}
-use Rattle.command_words.specs.declared.command.Command.TheVariants.{Block, Ndjson, Make, Infer, Avro, Rewrite}
+use Rattle.command_words.specs.declared.command.Command.TheVariants.{Help, Version, Count, Schema, Fields, Block, Ndjson, Make, Infer, Avro, Rewrite}
 use Rattle.avrocat.specs.Blocks.{IsValid}
 use Rattle.avro_blocks.specs.Changes.{Change, Failed}
 use Rattle.avrocat.specs.Commands.{Done, Fails, CanBeDone, Due, Refused}
@@ -23,6 +23,10 @@ use Rattle.avrocat.proofs.NdjsonEndings.{tells_one, ndjson_due_once, ndjson_neve
 use Rattle.avrocat.proofs.InferEndings.{infer_due_once, infer_never_due, infer_fails_in_memory, infer_fails_as_due, infer_done_not_due}
 use Rattle.command_words.proofs.OneMeaning.{one_command}
 use Rattle.avrocat.proofs.AvroEndings.{avro_due_once, avro_never_due, avro_fails_in_memory, avro_fails_as_due, avro_done_not_due}
+use Rattle.avrocat.specs.Help.{help_text, version_text}
+use Rattle.avrocat.proofs.CountEndings.{count_fails_in_memory}
+use Rattle.avrocat.proofs.SchemaEndings.{never_breaks_off, schema_fails_in_memory}
+use Rattle.avrocat.proofs.FieldsEndings.{fields_fails_in_memory}
 use Rattle.avrocat.proofs.RewriteEndings.{rewrite_due_once, rewrite_never_due, rewrite_fails_in_memory, rewrite_fails_as_due, rewrite_done_not_due}
 
 pub keeps_same : (told : Option (List ℕ)) → Keeps told told
@@ -145,6 +149,11 @@ one_because block source one other (inr (bytes, tells, h)) (inr (others, told, d
     one_wrong block bytes one other h (subst (λ z. IsWrong block z other) (sym (tells_one source bytes others tells.told told.told)) d)
 
 pub one_due : (command : Command) (source : Change) (one other : Error) → Due command source one → Due command source other → one ≡ other
+one_due Help source one other h d = absurd h
+one_due Version source one other h d = absurd h
+one_due Count source one other h d = absurd h
+one_due Schema source one other h d = absurd h
+one_due Fields source one other h d = absurd h
 one_due (Block block) source one other h d = one_because block source one other (because block source one h) (because block source other d)
 one_due (Ndjson numbers) source one other h d = ndjson_due_once numbers source one other h d
 one_due (Make make) source one other h d = absurd h
@@ -158,6 +167,11 @@ right_because block source e (bytes, tells, valid) (inr (others, told, h)) =
     valid_is_right block bytes valid e (subst (λ z. IsWrong block z e) (sym (tells_one source bytes others tells.told told.told)) h)
 
 pub none_due : (command : Command) (source : Change) (e : Error) → CanBeDone command source → Due command source e → ⊥
+none_due Help source e can h = h
+none_due Version source e can h = h
+none_due Count source e can h = h
+none_due Schema source e can h = h
+none_due Fields source e can h = h
 none_due (Block block) source e can h = right_because block source e can (because block source e h)
 none_due (Ndjson numbers) source e can h = ndjson_never_due numbers source e can h
 none_due (Make make) source e can h = h
@@ -236,6 +250,11 @@ make_fails_in_memory make sink WriteFault open_ended h = absurd (open_ended h.1)
 make_fails_in_memory make sink _ open_ended h = absurd h
 
 fails_in_memory : (command : Command) (source sink : Change) (e : Error) → CanBeDone command source → (Failed sink → ⊥) → Fails command source sink e → e ≡ OutOfMemory
+fails_in_memory Help source sink e can open_ended h = absurd (never_breaks_off help_text sink e open_ended h.1)
+fails_in_memory Version source sink e can open_ended h = absurd (never_breaks_off version_text sink e open_ended h.1)
+fails_in_memory Count source sink e can open_ended h = count_fails_in_memory source sink e can open_ended h
+fails_in_memory Schema source sink e can open_ended h = schema_fails_in_memory source sink e can open_ended h
+fails_in_memory Fields source sink e can open_ended h = fields_fails_in_memory source sink e can open_ended h
 fails_in_memory (Block block) source sink e can open_ended h = from (ending block source sink e (steady_can block source can) h)
   where
     from : Ending block source sink e → e ≡ OutOfMemory
@@ -249,6 +268,11 @@ fails_in_memory (Avro avro) source sink e can open_ended h = avro_fails_in_memor
 fails_in_memory (Rewrite rewrite) source sink e can open_ended h = rewrite_fails_in_memory rewrite source sink e can open_ended h
 
 fails_as_due : (command : Command) (source sink : Change) (e due : Error) → Due command source due → Fails command source sink e → (e ≡ OutOfMemory) ⊎ (e ≡ due)
+fails_as_due Help source sink e due h fails = absurd h
+fails_as_due Version source sink e due h fails = absurd h
+fails_as_due Count source sink e due h fails = absurd h
+fails_as_due Schema source sink e due h fails = absurd h
+fails_as_due Fields source sink e due h fails = absurd h
 fails_as_due (Block block) source sink e due h fails = from (ending block source sink e (steady_because block source due (because block source due h)) fails)
   where
     from : Ending block source sink e → (e ≡ OutOfMemory) ⊎ (e ≡ due)
@@ -262,6 +286,11 @@ fails_as_due (Avro avro) source sink e due h fails = avro_fails_as_due avro sour
 fails_as_due (Rewrite rewrite) source sink e due h fails = rewrite_fails_as_due rewrite source sink e due h fails
 
 done_not_due : (command : Command) (source sink : Change) (due : Error) → Due command source due → Done command source sink → ⊥
+done_not_due Help source sink due h done = h
+done_not_due Version source sink due h done = h
+done_not_due Count source sink due h done = h
+done_not_due Schema source sink due h done = h
+done_not_due Fields source sink due h done = h
 done_not_due (Block block) source sink due h done =
     none_due (Block block) source due (told_right block source done.bytes (steady_because block source due (because block source due h)) done.read done.shows.valid) h
 done_not_due (Ndjson numbers) source sink due h done = ndjson_done_not_due numbers source sink due h done

@@ -1,7 +1,9 @@
 pub mod AvroEndings
 pub mod BlockLemmas
 pub mod ColumnLemmas
+pub mod CountEndings
 pub mod Endings
+pub mod FieldsEndings
 pub mod InferAnswers
 pub mod InferEndings
 pub mod Joined
@@ -10,6 +12,7 @@ pub mod MakeEndings
 pub mod NdjsonEndings
 pub mod RefusalLemmas
 pub mod RewriteEndings
+pub mod SchemaEndings
 pub mod ShownLemmas
 pub mod SlotTexts
 pub mod Taken

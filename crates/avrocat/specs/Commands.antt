@@ -1,24 +1,34 @@
 -- The commands: what the program's status tells of one.
 use Rattle.std.specs.Prelude.{◌≡◌, ◌⊎◌, ⊤, ℕ, List}
-use Rattle.std.specs.Io.KnownBytes.{Keeps}
+use Rattle.std.specs.Io.KnownBytes.{Appends, Keeps}
 use Rattle.arrow_core.specs.declared.error.Error.{Error}
 use Rattle.arrow_core.specs.declared.error.Error.TheVariants.{OutOfMemory}
 use Rattle.arrow_core.specs.Errors.{status_of}
 use Rattle.command_words.specs.declared.command.Command.{Command}
-use Rattle.command_words.specs.declared.command.Command.TheVariants.{Block, Ndjson, Make, Infer, Avro, Rewrite}
+use Rattle.command_words.specs.declared.command.Command.TheVariants.{Help, Version, Count, Schema, Fields, Block, Ndjson, Make, Infer, Avro, Rewrite}
 use Rattle.avrocat.specs.Avro.{AvroDone, AvroFails, HasRows, AvroDue}
 use Rattle.avrocat.specs.Blocks.{BlockDone}
 use Rattle.avro_blocks.specs.Changes.{Change}
+use Rattle.avrocat.specs.Count.{CountDone, CountFails, CanBeCounted}
+use Rattle.avrocat.specs.Fields.{FieldsDone, FieldsFails}
+use Rattle.avrocat.specs.Help.{help_text, version_text, BreaksOff}
+use Rattle.avrocat.specs.Input.{HasHeader}
 use Rattle.avrocat.specs.Infer.{InferDone, InferFails, HasType, InferDue}
 use Rattle.avrocat.specs.Make.{MakeDone, MakeFails}
 use Rattle.avrocat.specs.Ndjson.{NdjsonDone, NdjsonFails, HasLines, NdjsonDue}
 use Rattle.avrocat.specs.Note.{error_note, Notes}
 use Rattle.avrocat.specs.Refusals.{BlockCommandFails, BlockCanBeShown, BlockDue}
 use Rattle.avrocat.specs.Rewrite.{RewriteDone, RewriteFails, CanBeRewritten, RewriteDue}
+use Rattle.avrocat.specs.Schema.{SchemaDone, SchemaFails}
 use Rattle.command_words.specs.Stands.{Stands}
 
 -- what status 0 tells: the command was done, from this source to this sink
 abbrev pub Done : Command → Change → Change → Type 0
+Done Help source sink = Keeps source.bytes source.bytes_after × Appends sink.bytes sink.bytes_after help_text
+Done Version source sink = Keeps source.bytes source.bytes_after × Appends sink.bytes sink.bytes_after version_text
+Done Count source sink = CountDone source sink
+Done Schema source sink = SchemaDone source sink
+Done Fields source sink = FieldsDone source sink
 Done (Block block) source sink = BlockDone block source sink
 Done (Ndjson numbers) source sink = NdjsonDone numbers source sink
 Done (Make make) source sink = Keeps source.bytes source.bytes_after × MakeDone make sink
@@ -28,6 +38,11 @@ Done (Rewrite rewrite) source sink = RewriteDone rewrite source sink
 
 -- why the command fails by this error
 abbrev pub Fails : Command → Change → Change → Error → Type 0
+Fails Help source sink e = Keeps source.bytes source.bytes_after × BreaksOff help_text sink e
+Fails Version source sink e = Keeps source.bytes source.bytes_after × BreaksOff version_text sink e
+Fails Count source sink e = CountFails source sink e
+Fails Schema source sink e = SchemaFails source sink e
+Fails Fields source sink e = FieldsFails source sink e
 Fails (Block block) source sink e = BlockCommandFails block source sink e
 Fails (Ndjson numbers) source sink e = NdjsonFails numbers source sink e
 Fails (Make make) source sink e = Keeps source.bytes source.bytes_after × MakeFails make sink e
@@ -38,6 +53,11 @@ Fails (Rewrite rewrite) source sink e = RewriteFails rewrite source sink e
 -- The command is done wherever there is memory and the sink doesn't fail: the source doesn't fail, and
 -- tells what the command can be done on.
 abbrev pub CanBeDone : Command → Change → Type 0
+CanBeDone Help source = ⊤
+CanBeDone Version source = ⊤
+CanBeDone Count source = CanBeCounted source
+CanBeDone Schema source = HasHeader source
+CanBeDone Fields source = HasHeader source
 CanBeDone (Block block) source = BlockCanBeShown block source
 CanBeDone (Ndjson numbers) source = HasLines numbers source
 CanBeDone (Make make) source = ⊤
@@ -48,6 +68,11 @@ CanBeDone (Rewrite rewrite) source = CanBeRewritten source
 -- The command fails by this error wherever there is memory: the source doesn't fail, and tells what
 -- the error is due to (of `avro` the fields alone tell it).
 abbrev pub Due : Command → Change → Error → Type 0
+Due Help source e = ⊥
+Due Version source e = ⊥
+Due Count source e = ⊥
+Due Schema source e = ⊥
+Due Fields source e = ⊥
 Due (Block block) source e = BlockDue block source e
 Due (Ndjson numbers) source e = NdjsonDue numbers source e
 Due (Make make) source e = ⊥

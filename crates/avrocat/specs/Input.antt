@@ -1,9 +1,11 @@
 -- What a source gave.
-use Rattle.std.specs.Prelude.{◌≡◌, ℕ, ◌+◌, ◌<◌, ◌≤◌, ⊤, None, Some, List, length, Option}
+use Rattle.std.specs.Prelude.{◌≡◌, ℕ, ◌+◌, ◌++◌, ◌<◌, ◌≤◌, ⊤, None, Some, List, length, Option}
 use Rattle.std.specs.Io.KnownBytes.{Consumes, IsAtEnd}
 use Rattle.arrow_core.specs.declared.error.Error.{Error}
 use Rattle.arrow_core.specs.declared.error.Error.TheVariants.{LimitExceeded, ReadFault, OutOfMemory}
+use Rattle.avro_schema.specs.declared.schema.Record.{Record}
 use Rattle.avro_blocks.specs.Changes.{Change, Failed, IsTold}
+use Rattle.avro_file.specs.Laws.{IsMetadata}
 
 -- the most bytes that the program takes
 abbrev pub byte_limit : ℕ
@@ -36,3 +38,14 @@ pub record TellsTooMany (source : Change) : Type 0 where
   pub told : source.bytes ≡ Some bytes
   pub beyond : byte_limit < length bytes
   pub steady : Failed source → ⊥
+
+-- the source tells bytes that begin with a file's header within the limit, and doesn't fail
+pub record HasHeader (source : Change) : Type 0 where
+  pub header : List ℕ
+  pub rest : List ℕ
+  pub told : source.bytes ≡ Some (header ++ rest)
+  pub within : length header ≤ byte_limit
+  pub steady : Failed source → ⊥
+  pub root : Record
+  pub marker : List ℕ
+  pub begins : IsMetadata header root marker

@@ -1,6 +1,9 @@
 pub mod Avro
 pub mod Blocks
 pub mod Commands
+pub mod Count
+pub mod Fields
+pub mod Help
 pub mod Infer
 pub mod Input
 pub mod Make
@@ -8,4 +11,5 @@ pub mod Ndjson
 pub mod Note
 pub mod Refusals
 pub mod Rewrite
+pub mod Schema
 pub mod Shown

@@ -1,5 +1,5 @@
 //! `avrocat`: Avro blocks and files as lines, files in their canonical form, JSON lines as Avro
-//! files, and the type of JSON lines.
+//! files, the type of JSON lines, and what a file holds.
 #![tactic(auto)]
 
 ghost use Rattle.std.specs.Prelude.{◌≡◌, [], length, map, drop, string_bytes, IfOk, IfErr, IsErr};
@@ -12,6 +12,13 @@ mod avro;
 mod avro_tests;
 mod block;
 mod columns;
+mod count;
+mod fields;
+#[cfg(test)]
+mod fields_tests;
+#[cfg(test)]
+mod files_tests;
+mod help;
 mod infer;
 #[cfg(test)]
 mod infer_tests;
@@ -31,8 +38,11 @@ mod rewrite;
 #[cfg(test)]
 mod rewrite_tests;
 mod run;
+mod schema;
 #[cfg(test)]
 mod tests;
+#[cfg(test)]
+mod whole_files_tests;
 
 use arrow_base::{Error, StdSink, StdSource, Text};
 use run::conclude;

@@ -38,7 +38,9 @@ fn other_words_of_make_are_usage(rt: HostRuntime) {
         "make 1 2 3",
         "make 2147483648 1",
         "make 1 1000001",
-        "make 000000000000000000001 2",
+        "make 01 2",
+        "make 1 02",
+        "make 00 0",
         "make +1 2",
         "make -1 2",
     ] {

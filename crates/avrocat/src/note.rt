@@ -64,7 +64,7 @@ fn write_line<N: Sink>(note: &mut N, name: &[u8], mark: &[u8], detail: &[u8]) ->
 }
 
 /// Writes two runs of bytes, one after the other.
-fn write_both<N: Sink>(note: &mut N, first: &[u8], second: &[u8]) -> Result<()>
+pub(crate) fn write_both<N: Sink>(note: &mut N, first: &[u8], second: &[u8]) -> Result<()>
     ensures ok { OnOk result (Appends (N.held note.old) (N.held note.new)
         (first.now ++ second.now)) }
     ensures prefix { OnErr result (AppendsPrefix (N.held note.old) (N.held note.new)

@@ -11,11 +11,15 @@ ghost use Rattle.avrocat.specs.Note.{usage_note, error_note, Notes};
 
 use crate::avro::run_avro;
 use crate::block::run_block;
+use crate::count::run_count;
+use crate::fields::run_fields;
+use crate::help::{run_help, run_version};
 use crate::infer::run_infer;
 use crate::make::run_make;
 use crate::ndjson::run_ndjson;
 use crate::note::{note_error, note_usage};
 use crate::rewrite::run_rewrite;
+use crate::schema::run_schema;
 use arrow_base::{Error, Result, Sink, Source, Text};
 use command_words::{Command, read_words};
 use field_words::WordsFault;
@@ -103,6 +107,11 @@ fn run_command<S: Source, K: Sink>(
         (change_of (K.held sink.old) (K.faults sink.old) (K.held sink.new) (K.faults sink.new))) }
 {
     match command {
+        Command::Help => run_help(sink),
+        Command::Version => run_version(sink),
+        Command::Count => run_count(alloc, source, sink),
+        Command::Schema => run_schema(alloc, source, sink),
+        Command::Fields => run_fields(alloc, source, sink),
         Command::Block(block) => run_block(alloc, block, source, sink),
         Command::Ndjson(numbers) => run_ndjson(alloc, numbers, source, sink),
         Command::Make(make) => run_make(alloc, make, sink),

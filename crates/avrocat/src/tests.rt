@@ -36,7 +36,7 @@ pub(crate) fn source(
 
 pub(crate) fn sink(rt: &impl Abort, alloc: Global, failing_write: u64) -> MemorySink {
     let failing = failing(rt, alloc, failing_write);
-    MemorySink::with_room(alloc, 256, 256, failing).expect(rt, "memory")
+    MemorySink::with_room(alloc, 8192, 256, failing).expect(rt, "memory")
 }
 
 /// What a command answers.

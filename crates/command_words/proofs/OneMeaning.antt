@@ -1,7 +1,8 @@
 -- Words stand for one command at most.
-use Rattle.std.proofs.Common.{◌≡◌, ℕ, suc, ◌<◌, Bool, false, true, List, [], ◌∷◌, length, drop, refl, sym, ap, subst, ◌∙◌}
+use Rattle.std.proofs.Common.{◌≡◌, ℕ, suc, ◌<◌, Bool, false, true, List, [], ◌∷◌, length, drop, refl, sym, ap, subst, ◌∙◌, arith}
 use Rattle.std.specs.Int.{w128, to_be_bytes}
 use Rattle.std.specs.Str.Parse.{digits_value}
+use Rattle.std.proofs.lemmas.Fmt.{decimal_injective}
 use Rattle.avro_schema.specs.declared.schema.AvroField.{AvroField}
 use Rattle.field_words.specs.Fields.{IsField}
 use Rattle.field_words.specs.Names.{IsNumber, IsRows}
@@ -9,13 +10,13 @@ use Rattle.field_words.proofs.OneMeaning.{one_field}
 use Rattle.command_words.specs.declared.command.AvroWords.{AvroWords}
 use Rattle.command_words.specs.declared.command.BlockWords.{BlockWords}
 use Rattle.command_words.specs.declared.command.Command.{Command}
-use Rattle.command_words.specs.declared.command.Command.TheVariants.{Block, Ndjson, Make, Infer, Avro, Rewrite}
+use Rattle.command_words.specs.declared.command.Command.TheVariants.{Help, Version, Count, Schema, Fields, Block, Ndjson, Make, Infer, Avro, Rewrite}
 use Rattle.command_words.specs.declared.command.RewriteWords.{RewriteWords}
 use Rattle.command_words.specs.declared.command.MakeWords.{MakeWords}
 use Rattle.command_words.specs.Stands.{Stands}
-use Rattle.command_words.specs.Words.{AreAvroWords, AreFields, AreKeptFields, AreMakeWords, AreRewriteWords, IsMarker, IsRest, block_word, command_word, AreRest}
+use Rattle.command_words.specs.Words.{AreAvroWords, AreFields, AreKeptFields, AreMakeWords, AreRewriteWords, IsMarker, IsRest, block_word, IsCommandWord, AreRest}
 use Rattle.command_words.proofs.EachWord.{one_list}
-use Rattle.command_words.proofs.WordsLemmas.{words_head, block_isnt_ndjson, block_isnt_make, block_isnt_infer, block_isnt_avro, block_isnt_rewrite}
+use Rattle.command_words.proofs.WordsLemmas.{words_head, kind, one_kind}
 
 one_fields : (words : List (List ℕ)) (ks ls : List Bool) (fs gs : List AvroField) → AreFields words ks fs → AreFields words ls gs → (ks ≡ ls) × (fs ≡ gs)
 one_fields [] [] [] [] [] h d = (refl, refl)
@@ -58,8 +59,8 @@ one_number most greatest word other a b same h d = h.3 ∙ ap (digits_value 10) 
 
 one_make : (rest : List (List ℕ)) (make other : MakeWords) → AreMakeWords rest make → AreMakeWords rest other → make ≡ other
 one_make rest make other h d =
-    let start = one_number 20 2147483647 h.start_word d.start_word make.start other.start (ap (words_head []) (sym h.are ∙ d.are)) h.start d.start in
-    let rows = one_number 20 1000000 h.rows_word d.rows_word make.rows other.rows (ap (λ z. words_head [] (drop 1 z)) (sym h.are ∙ d.are)) h.rows d.rows in
+    let start = decimal_injective make.start other.start (omega (arith, h.start)) (omega (arith, d.start)) (ap (words_head []) (sym h.are ∙ d.are)) in
+    let rows = decimal_injective make.rows other.rows (omega (arith, h.rows)) (omega (arith, d.rows)) (ap (λ z. words_head [] (drop 1 z)) (sym h.are ∙ d.are)) in
     λ i. record { start = start i; rows = rows i }
 
 -- digits are those of one marker
@@ -86,47 +87,35 @@ one_rewrite rest rewrite other h d =
     let marker = one_marker h.digits d.digits rewrite.marker other.marker (ap (λ z. words_head [] (drop 1 z)) (sym h.are ∙ d.are)) h.marker d.marker in
     λ i. record { name = name i; marker = marker i }
 
-one_rest : (rest : List (List ℕ)) (one other : Command) → command_word one ≡ command_word other → AreRest rest one → AreRest rest other → one ≡ other
-one_rest rest (Block block) (Block other) words h d = ap Block (one_block rest block other words h d)
-one_rest rest (Block block) (Ndjson numbers) words h d = absurd (block_isnt_ndjson block.large words)
-one_rest rest (Block block) (Make make) words h d = absurd (block_isnt_make block.large words)
-one_rest rest (Block block) Infer words h d = absurd (block_isnt_infer block.large words)
-one_rest rest (Block block) (Avro avro) words h d = absurd (block_isnt_avro block.large words)
-one_rest rest (Block block) (Rewrite rewrite) words h d = absurd (block_isnt_rewrite block.large words)
-one_rest rest (Ndjson numbers) (Block block) words h d = absurd (block_isnt_ndjson block.large (sym words))
-one_rest rest (Ndjson numbers) (Ndjson others) words h d = ap Ndjson (one_list IsRows (λ word n m x y. one_number 20 18446744073709551615 word word n m refl x y) rest numbers others h d)
-one_rest rest (Ndjson numbers) (Make make) words h d = absurd cc
-one_rest rest (Ndjson numbers) Infer words h d = absurd cc
-one_rest rest (Ndjson numbers) (Avro avro) words h d = absurd cc
-one_rest rest (Ndjson numbers) (Rewrite rewrite) words h d = absurd cc
-one_rest rest (Make make) (Block block) words h d = absurd (block_isnt_make block.large (sym words))
-one_rest rest (Make make) (Ndjson numbers) words h d = absurd cc
-one_rest rest (Make make) (Make other) words h d = ap Make (one_make rest make other h d)
-one_rest rest (Make make) Infer words h d = absurd cc
-one_rest rest (Make make) (Avro avro) words h d = absurd cc
-one_rest rest (Make make) (Rewrite rewrite) words h d = absurd cc
-one_rest rest Infer (Block block) words h d = absurd (block_isnt_infer block.large (sym words))
-one_rest rest Infer (Ndjson numbers) words h d = absurd cc
-one_rest rest Infer (Make make) words h d = absurd cc
-one_rest rest Infer Infer words h d = refl
-one_rest rest Infer (Avro avro) words h d = absurd cc
-one_rest rest Infer (Rewrite rewrite) words h d = absurd cc
-one_rest rest (Avro avro) (Block block) words h d = absurd (block_isnt_avro block.large (sym words))
-one_rest rest (Avro avro) (Ndjson numbers) words h d = absurd cc
-one_rest rest (Avro avro) (Make make) words h d = absurd cc
-one_rest rest (Avro avro) Infer words h d = absurd cc
-one_rest rest (Avro avro) (Avro other) words h d = ap Avro (one_avro rest avro other h d)
-one_rest rest (Avro avro) (Rewrite rewrite) words h d = absurd cc
-one_rest rest (Rewrite rewrite) (Block block) words h d = absurd (block_isnt_rewrite block.large (sym words))
-one_rest rest (Rewrite rewrite) (Ndjson numbers) words h d = absurd cc
-one_rest rest (Rewrite rewrite) (Make make) words h d = absurd cc
-one_rest rest (Rewrite rewrite) Infer words h d = absurd cc
-one_rest rest (Rewrite rewrite) (Avro avro) words h d = absurd cc
-one_rest rest (Rewrite rewrite) (Rewrite other) words h d = ap Rewrite (one_rewrite rest rewrite other h d)
+-- of commands of one number that begin with a word
+one_rest : (word : List ℕ) (rest : List (List ℕ)) (one other : Command) → kind one ≡ kind other → IsCommandWord word one → IsCommandWord word other → AreRest rest one → AreRest rest other → one ≡ other
+one_rest word rest Help Help same p q h d = refl
+one_rest word rest Help _ same p q h d = absurd (omega (arith, same))
+one_rest word rest Version Version same p q h d = refl
+one_rest word rest Version _ same p q h d = absurd (omega (arith, same))
+one_rest word rest Count Count same p q h d = refl
+one_rest word rest Count _ same p q h d = absurd (omega (arith, same))
+one_rest word rest Schema Schema same p q h d = refl
+one_rest word rest Schema _ same p q h d = absurd (omega (arith, same))
+one_rest word rest Fields Fields same p q h d = refl
+one_rest word rest Fields _ same p q h d = absurd (omega (arith, same))
+one_rest word rest Infer Infer same p q h d = refl
+one_rest word rest Infer _ same p q h d = absurd (omega (arith, same))
+one_rest word rest (Block block) (Block other) same p q h d = ap Block (one_block rest block other (sym p ∙ q) h d)
+one_rest word rest (Block block) _ same p q h d = absurd (omega (arith, same))
+one_rest word rest (Ndjson numbers) (Ndjson others) same p q h d = ap Ndjson (one_list IsRows (λ word n m x y. one_number 20 18446744073709551615 word word n m refl x y) rest numbers others h d)
+one_rest word rest (Ndjson numbers) _ same p q h d = absurd (omega (arith, same))
+one_rest word rest (Make make) (Make other) same p q h d = ap Make (one_make rest make other h d)
+one_rest word rest (Make make) _ same p q h d = absurd (omega (arith, same))
+one_rest word rest (Avro avro) (Avro other) same p q h d = ap Avro (one_avro rest avro other h d)
+one_rest word rest (Avro avro) _ same p q h d = absurd (omega (arith, same))
+one_rest word rest (Rewrite rewrite) (Rewrite other) same p q h d = ap Rewrite (one_rewrite rest rewrite other h d)
+one_rest word rest (Rewrite rewrite) _ same p q h d = absurd (omega (arith, same))
 
 pub one_command : (words : List (List ℕ)) (one other : Command) → Stands words one → Stands words other → one ≡ other
-one_command words one other (ws, is, h) (vs, at, d) =
-    one_rest vs one other (ap (words_head []) (sym is ∙ at)) (subst (λ z. AreRest z one) (ap (drop 1) (sym is ∙ at)) h) d
+one_command words one other (w, ws, is, named, h) (v, vs, at, called, d) =
+    let begins : IsCommandWord v one = subst (λ z. IsCommandWord z one) (ap (words_head []) (sym is ∙ at)) named in
+    one_rest v vs one other (one_kind v one other begins called) begins called (subst (λ z. AreRest z one) (ap (drop 1) (sym is ∙ at)) h) d
 
 -- ---- what blocks that words name have
 
@@ -140,8 +129,8 @@ fields_each (w ∷ ws) (b ∷ bs) [] h = absurd h
 fields_each (w ∷ ws) (b ∷ bs) (f ∷ fs) h = ap suc (fields_each ws bs fs h.1)
 
 pub block_each : (words : List (List ℕ)) (block : BlockWords) → Stands words (Block block) → length block.avro_fields ≡ length block.projection
-block_each words block (rest, is, (w, ws, so, n, are)) = fields_each ws block.projection block.avro_fields are
+block_each words block (word, rest, is, named, (w, ws, so, n, are)) = fields_each ws block.projection block.avro_fields are
 
 -- and each block of `avro` has a row
 pub blocks_have_rows : (words : List (List ℕ)) (avro : AvroWords) → Stands words (Avro avro) → 0 < avro.rows_per_block
-blocks_have_rows words avro (rest, is, h) = h.some
+blocks_have_rows words avro (word, rest, is, named, h) = h.some

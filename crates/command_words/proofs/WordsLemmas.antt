@@ -1,18 +1,22 @@
 -- Words of a block, one field after another.
-use Rattle.std.proofs.Common.{◌≡◌, ℕ, zero, suc, ◌+◌, ◌-◌, ◌<◌, ◌≤◌, List, [], ◌∷◌, ◌++◌, length, take, drop, codes, ◌⊎◌, inl, inr, sym, ap, ◌∙◌, arith, subst, Bool, false, true}
+use Rattle.std.proofs.Common.{◌≡◌, ◌≢◌, ℕ, zero, suc, ◌+◌, ◌-◌, ◌<◌, ◌≤◌, List, [], ◌∷◌, ◌++◌, length, take, drop, codes, ◌⊎◌, inl, inr, refl, sym, ap, ◌∙◌, arith, subst, Bool, false, true, Result, Ok, Err}
 use Rattle.std.proofs.lemmas.List.{take_more, take_all, length-drop}
-use Rattle.std.specs.Prelude.{slice_index_or}
+use Rattle.std.specs.Prelude.{slice_index_or, if◌then◌else◌, IfOk}
+use Rattle.std.specs.List.{list_any}
+use Rattle.std.specs.Str.{bytes_eq}
 use Rattle.avro_schema.specs.declared.schema.AvroField.{AvroField}
 use Rattle.field_words.specs.Fields.{IsField}
 use Rattle.field_words.specs.Names.{IsName, IsRows}
 use Rattle.field_words.proofs.OneMeaning.{one_field}
 use Rattle.command_words.specs.Stands.{Stands, IsUsage}
-use Rattle.command_words.specs.Words.{AreAvroWords, AreFields, AreKeptFields, AreRewriteWords, IsMarker, IsRest, block_word, command_word, AreRest}
+use Rattle.command_words.specs.Words.{AreAvroWords, AreFields, AreKeepWords, AreKeptFields, AreMakeWords, AreRewriteWords, IsMarker, IsRest, block_word, IsCommandWord, AreRest}
 use Rattle.command_words.specs.declared.command.AvroWords.{AvroWords}
 use Rattle.command_words.specs.declared.command.BlockWords.{BlockWords}
 use Rattle.command_words.specs.declared.command.Command.{Command}
-use Rattle.command_words.specs.declared.command.Command.TheVariants.{Block, Ndjson, Make, Infer, Avro, Rewrite}
+use Rattle.command_words.specs.declared.command.Command.TheVariants.{Help, Version, Count, Schema, Fields, Block, Ndjson, Make, Infer, Avro, Rewrite}
+use Rattle.command_words.specs.declared.command.MakeWords.{MakeWords}
 use Rattle.command_words.specs.declared.command.RewriteWords.{RewriteWords}
+use Rattle.field_words.specs.declared.fault.WordsFault.{WordsFault}
 
 abbrev pub words_head : List ℕ → List (List ℕ) → List ℕ
 words_head d [] = d
@@ -74,73 +78,158 @@ begins (w ∷ ws) word low at =
     let whole : take (length (w ∷ ws) - 1) (drop 1 (w ∷ ws)) ≡ ws = take_all (length (w ∷ ws) - 1) (drop 1 (w ∷ ws)) (omega (arith, left)) in
     (λ i. sym at i ∷ sym whole i)
 
--- the first word and those after it stand for the block
-pub stands_for : (words : List (List ℕ)) (word : List ℕ) (rest : List (List ℕ)) (large : Bool) (block : BlockWords) → words ≡ word ∷ rest → word ≡ block_word large → block.large ≡ large → IsRest rest block → Stands words (Block block)
-stands_for words word rest large block is named same h = (rest, subst (λ z. words ≡ z ∷ rest) (named ∙ ap block_word (sym same)) is, h)
-
 -- the first word and those after it stand for the command
-pub stands : (words : List (List ℕ)) (word : List ℕ) (rest : List (List ℕ)) (command : Command) → words ≡ word ∷ rest → word ≡ command_word command → AreRest rest command → Stands words command
-stands words word rest command is named h = (rest, subst (λ z. words ≡ z ∷ rest) named is, h)
+pub stands : (words : List (List ℕ)) (word : List ℕ) (rest : List (List ℕ)) (command : Command) → words ≡ word ∷ rest → IsCommandWord word command → AreRest rest command → Stands words command
+stands words word rest command is named h = (word, rest, is, named, h)
+
+pub stands_for : (words : List (List ℕ)) (word : List ℕ) (rest : List (List ℕ)) (large : Bool) (block : BlockWords) → words ≡ word ∷ rest → word ≡ block_word large → block.large ≡ large → IsRest rest block → Stands words (Block block)
+stands_for words word rest large block is named same h = (word, rest, is, named ∙ ap block_word (sym same), h)
+
+-- the word stands alone
+pub stands_alone : (words : List (List ℕ)) (word : List ℕ) (rest : List (List ℕ)) (command : Command) → words ≡ word ∷ rest → IsCommandWord word command → AreRest [] command → (r : Result Command WordsFault) → IfOk r (λ c. (c ≡ command) × (rest ≡ [])) → IfOk r (Stands words)
+stands_alone words word rest command is named h (Ok c) (same, none) =
+    subst (Stands words) (sym same) (stands words word rest command is named (subst (λ z. AreRest z command) (sym none) h))
+stands_alone words word rest command is named h (Err e) ok = tt
+
+-- ---- the numbers of commands: the words of those below 6 stand alone
+
+abbrev pub kind : Command → ℕ
+kind Help = 0
+kind Version = 1
+kind Count = 2
+kind Schema = 3
+kind Fields = 4
+kind Infer = 5
+kind (Block block) = 6
+kind (Ndjson numbers) = 7
+kind (Make make) = 8
+kind (Avro avro) = 9
+kind (Rewrite rewrite) = 10
+
+-- the number of the command that begins with this word
+abbrev kind_of : List ℕ → ℕ
+kind_of word =
+    if list_any (bytes_eq word) (codes "help" ∷ codes "--help" ∷ codes "-h" ∷ []) then 0
+    else if list_any (bytes_eq word) (codes "version" ∷ codes "--version" ∷ []) then 1
+    else if bytes_eq word (codes "count") then 2
+    else if bytes_eq word (codes "schema") then 3
+    else if bytes_eq word (codes "fields") then 4
+    else if bytes_eq word (codes "infer") then 5
+    else if list_any (bytes_eq word) (codes "block" ∷ codes "block-large" ∷ []) then 6
+    else if bytes_eq word (codes "ndjson") then 7
+    else if bytes_eq word (codes "make") then 8
+    else if bytes_eq word (codes "avro") then 9
+    else 10
+
+block_kind : (large : Bool) → kind_of (block_word large) ≡ 6
+block_kind false = refl
+block_kind true = refl
+
+word_kind : (word : List ℕ) (command : Command) → IsCommandWord word command → kind_of word ≡ kind command
+word_kind word Help (inl e) = ap kind_of e
+word_kind word Help (inr (inl e)) = ap kind_of e
+word_kind word Help (inr (inr e)) = ap kind_of e
+word_kind word Version (inl e) = ap kind_of e
+word_kind word Version (inr e) = ap kind_of e
+word_kind word Count e = ap kind_of e
+word_kind word Schema e = ap kind_of e
+word_kind word Fields e = ap kind_of e
+word_kind word Infer e = ap kind_of e
+word_kind word (Block block) e = ap kind_of e ∙ block_kind block.large
+word_kind word (Ndjson numbers) e = ap kind_of e
+word_kind word (Make make) e = ap kind_of e
+word_kind word (Avro avro) e = ap kind_of e
+word_kind word (Rewrite rewrite) e = ap kind_of e
+
+-- a word begins commands of one number
+pub one_kind : (word : List ℕ) (one other : Command) → IsCommandWord word one → IsCommandWord word other → kind one ≡ kind other
+one_kind word one other h d = sym (word_kind word one h) ∙ word_kind word other d
 
 -- ---- words that stand for no command
 
 -- where no command begins with the first word and goes on with the others
-unused : (words : List (List ℕ)) (word : List ℕ) (rest : List (List ℕ)) → words ≡ word ∷ rest → ((command : Command) → command_word command ≡ word → AreRest rest command → ⊥) → IsUsage words
-unused words word rest e none command (ws, at, h) =
-    none command (ap (words_head word) (sym at ∙ e)) (subst (λ z. AreRest z command) (ap (drop 1) (sym at ∙ e)) h)
+unused : (words : List (List ℕ)) (word : List ℕ) (rest : List (List ℕ)) → words ≡ word ∷ rest → ((command : Command) → IsCommandWord word command → AreRest rest command → ⊥) → IsUsage words
+unused words word rest e none command (w, ws, at, is, h) =
+    none command (subst (λ z. IsCommandWord z command) (ap (words_head word) (sym at ∙ e)) is) (subst (λ z. AreRest z command) (ap (drop 1) (sym at ∙ e)) h)
 
-pub block_isnt_ndjson : (large : Bool) → block_word large ≡ codes "ndjson" → ⊥
-block_isnt_ndjson false e = cc
-block_isnt_ndjson true e = cc
+-- where the first word begins a command, and the others go on with none of that number
+no_others : (words : List (List ℕ)) (word : List ℕ) (rest : List (List ℕ)) (command : Command) → words ≡ word ∷ rest → IsCommandWord word command → ((other : Command) → kind other ≡ kind command → AreRest rest other → ⊥) → IsUsage words
+no_others words word rest command e named none = unused words word rest e (λ other is h. none other (one_kind word other command is named) h)
 
-pub block_isnt_make : (large : Bool) → block_word large ≡ codes "make" → ⊥
-block_isnt_make false e = cc
-block_isnt_make true e = cc
-
-abbrev first_byte : List ℕ → ℕ
-first_byte [] = 0
-first_byte (x ∷ xs) = x
-
-pub block_isnt_infer : (large : Bool) → block_word large ≡ codes "infer" → ⊥
-block_isnt_infer false e = let h : 98 ≡ 105 = ap first_byte e in omega (arith, h)
-block_isnt_infer true e = cc
-
-pub block_isnt_avro : (large : Bool) → block_word large ≡ codes "avro" → ⊥
-block_isnt_avro false e = cc
-block_isnt_avro true e = cc
-
-pub block_isnt_rewrite : (large : Bool) → block_word large ≡ codes "rewrite" → ⊥
-block_isnt_rewrite false e = cc
-block_isnt_rewrite true e = cc
+-- where its word stands alone
+pub not_alone : (words : List (List ℕ)) (word : List ℕ) (rest : List (List ℕ)) (command : Command) → words ≡ word ∷ rest → IsCommandWord word command → kind command < 6 → (rest ≢ []) → IsUsage words
+not_alone words word rest command e named low some = no_others words word rest command e named (λ other same h. from other (omega (arith, same, low)) h)
+  where
+    from : (other : Command) → kind other < 6 → AreRest rest other → ⊥
+    from Help below h = some h
+    from Version below h = some h
+    from Count below h = some h
+    from Schema below h = some h
+    from Fields below h = some h
+    from Infer below h = some h
+    from _ below h = omega (arith, below)
 
 pub no_block : (words : List (List ℕ)) (word : List ℕ) (rest : List (List ℕ)) (large : Bool) → words ≡ word ∷ rest → word ≡ block_word large → ((block : BlockWords) → IsRest rest block → ⊥) → IsUsage words
-no_block words word rest large e is none = unused words word rest e from
+no_block words word rest large e is none = unused words word rest e (λ other named h. from other (sym (word_kind word other named) ∙ ap kind_of is ∙ block_kind large) h)
   where
-    from : (command : Command) → command_word command ≡ word → AreRest rest command → ⊥
+    from : (other : Command) → kind other ≡ 6 → AreRest rest other → ⊥
     from (Block block) same h = none block h
-    from (Ndjson numbers) same h = block_isnt_ndjson large (sym (same ∙ is))
-    from (Make make) same h = block_isnt_make large (sym (same ∙ is))
-    from Infer same h = block_isnt_infer large (sym (same ∙ is))
-    from (Avro avro) same h = block_isnt_avro large (sym (same ∙ is))
-    from (Rewrite rewrite) same h = block_isnt_rewrite large (sym (same ∙ is))
+    from _ same h = omega (arith, same)
 
-pub other_word : (words : List (List ℕ)) (word : List ℕ) (rest : List (List ℕ)) → words ≡ word ∷ rest → (word ≡ codes "block" → ⊥) → (word ≡ codes "block-large" → ⊥) → (word ≡ codes "ndjson" → ⊥) → (word ≡ codes "make" → ⊥) → (word ≡ codes "infer" → ⊥) → (word ≡ codes "avro" → ⊥) → (word ≡ codes "rewrite" → ⊥) → IsUsage words
-other_word words word rest e isnt_block isnt_large isnt_ndjson isnt_make isnt_infer isnt_avro isnt_rewrite = unused words word rest e from
+pub no_ndjson : (words : List (List ℕ)) (word : List ℕ) (rest : List (List ℕ)) → words ≡ word ∷ rest → word ≡ codes "ndjson" → ((numbers : List ℕ) → AreKeepWords rest numbers → ⊥) → IsUsage words
+no_ndjson words word rest e is none = unused words word rest e (λ other named h. from other (sym (word_kind word other named) ∙ ap kind_of is) h)
   where
-    from_block : (large : Bool) → word ≡ block_word large → ⊥
+    from : (other : Command) → kind other ≡ 7 → AreRest rest other → ⊥
+    from (Ndjson numbers) same h = none numbers h
+    from _ same h = omega (arith, same)
+
+pub no_make : (words : List (List ℕ)) (word : List ℕ) (rest : List (List ℕ)) → words ≡ word ∷ rest → word ≡ codes "make" → ((make : MakeWords) → AreMakeWords rest make → ⊥) → IsUsage words
+no_make words word rest e is none = unused words word rest e (λ other named h. from other (sym (word_kind word other named) ∙ ap kind_of is) h)
+  where
+    from : (other : Command) → kind other ≡ 8 → AreRest rest other → ⊥
+    from (Make make) same h = none make h
+    from _ same h = omega (arith, same)
+
+pub no_avro : (words : List (List ℕ)) (word : List ℕ) (rest : List (List ℕ)) → words ≡ word ∷ rest → word ≡ codes "avro" → ((avro : AvroWords) → AreAvroWords rest avro → ⊥) → IsUsage words
+no_avro words word rest e is none = unused words word rest e (λ other named h. from other (sym (word_kind word other named) ∙ ap kind_of is) h)
+  where
+    from : (other : Command) → kind other ≡ 9 → AreRest rest other → ⊥
+    from (Avro avro) same h = none avro h
+    from _ same h = omega (arith, same)
+
+pub no_rewrite : (words : List (List ℕ)) (word : List ℕ) (rest : List (List ℕ)) → words ≡ word ∷ rest → word ≡ codes "rewrite" → ((rewrite : RewriteWords) → AreRewriteWords rest rewrite → ⊥) → IsUsage words
+no_rewrite words word rest e is none = unused words word rest e (λ other named h. from other (sym (word_kind word other named) ∙ ap kind_of is) h)
+  where
+    from : (other : Command) → kind other ≡ 10 → AreRest rest other → ⊥
+    from (Rewrite rewrite) same h = none rewrite h
+    from _ same h = omega (arith, same)
+
+pub other_word : (words : List (List ℕ)) (word : List ℕ) (rest : List (List ℕ)) → words ≡ word ∷ rest → word ≢ codes "help" → word ≢ codes "--help" → word ≢ codes "-h" → word ≢ codes "version" → word ≢ codes "--version" → word ≢ codes "count" → word ≢ codes "schema" → word ≢ codes "fields"
+    → word ≢ codes "block" → word ≢ codes "block-large" → word ≢ codes "ndjson" → word ≢ codes "make" → word ≢ codes "infer" → word ≢ codes "avro" → word ≢ codes "rewrite" → IsUsage words
+other_word words word rest e isnt_help isnt_long_help isnt_short_help isnt_version isnt_long_version isnt_count isnt_schema isnt_fields isnt_block isnt_large isnt_ndjson isnt_make isnt_infer isnt_avro isnt_rewrite = unused words word rest e from
+  where
+    from_block : (large : Bool) → word ≢ block_word large
     from_block false same = isnt_block same
     from_block true same = isnt_large same
 
-    from : (command : Command) → command_word command ≡ word → AreRest rest command → ⊥
-    from (Block block) same h = from_block block.large (sym same)
-    from (Ndjson numbers) same h = isnt_ndjson (sym same)
-    from (Make make) same h = isnt_make (sym same)
-    from Infer same h = isnt_infer (sym same)
-    from (Avro avro) same h = isnt_avro (sym same)
-    from (Rewrite rewrite) same h = isnt_rewrite (sym same)
+    from : (command : Command) → IsCommandWord word command → AreRest rest command → ⊥
+    from Help (inl same) h = isnt_help same
+    from Help (inr (inl same)) h = isnt_long_help same
+    from Help (inr (inr same)) h = isnt_short_help same
+    from Version (inl same) h = isnt_version same
+    from Version (inr same) h = isnt_long_version same
+    from Count same h = isnt_count same
+    from Schema same h = isnt_schema same
+    from Fields same h = isnt_fields same
+    from (Block block) same h = from_block block.large same
+    from (Ndjson numbers) same h = isnt_ndjson same
+    from (Make make) same h = isnt_make same
+    from Infer same h = isnt_infer same
+    from (Avro avro) same h = isnt_avro same
+    from (Rewrite rewrite) same h = isnt_rewrite same
 
 pub no_words : (words : List (List ℕ)) → length words < 1 → IsUsage words
-no_words [] low command (ws, is, h) = absurd (nil_cons is)
+no_words [] low command (w, ws, is, named, h) = absurd (nil_cons is)
 no_words (w ∷ ws) low command h = absurd (omega (arith, low))
 
 -- ---- the words of `rewrite`

@@ -1,17 +1,19 @@
 -- The words that ask for a block, `block ROWS FIELD..` and `block-large ROWS FIELD..`, for the lines of a file,
 -- `ndjson KEEP..`, for rows that are drawn, `make START ROWS`, for the type of JSON lines, `infer`, for a file made of JSON
--- lines, `avro NAME PER_BLOCK MARKER FIELD..`, and for the canonical form of a file, `rewrite NAME MARKER`.
-use Rattle.std.specs.Prelude.{◌≡◌, ◌<◌, ℕ, Bool, false, true, List, [], ◌∷◌, codes, length, ⊤}
+-- lines, `avro NAME PER_BLOCK MARKER FIELD..`, for the canonical form of a file, `rewrite NAME MARKER`, for how many rows and
+-- blocks a file has, `count`, for its schema, `schema`, for its fields, `fields`, and for what the program says of itself, `help`
+-- and `version`.
+use Rattle.std.specs.Prelude.{◌≡◌, ◌<◌, ◌≤◌, ◌⊎◌, ℕ, Bool, false, true, List, [], ◌∷◌, codes, decimal, length, ⊤}
 use Rattle.std.specs.Int.{w128, to_be_bytes}
 use Rattle.std.specs.List.{AllZip}
 use Rattle.std.specs.Str.Parse.{IsNumeral, digits_value}
 use Rattle.avro_schema.specs.declared.schema.AvroField.{AvroField}
 use Rattle.field_words.specs.Fields.{IsField}
-use Rattle.field_words.specs.Names.{IsName, IsNumber, IsRows}
+use Rattle.field_words.specs.Names.{IsName, IsRows}
 use Rattle.command_words.specs.declared.command.AvroWords.{AvroWords}
 use Rattle.command_words.specs.declared.command.BlockWords.{BlockWords}
 use Rattle.command_words.specs.declared.command.Command.{Command}
-use Rattle.command_words.specs.declared.command.Command.TheVariants.{Block, Ndjson, Make, Infer, Avro, Rewrite}
+use Rattle.command_words.specs.declared.command.Command.TheVariants.{Help, Version, Count, Schema, Fields, Block, Ndjson, Make, Infer, Avro, Rewrite}
 use Rattle.command_words.specs.declared.command.MakeWords.{MakeWords}
 use Rattle.command_words.specs.declared.command.RewriteWords.{RewriteWords}
 
@@ -35,13 +37,11 @@ block_word true = codes "block-large"
 abbrev pub AreKeepWords : List (List ℕ) → List ℕ → Type 0
 AreKeepWords = AllZip IsRows
 
--- the state before the first draw, and how many rows there are, each a number of up to 20 digits
+-- the state before the first draw, and how many rows there are, each in decimal with no zero before it
 pub record AreMakeWords (words : List (List ℕ)) (make : MakeWords) : Type 0 where
-  pub start_word : List ℕ
-  pub rows_word : List ℕ
-  pub are : words ≡ start_word ∷ rows_word ∷ []
-  pub start : IsNumber 20 2147483647 start_word make.start
-  pub rows : IsNumber 20 1000000 rows_word make.rows
+  pub are : words ≡ decimal make.start ∷ decimal make.rows ∷ []
+  pub start : make.start ≤ 2147483647
+  pub rows : make.rows ≤ 1000000
 
 -- 16 bytes as 32 hexadecimal digits in either case, the first byte first
 pub record IsMarker (digits marker : List ℕ) : Type 0 where
@@ -74,17 +74,27 @@ pub record AreRewriteWords (words : List (List ℕ)) (rewrite : RewriteWords) : 
 
 -- ---- of every command
 
--- the first word
-abbrev pub command_word : Command → List ℕ
-command_word (Block block) = block_word block.large
-command_word (Ndjson numbers) = codes "ndjson"
-command_word (Make make) = codes "make"
-command_word Infer = codes "infer"
-command_word (Avro avro) = codes "avro"
-command_word (Rewrite rewrite) = codes "rewrite"
+-- the first word, in any of its spellings
+abbrev pub IsCommandWord : List ℕ → Command → Type 0
+IsCommandWord word Help = (word ≡ codes "help") ⊎ (word ≡ codes "--help") ⊎ (word ≡ codes "-h")
+IsCommandWord word Version = (word ≡ codes "version") ⊎ (word ≡ codes "--version")
+IsCommandWord word Count = word ≡ codes "count"
+IsCommandWord word Schema = word ≡ codes "schema"
+IsCommandWord word Fields = word ≡ codes "fields"
+IsCommandWord word (Block block) = word ≡ block_word block.large
+IsCommandWord word (Ndjson numbers) = word ≡ codes "ndjson"
+IsCommandWord word (Make make) = word ≡ codes "make"
+IsCommandWord word Infer = word ≡ codes "infer"
+IsCommandWord word (Avro avro) = word ≡ codes "avro"
+IsCommandWord word (Rewrite rewrite) = word ≡ codes "rewrite"
 
 -- those after it
 abbrev pub AreRest : List (List ℕ) → Command → Type 0
+AreRest rest Help = rest ≡ []
+AreRest rest Version = rest ≡ []
+AreRest rest Count = rest ≡ []
+AreRest rest Schema = rest ≡ []
+AreRest rest Fields = rest ≡ []
 AreRest rest (Block block) = IsRest rest block
 AreRest rest (Ndjson numbers) = AreKeepWords rest numbers
 AreRest rest (Make make) = AreMakeWords rest make

@@ -50,6 +50,16 @@ pub struct RewriteWords {
 /// What the words ask for.
 #[derive(Drop)]
 pub enum Command {
+    /// Tell what each command takes and gives.
+    Help,
+    /// Tell the program's name and version.
+    Version,
+    /// Count the rows and the blocks of an Avro file.
+    Count,
+    /// Show the schema of an Avro file.
+    Schema,
+    /// List the fields of an Avro file, with their types and whether they can be shown.
+    Fields,
     /// Read one block of rows and show its kept fields.
     Block(BlockWords),
     /// Read an Avro file, and write its rows as JSON lines: of the fields of these numbers, counted

@@ -1,8 +1,8 @@
 //! The words of a command line, and the command that they stand for.
 
-ghost use Rattle.std.specs.Prelude.{◌≡◌, ◌<◌, ℕ, Bool, List, Err, None, IfErr, IfOk, IfSome};
+ghost use Rattle.std.specs.Prelude.{◌≡◌, ◌≢◌, ◌<◌, ◌≤◌, ℕ, Bool, List, [], decimal, Err, None, IfErr, IfOk, IfSome};
 ghost use Rattle.avro_schema.specs.declared.schema.AvroField.{AvroField as TheField};
-ghost use Rattle.field_words.specs.Names.{IsNumber, IsRows};
+ghost use Rattle.field_words.specs.Names.{IsRows};
 ghost use Rattle.command_words.specs.declared.command.AvroWords.{AvroWords as TheAvro};
 ghost use Rattle.command_words.specs.declared.command.BlockWords.{BlockWords as TheBlock};
 ghost use Rattle.command_words.specs.declared.command.MakeWords.{MakeWords as TheMake};
@@ -15,6 +15,7 @@ use crate::command::{AvroWords, BlockWords, Command, MakeWords, RewriteWords};
 use arrow_core::{Items, Text};
 use avro_schema::AvroField;
 use field_words::{WordsFault, is_name, read_field, read_rows};
+use itoa::Buffer;
 use std::alloc::Global;
 
 /// The greatest state of the generator of `make`.
@@ -37,6 +38,11 @@ pub fn read_words(alloc: Global, words: &[Text]) -> Result<Command, WordsFault>
         return Err(WordsFault::Usage);
     };
     match command.as_str() {
+        "help" | "--help" | "-h" => alone(rest, Command::Help),
+        "version" | "--version" => alone(rest, Command::Version),
+        "count" => alone(rest, Command::Count),
+        "schema" => alone(rest, Command::Schema),
+        "fields" => alone(rest, Command::Fields),
         "block" => Ok(Command::Block(read_block(alloc, rest, false)?)),
         "block-large" => Ok(Command::Block(read_block(alloc, rest, true)?)),
         "ndjson" => Ok(Command::Ndjson(read_numbers(alloc, rest)?)),
@@ -44,14 +50,22 @@ pub fn read_words(alloc: Global, words: &[Text]) -> Result<Command, WordsFault>
             Some(make) => Ok(Command::Make(make)),
             None => Err(WordsFault::Usage),
         },
-        "infer" => match rest {
-            [] => Ok(Command::Infer),
-            _ => Err(WordsFault::Usage),
-        },
+        "infer" => alone(rest, Command::Infer),
         "avro" => Ok(Command::Avro(read_avro(alloc, rest)?)),
         "rewrite" => Ok(Command::Rewrite(read_rewrite(alloc, rest)?)),
         _ => Err(WordsFault::Usage),
     }
+}
+
+/// The command whose word stands alone. `Usage` where other words follow it.
+fn alone(words: &[Text], command: Command) -> Result<Command, WordsFault>
+    ensures command { IfOk result (λ answer. (answer ≡ command) × (words.now ≡ [])) }
+    ensures usage { IfErr result (λ fault. (fault ≡ Usage) × (words.now ≢ [])) }
+{
+    if !words.is_empty() {
+        return Err(WordsFault::Usage);
+    }
+    Ok(command)
 }
 
 /// The rows and fields of `block` or `block-large`, after that word.
@@ -124,13 +138,16 @@ fn read_make(words: &[Text]) -> Option<MakeWords>
     })
 }
 
-/// The number of a word of 1 to 20 decimal digits, up to the greatest.
+/// The number that the word writes in decimal with no zero before it, up to the greatest.
 fn read_number(word: &str, greatest: usize) -> Option<usize>
-    ensures number { IfSome result (IsNumber 20 greatest word.now) }
-    ensures none { result ≡ None → (number : ℕ) → IsNumber 20 greatest word.now number → ⊥ }
+    ensures number { IfSome result (λ number. (word.now ≡ decimal number)
+        × (number ≤ greatest)) }
+    ensures none { result ≡ None → (number : ℕ) → word.now ≡ decimal number → number ≤ greatest
+        → ⊥ }
 {
     let number = read_rows(word)?;
-    if number > greatest {
+    let mut buffer = Buffer::new();
+    if number > greatest || buffer.format(number) != word {
         return None;
     }
     Some(number)

@@ -1,8 +1,14 @@
+pub mod Appends
 pub mod Bytes
 pub mod Cuts
 pub mod Ends
 pub mod FieldEnds
 pub mod FieldLemmas
+pub mod Joins
 pub mod OneMeaning
+pub mod PrintComplete
+pub mod PrintLaws
+pub mod PrintSteps
 pub mod SymbolLemmas
 pub mod TypeSteps
+pub mod Unnamed

@@ -1,4 +1,5 @@
 pub mod FieldEnd
 pub mod Fields
 pub mod Names
+pub mod Printed
 pub mod Types

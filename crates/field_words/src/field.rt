@@ -11,7 +11,7 @@ use avro_schema::AvroField;
 use std::alloc::Global;
 
 /// How deep types may nest.
-const MOST_DEPTH: usize = 64;
+pub(crate) const MOST_DEPTH: usize = 64;
 
 /// A field as its word names it.
 #[derive(Drop)]

@@ -10,7 +10,7 @@ const ROWS_DIGITS: usize = 20;
 const SIZE_DIGITS: usize = 10;
 
 /// The greatest size, precision or scale.
-const GREATEST_SIZE: usize = 2_147_483_647;
+pub(crate) const GREATEST_SIZE: usize = 2_147_483_647;
 
 /// Whether a name has one or more letters, digits, `_`, `-` and `.`, and nothing else.
 pub fn is_name(name: &str) -> bool

@@ -11,7 +11,7 @@ use avro_schema::{AvroSchema, FixedLogical, IntLogical, LongLogical, StringLogic
 use std::alloc::Global;
 
 /// How many bytes a duration has (Avro 1.11, "Duration").
-const DURATION_SIZE: usize = 12;
+pub(crate) const DURATION_SIZE: usize = 12;
 
 /// The type that a primitive type's name or a logical type's names, such as `int` or
 /// `timestamp-micros`. `Usage` for any other word; `Memory` of `duration` alone.
