@@ -1,9 +1,9 @@
 //! `sample_reader`: the rows of Avro files that other programs wrote, as JSON lines on standard output.
-//! Its arguments are the files' names.
+//! Its arguments are the files' names. What is wrong is told on standard error.
 #![tactic(auto)]
 
 use arrow_base::{Error, Result, StdSink, StdSource};
-use avro_ndjson::avro_to_ndjson;
+use arrow_convert::avro_to_ndjson;
 use std::env;
 use std::fs::File;
 use std::io::BufReader;
@@ -40,8 +40,10 @@ fn main(rt: HostRuntime) -> ExitCode {
         return ExitCode::FAILURE;
     };
     for name in arguments.skip(1) {
-        if show(&rt, name.as_str()).is_err() {
-            return ExitCode::FAILURE;
+        if let Err(error) = show(&rt, name.as_str()) {
+            // Where this can't be told either, the status tells it.
+            let _ = eprintln!(rt; "{name}: {error}");
+            return ExitCode::from(error.status());
         }
     }
     ExitCode::SUCCESS
