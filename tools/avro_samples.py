@@ -1,7 +1,7 @@
 #!/usr/bin/env python3
 """Writes files that Debian's python3-avro, avro-c and Java's avro wrote. Those that the program `sample_reader` is
 run on are files of its folder `data/`, beside the lines that it must write, which are those that other programs make
-of their rows. Those of which tests want the bytes are byte strings: of `file_tests`, with the bytes of the blocks of
+of their rows. Those of which tests want the bytes are byte strings: of `base_tests`, with the bytes of the blocks of
 cards as python3-avro encodes them, and of `convert_tests`, with the lines of its rows.
 
 The lines are those of python3-avro's reader, `json` and `datetime`. Of the same files avro-c's `avrocat` and
@@ -241,7 +241,7 @@ def main():
         ("cards_and_none.avro", gap),
     ]
     files = [
-        module("file_tests/src/samples.rt", "Files that other programs wrote", [
+        module("base_tests/src/samples.rt", "Files that other programs wrote", [
             ("NO_BLOCKS", "A file without blocks, of python3-avro.", written(SCHEMA, [])),
             ("TWO_BLOCKS", "Blocks of two rows and of three, of python3-avro.", written(SCHEMA, [rows(0, 2), rows(2, 3)])),
             ("DEFLATED", "A block of one row, compressed, of python3-avro.", written(SCHEMA, [rows(0, 1)], "deflate")),

@@ -54,7 +54,7 @@ right() {
     echo "$1: each of $((n - 1)) allocations was refused, and each answer was right"
 }
 
-program=$(program_of builder_tests)
+program=$(program_of array_tests)
 n=1
 while :; do
     try memory::a_list_where_memory_is_wanted

@@ -17,9 +17,11 @@ fn hello_twice(rt: &impl Abort, alloc: Global) -> Utf8Array<i32> {
 }
 
 fn are_hello_twice(array: Utf8Array<i32>) -> bool {
-    array.len() == 3
+    let holds = array.len() == 3
         && (array.is_valid(0) && !array.is_valid(1) && array.is_valid(2))
-        && (array.value(0) == "hello" && array.value(2) == "hello2")
+        && (array.value(0) == "hello" && array.value(2) == "hello2");
+    drop(array);
+    holds
 }
 
 #[test]
@@ -29,13 +31,17 @@ fn strings_lie_between_offsets(rt: HostRuntime) {
 
 fn without_first(rt: &impl Abort, alloc: Global, array: Utf8Array<i32>) -> Utf8Array<i32> {
     assert!(rt; array.len() == 3);
-    array.slice(alloc, 1, 2).expect(rt, "memory")
+    let slice = array.slice(alloc, 1, 2).expect(rt, "memory");
+    drop(array);
+    slice
 }
 
 fn are_null_and_hello(slice: Utf8Array<i32>) -> bool {
-    slice.len() == 2
+    let holds = slice.len() == 2
         && (!slice.is_valid(0) && slice.value(1) == "hello2")
-        && slice.offsets() == [5, 5, 11].as_slice()
+        && slice.offsets() == [5, 5, 11].as_slice();
+    drop(slice);
+    holds
 }
 
 #[test]
@@ -63,11 +69,15 @@ fn two_booleans(rt: &impl Abort, alloc: Global) -> BooleanArray {
 
 fn second_boolean(rt: &impl Abort, alloc: Global, array: BooleanArray) -> BooleanArray {
     assert!(rt; array.len() == 2);
-    array.slice(alloc, 1, 1).expect(rt, "memory")
+    let slice = array.slice(alloc, 1, 1).expect(rt, "memory");
+    drop(array);
+    slice
 }
 
 fn is_false(slice: BooleanArray) -> bool {
-    slice.len() == 1 && !slice.value(0)
+    let holds = slice.len() == 1 && !slice.value(0);
+    drop(slice);
+    holds
 }
 
 #[test]
@@ -93,11 +103,15 @@ fn second_of<T: NativeType>(
     array: PrimitiveArray<T>,
 ) -> PrimitiveArray<T> {
     assert!(rt; array.len() == 2);
-    array.slice(alloc, 1, 1).expect(rt, "memory")
+    let slice = array.slice(alloc, 1, 1).expect(rt, "memory");
+    drop(array);
+    slice
 }
 
 fn is_one<T: NativeType>(slice: PrimitiveArray<T>, number: T) -> bool {
-    slice.len() == 1 && slice.value(0) == number
+    let holds = slice.len() == 1 && slice.value(0) == number;
+    drop(slice);
+    holds
 }
 
 /// Whether the array of two numbers has a slice from the second on that shows it.
@@ -146,7 +160,10 @@ fn chunk(rt: &impl Abort, alloc: Global) -> Chunk {
 
 fn has_one_column_of_two(chunk: Chunk) -> bool {
     let count = chunk.len();
-    chunk.into_arrays().len() == 1 && count == 2
+    let arrays = chunk.into_arrays();
+    let holds = arrays.len() == 1 && count == 2;
+    drop(arrays);
+    holds
 }
 
 #[test]

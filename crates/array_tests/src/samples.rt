@@ -11,13 +11,17 @@ use std::alloc::Global;
 use std::process::Abort;
 
 pub fn are_equal(left: Array, right: Array) -> bool {
-    equal(&left, &right)
+    let are_equal = equal(&left, &right);
+    drop((left, right));
+    are_equal
 }
 
 /// Whether the array has two slots, and its slice of the first is the other array.
 pub fn begins_with(rt: &impl Abort, alloc: Global, array: Array, first: Array) -> bool {
     assert!(rt; array.len() == 2);
-    are_equal(array.slice(alloc, 0, 1).expect(rt, "memory"), first)
+    let slice = array.slice(alloc, 0, 1).expect(rt, "memory");
+    drop(array);
+    are_equal(slice, first)
 }
 
 /// Whether parts were refused, for this reason.

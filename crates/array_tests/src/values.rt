@@ -19,6 +19,7 @@ fn are_null_and_true(array: &Array) -> bool {
 fn a_boolean_is_null_where_its_validity_is_false(rt: HostRuntime) {
     let array = booleans(&rt, rt.alloc(), &[true, true], &[false, true]);
     assert!(rt; are_null_and_true(&array));
+    drop(array);
 }
 
 /// Whether there are two binary values, and these are they.
@@ -39,8 +40,10 @@ fn binary_values_lie_one_after_another(rt: HostRuntime) {
     let alloc = rt.alloc();
     let array = binaries(&rt, alloc, &[0, 1, 2], &[1, 2]);
     assert!(rt; are_binary(&array, &[1], &[2]));
+    drop(array);
     let array = fixed_binaries(&rt, alloc, &[1, 2, 3, 4], 2);
     assert!(rt; are_binary(&array, &[1, 2], &[3, 4]));
+    drop(array);
 }
 
 /// Whether these two integers stand from `start` on.
@@ -82,8 +85,12 @@ fn are_two_and_none(array: &Array) -> bool {
 #[test]
 fn a_list_has_the_items_between_its_offsets(rt: HostRuntime) {
     let alloc = rt.alloc();
-    assert!(rt; are_two_and_none(&lists(&rt, alloc, &[0, 2, 2])));
-    assert!(rt; are_two_and_none(&large_lists(&rt, alloc, &[0, 2, 2])));
+    let array = lists(&rt, alloc, &[0, 2, 2]);
+    assert!(rt; are_two_and_none(&array));
+    drop(array);
+    let array = large_lists(&rt, alloc, &[0, 2, 2]);
+    assert!(rt; are_two_and_none(&array));
+    drop(array);
 }
 
 /// Whether these are the lists 1 and 2, and 3 and 4.
@@ -98,7 +105,9 @@ fn are_pairs(array: &Array) -> bool {
 
 #[test]
 fn a_fixed_size_list_has_the_items_from_twice_its_index(rt: HostRuntime) {
-    assert!(rt; are_pairs(&pairs(&rt, rt.alloc(), &[1, 2, 3, 4])));
+    let array = pairs(&rt, rt.alloc(), &[1, 2, 3, 4]);
+    assert!(rt; are_pairs(&array));
+    drop(array);
 }
 
 /// Whether these are structs of 1 and of 2.
@@ -114,7 +123,9 @@ fn are_structs(array: &Array) -> bool {
 
 #[test]
 fn a_struct_has_the_slots_of_its_children(rt: HostRuntime) {
-    assert!(rt; are_structs(&structs(&rt, rt.alloc(), &[1, 2])));
+    let array = structs(&rt, rt.alloc(), &[1, 2]);
+    assert!(rt; are_structs(&array));
+    drop(array);
 }
 
 /// Whether the values are A and B.
@@ -142,5 +153,7 @@ fn are_b_and_a(array: &Array) -> bool {
 
 #[test]
 fn a_dictionary_has_its_keys_and_its_values(rt: HostRuntime) {
-    assert!(rt; are_b_and_a(&dictionary(&rt, rt.alloc(), &[1, 0])));
+    let array = dictionary(&rt, rt.alloc(), &[1, 0]);
+    assert!(rt; are_b_and_a(&array));
+    drop(array);
 }

@@ -4,14 +4,17 @@ use json_tree::{JsonFault, Number, Value, parse};
 use std::alloc::Global;
 
 // RFC 8259, section 13.
-static IMAGE: &str =
+pub static IMAGE: &str =
     "{\"Image\": {\"Width\": 800, \"Height\": 600, \"Title\": \"View from 15th Floor\", \"Thumbnail\": {\"Url\": \"http://www.example.com/image/481989943\", \"Height\": 125, \"Width\": 100}, \"Animated\": false, \"IDs\": [116, 943, 234, 38793]}}";
 
-static PLACES: &str =
+pub static PLACES: &str =
     "[{\"precision\": \"zip\", \"Latitude\": 37.7668, \"Longitude\": -122.3959, \"Address\": \"\"}, {\"Latitude\": 37.371991, \"Longitude\": -122.026020, \"Zip\": \"94085\"}]";
 
 fn is_text(alloc: Global, bytes: &[u8]) -> bool {
-    parse(alloc, bytes).is_ok()
+    let parsed = parse(alloc, bytes);
+    let is_text = parsed.is_ok();
+    drop(parsed);
+    is_text
 }
 
 #[test]
@@ -23,7 +26,10 @@ fn the_examples_of_the_rfc_are_read(rt: HostRuntime) {
 
 fn is_fault(alloc: Global, bytes: &[u8], wanted: JsonFault) -> bool {
     match parse(alloc, bytes) {
-        Ok(_) => false,
+        Ok(value) => {
+            drop(value);
+            false
+        }
         Err(fault) => fault == wanted,
     }
 }
@@ -41,10 +47,13 @@ fn a_fault_of_each_kind_is_told(rt: HostRuntime) {
 }
 
 fn is_string(alloc: Global, bytes: &[u8], wanted: &str) -> bool {
-    match parse(alloc, bytes) {
+    let parsed = parse(alloc, bytes);
+    let is_wanted = match &parsed {
         Ok(Value::String(text)) => text.as_str() == wanted,
         _ => false,
-    }
+    };
+    drop(parsed);
+    is_wanted
 }
 
 #[test]
@@ -54,12 +63,15 @@ fn a_string_means_its_characters(rt: HostRuntime) {
 }
 
 fn is_float(alloc: Global, bytes: &[u8], mantissa: &str, exponent: &str) -> bool {
-    match parse(alloc, bytes) {
+    let parsed = parse(alloc, bytes);
+    let is_wanted = match &parsed {
         Ok(Value::Number(Number::Float(before, after))) => {
             before.as_str() == mantissa && after.as_str() == exponent
         }
         _ => false,
-    }
+    };
+    drop(parsed);
+    is_wanted
 }
 
 #[test]
@@ -69,14 +81,17 @@ fn a_number_keeps_its_digits(rt: HostRuntime) {
 
 /// Whether an object has two members, of which `a` is true, and no `c`.
 fn has_true(alloc: Global, bytes: &[u8]) -> bool {
-    match parse(alloc, bytes) {
+    let parsed = parse(alloc, bytes);
+    let is_wanted = match &parsed {
         Ok(Value::Object(object)) => {
             object.members().len() == 2
                 && matches!(object.get("a"), Some(Value::Bool(true)))
                 && object.get("c").is_none()
         }
         _ => false,
-    }
+    };
+    drop(parsed);
+    is_wanted
 }
 
 #[test]

@@ -12,7 +12,9 @@ fn text(rt: &impl Abort, alloc: Global, text: &str) -> Text {
 fn a_text_is_what_it_was_made_from(rt: HostRuntime) {
     let text = text(&rt, rt.alloc(), "hi");
     assert!(rt; text.as_str() == "hi");
-    assert!(rt; text.try_clone(rt.alloc()).expect(&rt, "memory") == text);
+    let copy = text.try_clone(rt.alloc()).expect(&rt, "memory");
+    assert!(rt; copy == text);
+    drop(copy);
     assert!(rt; Text::from_string(text.into_string()).as_str() == "hi");
 }
 
@@ -26,6 +28,7 @@ fn bytes_grow_at_their_end(rt: HostRuntime) {
     assert!(rt; bytes.as_slice() == [0x01, 0x02, 0x03].as_slice());
     bytes.clear();
     assert!(rt; bytes.as_slice().is_empty());
+    drop(bytes);
 }
 
 fn copied<T: Copy>(rt: &impl Abort, alloc: Global, items: &[T]) -> Vec<T> {
@@ -49,8 +52,12 @@ fn a_key_has_its_last_value(rt: HostRuntime) {
             .insert(text(&rt, rt.alloc(), "k"), value)
             .expect(&rt, "memory");
     }
-    assert!(rt; metadata.get("k") == Some("2") && metadata.get("j") == None);
-    assert!(rt; metadata.try_clone(rt.alloc()).expect(&rt, "memory") == metadata);
+    assert!(rt; metadata.get("k") == Some("2"));
+    assert!(rt; metadata.get("j") == None);
+    let copy = metadata.try_clone(rt.alloc()).expect(&rt, "memory");
+    let is_copied = copy == metadata;
+    drop((metadata, copy));
+    assert!(rt; is_copied);
 }
 
 #[test]

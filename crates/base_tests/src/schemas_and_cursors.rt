@@ -74,7 +74,9 @@ fn list(rt: &impl Abort, alloc: Global, logical: LongLogical) -> AvroSchema {
 }
 
 fn are_equal(left: AvroSchema, right: AvroSchema) -> bool {
-    left == right
+    let are_equal = left == right;
+    drop((left, right));
+    are_equal
 }
 
 fn is_copied(rt: &impl Abort, alloc: Global, schema: AvroSchema) -> bool {

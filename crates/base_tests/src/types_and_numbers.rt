@@ -78,7 +78,9 @@ fn schema(rt: &impl Abort, alloc: Global, name: &str) -> Schema {
 }
 
 fn are_equal(left: Field, right: Field) -> bool {
-    left == right
+    let are_equal = left == right;
+    drop((left, right));
+    are_equal
 }
 
 fn field_is_copied(rt: &impl Abort, alloc: Global, field: Field) -> bool {
@@ -86,11 +88,16 @@ fn field_is_copied(rt: &impl Abort, alloc: Global, field: Field) -> bool {
 }
 
 fn type_is_copied(rt: &impl Abort, alloc: Global, data_type: DataType) -> bool {
-    data_type.try_clone(alloc).expect(rt, "memory") == data_type
+    let copy = data_type.try_clone(alloc).expect(rt, "memory");
+    let is_copied = copy == data_type;
+    drop((copy, data_type));
+    is_copied
 }
 
 fn are_equal_schemas(left: Schema, right: Schema) -> bool {
-    left == right
+    let are_equal = left == right;
+    drop((left, right));
+    are_equal
 }
 
 fn schema_is_copied(rt: &impl Abort, alloc: Global, schema: Schema) -> bool {
@@ -130,7 +137,9 @@ fn dictionary(rt: &impl Abort, alloc: Global) -> DataType {
 }
 
 fn lies_as(data_type: DataType, physical: PhysicalType) -> bool {
-    data_type.to_physical_type() == physical
+    let lies_so = data_type.to_physical_type() == physical;
+    drop(data_type);
+    lies_so
 }
 
 fn lies_as_primitive(data_type: DataType, primitive: PrimitiveType) -> bool {

@@ -64,7 +64,9 @@ fn gives(
         rt, "memory",
     );
     let given = avro_to_ndjson(alloc, &mut source, &mut sink, keep, how.limit);
-    given == answer && sink.held() == held
+    let gives_so = given == answer && sink.held() == held;
+    drop((source, sink));
+    gives_so
 }
 
 #[test]

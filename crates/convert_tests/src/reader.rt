@@ -18,32 +18,59 @@ fn reader(
 ) -> Result<Reader<MemorySource>> {
     let mut source = source(rt, alloc, file);
     let metadata = header_of(rt, alloc, &mut source);
-    let schema = infer_schema(alloc, &metadata.root)?;
-    Reader::new(
-        alloc,
-        source,
-        metadata,
-        schema.fields.into_vec(),
-        projection,
-        1000,
-    )
+    match infer_schema(alloc, &metadata.root) {
+        Ok(schema) => {
+            let fields = schema.fields.into_vec();
+            Reader::new(alloc, source, metadata, fields, projection, 1000)
+        }
+        Err(error) => {
+            drop((source, metadata));
+            Err(error)
+        }
+    }
 }
 
 /// Whether the next chunk is one column of these integers.
 fn gives(reader: &mut Reader<MemorySource>, values: &[i64]) -> bool {
     match reader.next() {
-        Some(Ok(chunk)) => holds(&chunk, values),
-        _ => false,
+        Some(Ok(chunk)) => {
+            let holds_them = holds(&chunk, values);
+            drop(chunk);
+            holds_them
+        }
+        Some(Err(_)) | None => false,
+    }
+}
+
+/// The next error; `None` where the next answer is none.
+fn next_error(reader: &mut Reader<MemorySource>) -> Option<Error> {
+    match reader.next() {
+        Some(Ok(chunk)) => {
+            drop(chunk);
+            None
+        }
+        Some(Err(error)) => Some(error),
+        None => None,
+    }
+}
+
+/// Whether there is no further answer.
+fn ends(reader: &mut Reader<MemorySource>) -> bool {
+    match reader.next() {
+        Some(Ok(chunk)) => {
+            drop(chunk);
+            false
+        }
+        Some(Err(_)) => false,
+        None => true,
     }
 }
 
 /// Whether the next answer is this error, and then nothing, with the error told.
 fn fails(reader: &mut Reader<MemorySource>, error: Error) -> bool {
-    let first = match reader.next() {
-        Some(Err(given)) => given == error,
-        _ => false,
-    };
-    first && reader.next().is_none() && reader.next().is_none() && reader.failed() == Some(error)
+    next_error(reader) == Some(error)
+        && (ends(reader) && ends(reader))
+        && reader.failed() == Some(error)
 }
 
 #[test]
@@ -53,8 +80,10 @@ fn a_chunk_for_each_block(rt: HostRuntime) {
     let mut events = reader(&rt, alloc, &[EVENTS], Some(ids)).expect(&rt, "a file");
     assert!(rt; gives(&mut events, &[7, 8]));
     assert!(rt; gives(&mut events, &[9]));
-    assert!(rt; events.next().is_none() && events.next().is_none());
+    assert!(rt; ends(&mut events));
+    assert!(rt; ends(&mut events));
     assert!(rt; events.failed().is_none());
+    drop(events);
 }
 
 #[test]
@@ -65,10 +94,12 @@ fn an_error_is_the_last_answer(rt: HostRuntime) {
     let mut wrong = reader(&rt, alloc, &[HEADER, BLOCK, cut, BLOCK], None).expect(&rt, "a file");
     assert!(rt; gives(&mut wrong, &[1, -2]));
     assert!(rt; fails(&mut wrong, Error::ExternalFormat(Reason::BlockBytes)));
+    drop(wrong);
     // A block of another marker.
     let other = b"\x04\x04\x02\x03\x01\x01\x01\x01\x01\x01\x01\x01\x01\x01\x01\x01\x01\x01\x01\x02";
     let mut marked = reader(&rt, alloc, &[HEADER, other, BLOCK], None).expect(&rt, "a file");
     assert!(rt; fails(&mut marked, Error::ExternalFormat(Reason::Marker)));
+    drop(marked);
 }
 
 #[test]

@@ -23,11 +23,13 @@ fn three(rt: &impl Abort, alloc: Global) -> Vec<Result<Array>> {
 fn empty_arrays_are_passed_over(rt: HostRuntime) {
     let alloc = rt.alloc();
     let mut texts = Serializer::new(three(&rt, alloc).into_iter(), Vec::new(alloc));
-    assert!(rt; texts.get() == None && texts.size_hint() == (0, None));
+    assert!(rt; texts.get() == None);
+    assert!(rt; texts.size_hint() == (0, None));
     assert!(rt; texts.next() == Ok(Some(b"1,2".as_slice())));
     assert!(rt; texts.next() == Ok(Some(b"3".as_slice())));
     assert!(rt; texts.next() == Ok(None));
     assert!(rt; texts.next() == Ok(None));
+    drop(texts);
 }
 
 #[test]
@@ -38,6 +40,7 @@ fn arrays_are_written_as_one(rt: HostRuntime) {
     let mut sink = MemorySink::with_room(alloc, 64, 2, none).expect(&rt, "memory");
     assert!(rt; write(&mut sink, texts) == Ok(()));
     assert!(rt; sink.held() == b"[1,2,3]".as_slice());
+    drop(sink);
 }
 
 #[test]
@@ -48,6 +51,7 @@ fn no_bracket_closes_what_a_write_cut_off(rt: HostRuntime) {
     let mut sink = MemorySink::with_room(alloc, 64, 2, fifth).expect(&rt, "memory");
     assert!(rt; write(&mut sink, texts) == Err(Error::WriteFault));
     assert!(rt; sink.held() == b"[1,2,".as_slice());
+    drop(sink);
 }
 
 /// A null, a day of the year 10000, a null.
@@ -66,6 +70,8 @@ fn nothing_comes_after_an_error(rt: HostRuntime) {
     let mut texts = Serializer::new(refused(&rt, alloc).into_iter(), Vec::new(alloc));
     assert!(rt; texts.next() == Ok(Some(b"null".as_slice())));
     let error = Error::InvalidArgumentError(Reason::DateRange);
-    assert!(rt; texts.advance() == Err(error) && texts.get() == None);
+    assert!(rt; texts.advance() == Err(error));
+    assert!(rt; texts.get() == None);
     assert!(rt; texts.next() == Ok(None));
+    drop(texts);
 }

@@ -40,11 +40,13 @@ fn chunks_are_added_line_by_line(rt: HostRuntime) {
         booleans(&rt, alloc),
     );
     let second = pair(&rt, alloc, longs(&rt, alloc, &[0]), structs(&rt, alloc));
-    assert!(rt; lines.push(&mut out, &first) == Ok(()) && lines.push(&mut out, &second) == Ok(()));
+    assert!(rt; lines.push(&mut out, &first) == Ok(()));
+    assert!(rt; lines.push(&mut out, &second) == Ok(()));
     // The lines that Python's json.dumps(row, separators=(",", ":")) makes of the rows.
     let expected =
         b"{\"a\\\"\":1,\"b\":true}\n{\"a\\\"\":-2,\"b\":null}\n{\"a\\\"\":3,\"b\":false}\n{\"a\\\"\":0,\"b\":{\"a\\\"\":-5,\"b\":\"x\"}}\n";
     assert!(rt; out.as_slice() == expected.as_slice());
+    drop((lines, first, second));
 }
 
 #[test]
@@ -54,10 +56,12 @@ fn names_within_structs_are_escaped_where_they_need_it(rt: HostRuntime) {
     let mut out = Vec::new(alloc);
     let plain = chunk(&rt, alloc, structs_named(&rt, alloc, "long"));
     let escaped = chunk(&rt, alloc, structs_named(&rt, alloc, "\\\n"));
-    assert!(rt; lines.push(&mut out, &plain) == Ok(()) && lines.push(&mut out, &escaped) == Ok(()));
+    assert!(rt; lines.push(&mut out, &plain) == Ok(()));
+    assert!(rt; lines.push(&mut out, &escaped) == Ok(()));
     // By Python's json.dumps as above.
     let expected = b"{\"s\":{\"long\":-5,\"b\":\"x\"}}\n{\"s\":{\"\\\\\\n\":-5,\"b\":\"x\"}}\n";
     assert!(rt; out.as_slice() == expected.as_slice());
+    drop((lines, plain, escaped));
 }
 
 #[test]
@@ -74,6 +78,7 @@ fn a_column_comes_after_those_within_the_one_before(rt: HostRuntime) {
     let expected =
         b"{\"s\":{\"p\":{\"p\":1,\"q\\\"\":\"1970-01-01T01:00:00+01:00\"},\"q\\\"\":\"x\"},\"t\":-2}\n";
     assert!(rt; out.as_slice() == expected.as_slice());
+    drop((lines, row));
 }
 
 #[test]
@@ -88,4 +93,5 @@ fn a_refused_chunk_adds_nothing(rt: HostRuntime) {
     let refused = Err(Error::InvalidArgumentError(Reason::Lengths));
     assert!(rt; lines.push(&mut out, &none) == refused);
     assert!(rt; out.as_slice() == b"x".as_slice());
+    drop((lines, late, none));
 }

@@ -7,7 +7,9 @@ use arrow_types::{DataType, TimeUnit};
 use json_text::check;
 
 fn outcome(array: Array) -> Result<()> {
-    check(&array)
+    let outcome = check(&array);
+    drop(array);
+    outcome
 }
 
 #[test]

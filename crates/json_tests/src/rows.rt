@@ -32,6 +32,8 @@ fn a_row_is_an_object_with_escaped_names(rt: HostRuntime) {
     assert!(rt; rows.get() == None);
     assert!(rt; rows.next() == Ok(Some(b"{\"a\\\"\":1}".as_slice())));
     assert!(rt; rows.next() == Ok(None));
+    drop(rows);
+    drop(chunk);
 }
 
 #[test]
@@ -42,16 +44,22 @@ fn rows_are_written_as_an_array(rt: HostRuntime) {
     let mut sink = MemorySink::with_room(alloc, 64, 3, none).expect(&rt, "memory");
     assert!(rt; write(&mut sink, rows(&rt, alloc, &chunk)) == Ok(()));
     assert!(rt; sink.held() == b"[{\"a\\\"\":true},{\"a\\\"\":null},{\"a\\\"\":false}]".as_slice());
+    drop((chunk, sink));
 }
 
 /// Why the array makes no rows, if it makes none.
 fn outcome(rt: &impl Abort, alloc: Global, array: Array) -> Result<()> {
     let chunk = chunk(rt, alloc, array);
     let made = RecordSerializer::new(alloc, schema(rt, alloc, "a"), &chunk, Vec::new(alloc));
-    match made {
-        Ok(_) => Ok(()),
+    let outcome = match made {
+        Ok(rows) => {
+            drop(rows);
+            Ok(())
+        }
         Err(error) => Err(error),
-    }
+    };
+    drop(chunk);
+    outcome
 }
 
 #[test]
@@ -78,10 +86,16 @@ fn unequal(rt: &impl Abort, alloc: Global, arrays: usize) -> Result<()> {
             Schema { fields, metadata },
         )
     };
-    match RecordSerializer::new(alloc, schema, &chunk, Vec::new(alloc)) {
-        Ok(_) => Ok(()),
+    let made = RecordSerializer::new(alloc, schema, &chunk, Vec::new(alloc));
+    let outcome = match made {
+        Ok(rows) => {
+            drop(rows);
+            Ok(())
+        }
         Err(error) => Err(error),
-    }
+    };
+    drop(chunk);
+    outcome
 }
 
 #[test]

@@ -19,6 +19,7 @@ pub fn slot_is(rt: &impl Abort, alloc: Global, array: Array, i: usize, text: &st
     assert!(rt; i < array.len());
     let mut out = Vec::new(alloc);
     push_slot(&mut out, &array, i).expect(rt, "memory");
+    drop(array);
     out.as_slice() == text.as_bytes()
 }
 
@@ -26,6 +27,7 @@ pub fn slot_is(rt: &impl Abort, alloc: Global, array: Array, i: usize, text: &st
 pub fn slots_are(rt: &impl Abort, alloc: Global, array: Array, texts: &str) -> bool {
     let mut out = Vec::new(alloc);
     push_slots(&mut out, &array).expect(rt, "memory");
+    drop(array);
     out.as_slice() == texts.as_bytes()
 }
 

@@ -1,5 +1,5 @@
 //! Columns that are read from bytes and written again.
-use arrow_array::Array;
+use arrow_array::{Array, Chunk};
 use arrow_columns::equal;
 use arrow_core::{Bytes, Error, Items, Reason, Text};
 use arrow_types::Field;
@@ -10,25 +10,46 @@ use avro_write::{BoxSerializer, new_serializer, serialize};
 use field_words::read_field;
 use std::alloc::Global;
 
-/// The record of one field.
-fn record_of(alloc: Global, field: AvroField) -> Result<Record, Error> {
-    let mut fields = Vec::new(alloc);
-    fields.push(field)?;
+fn record_named(alloc: Global, name: Text, field: AvroField) -> Result<Record, Error> {
+    let fields = vec![in alloc; field]?;
     Ok(Record {
-        name: Text::try_from_str(alloc, "r")?,
+        name,
         namespace: None,
         doc: None,
         fields: Items::from_vec(fields),
     })
 }
 
+/// The record of one field.
+fn record_of(alloc: Global, field: AvroField) -> Result<Record, Error> {
+    match Text::try_from_str(alloc, "r") {
+        Ok(name) => record_named(alloc, name, field),
+        Err(error) => {
+            drop(field);
+            Err(error)
+        }
+    }
+}
+
+/// The record of the field that a word names.
+fn record_of_word(alloc: Global, word: &str) -> Result<Record, Error> {
+    match read_field(alloc, word) {
+        Ok(field) => record_of(alloc, field.avro_field),
+        Err(_) => Err(Error::OutOfMemory),
+    }
+}
+
 /// The rows of one column.
 fn written(serializer: BoxSerializer<'_>, block: &mut Block) -> Result<(), Error> {
-    if serializer.left() != block.number_of_rows {
-        return Err(Error::InvalidArgumentError(Reason::Lengths));
-    }
+    let is_whole = serializer.left() == block.number_of_rows;
     let mut serializers = [serializer];
-    serialize(&mut serializers, block)
+    let written = if is_whole {
+        serialize(&mut serializers, block)
+    } else {
+        Err(Error::InvalidArgumentError(Reason::Lengths))
+    };
+    drop(serializers);
+    written
 }
 
 /// Whether the rows of a block are the slots of the array.
@@ -40,8 +61,27 @@ fn are_rows_of(
     block: &Block,
 ) -> Result<bool, Error> {
     let chunk = deserialize(alloc, block, columns, fields, &[true])?;
-    match chunk.arrays() {
-        [found] => Ok(equal(found, array)),
+    let are_rows = match chunk.arrays() {
+        [found] => equal(found, array),
+        _ => false,
+    };
+    drop(chunk);
+    Ok(are_rows)
+}
+
+/// Writes the column of a chunk into the block, and reads that.
+fn write_again(
+    alloc: Global,
+    chunk: &Chunk,
+    columns: &[Field],
+    fields: &[AvroField],
+    block: &mut Block,
+) -> Result<bool, Error> {
+    match (chunk.arrays(), fields) {
+        ([array], [field]) => {
+            written(new_serializer(alloc, array, &field.schema)?, block)?;
+            are_rows_of(alloc, array, columns, fields, block)
+        }
         _ => Ok(false),
     }
 }
@@ -54,14 +94,22 @@ fn rewrite(
     block: &mut Block,
 ) -> Result<bool, Error> {
     let chunk = deserialize(alloc, block, columns, fields, &[true])?;
-    match (chunk.arrays(), fields) {
-        ([array], [field]) => {
-            let serializer = new_serializer(alloc, array, &field.schema)?;
-            written(serializer, block)?;
-            are_rows_of(alloc, array, columns, fields, block)
-        }
-        _ => Ok(false),
-    }
+    let is_same = write_again(alloc, &chunk, columns, fields, block);
+    drop(chunk);
+    is_same
+}
+
+/// The same under the large form of a column.
+fn rewrite_large(
+    alloc: Global,
+    column: &Field,
+    fields: &[AvroField],
+    block: &mut Block,
+) -> Result<bool, Error> {
+    let large = [enlarge(alloc, column)?];
+    let is_same = rewrite(alloc, &large, fields, block);
+    drop(large);
+    is_same
 }
 
 /// The same under the record's columns, or under their large forms.
@@ -73,10 +121,25 @@ fn rewrite_columns(
 ) -> Result<bool, Error> {
     let columns = infer_schema(alloc, root)?;
     let fields = root.fields.as_slice();
-    match columns.fields.as_slice() {
-        [column] if is_large => rewrite(alloc, &[enlarge(alloc, column)?], fields, block),
+    let is_same = match columns.fields.as_slice() {
+        [column] if is_large => rewrite_large(alloc, column, fields, block),
         columns => rewrite(alloc, columns, fields, block),
-    }
+    };
+    drop(columns);
+    is_same
+}
+
+/// The same of the field that a word names.
+fn rewrite_word(
+    alloc: Global,
+    word: &str,
+    is_large: bool,
+    block: &mut Block,
+) -> Result<bool, Error> {
+    let root = record_of_word(alloc, word)?;
+    let is_same = rewrite_columns(alloc, &root, is_large, block);
+    drop(root);
+    is_same
 }
 
 /// What becomes of so many rows of the field that a word names, where they read back as they were.
@@ -87,15 +150,11 @@ fn rewritten(
     rows: usize,
     bytes: &[u8],
 ) -> Result<Bytes, Error> {
-    let Ok(field) = read_field(alloc, word) else {
-        return Err(Error::OutOfMemory);
-    };
-    let root = record_of(alloc, field.avro_field)?;
     let mut block = Block {
         number_of_rows: rows,
         bytes: Bytes::try_from_slice(alloc, bytes)?,
     };
-    if !rewrite_columns(alloc, &root, is_large, &mut block)? {
+    if !rewrite_word(alloc, word, is_large, &mut block)? {
         return Err(Error::InvalidArgumentError(Reason::Lengths));
     }
     Ok(block.bytes)
