@@ -1,11 +1,18 @@
 #!/bin/sh
-# Measures one of the folders beside this script: arrays, avro, avro_write, block, builders, columns, container, dates, infer, json_tree,
-# json_write, ndjson or rewrite.
-#     bench/run.sh NAME
+# Measures one of the folders beside this script: arrays, avro, avro_write, block, builders, columns, container, count, dates, infer,
+# json_tree, json_write, ndjson or rewrite.
+#     bench/run.sh [--unproved] NAME
 # `main.rattle` of the folder is a Rattle program over the crates that `crates` names (without it, avrocat itself is measured),
 # `plain.rs`, where there is one, the same in plain Rust, and `measure.py` runs both on the same input and prints what it found.
-# All is built in a folder of its own outside of the repository. Measure with nothing else running.
+# All is built in a folder of its own outside of the repository; avrocat is taken from this checkout where `./avrocat --prove` made
+# it. With --unproved the program is built without proof. ndjson measures such a program beside the proved one in any case.
+# Measure with nothing else running.
 set -eu
+unproved=
+if [ "${1-}" = --unproved ]; then
+    unproved=yes
+    shift
+fi
 name=$1
 bench=$(cd "$(dirname "$0")" && pwd)
 work=$(mktemp -d)
@@ -23,8 +30,20 @@ if test -e "$bench/$name/main.rattle"; then
     cp "$bench/$name/main.rattle" "$work/crates/bench/src/main.rt"
     echo "bench: $(cat "$bench/$name/crates")" >> "$work/crates.txt"
 fi
-# The program does nothing on no words; what counts here is that it is built.
-(cd "$work/crates/$program" && rt run < /dev/null > /dev/null) || test -x "$work/crates/$program/out/$program"
+made=$work/crates/$program/out/$program
+mkdir -p "$work/crates/$program/out"
+if [ -n "$unproved" ]; then
+    echo "$program is built without proof"
+    "$bench/../tools/build_unproved.py" "$program" "$made" "$work"
+elif [ "$program" = avrocat ] && proved=$("$bench/../tools/find_program.py" --proved); then
+    cp "$proved" "$made"
+else
+    # The program does nothing on no words; what counts here is that it is built.
+    (cd "$work/crates/$program" && rt run < /dev/null > /dev/null) || test -x "$made"
+fi
+if [ "$name$unproved" = ndjson ]; then
+    "$bench/../tools/build_unproved.py" avrocat "$work/unproved" "$work"
+fi
 if test -e "$bench/$name/Cargo.toml"; then
     # Crates of Debian's packages, without a network.
     mkdir "$work/cargo"

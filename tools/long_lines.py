@@ -4,7 +4,7 @@
 A string of 100 MB alone in its line is Utf8; an object with such a member is a Struct of a Utf8, of which a second
 line repeats the type; and a line of 100 MB of white space is no row.
 
-Use: tools/long_lines.py, from anywhere, once `./avrocat` was built. Its status is 0 where all answers were right.
+Use: tools/long_lines.py, from anywhere, after `./avrocat --prove`. Its status is 0 where all answers were right.
 """
 import os
 import subprocess

@@ -10,7 +10,7 @@ day) are read by the others alone.
 Then files that some reader refuses, with what it says: docs/TRIED.md has what they say of these; here it is printed.
 
 Use: apt-get install python3-avro avro-bin libavro-java default-jdk-headless, then /usr/bin/python3 tools/read_by_others.py, from
-anywhere, once `./avrocat` was built; AVROCAT names another program. Its status is 0 where all was read as it has to be.
+anywhere, after `./avrocat --prove`; AVROCAT names another program. Its status is 0 where all was read as it has to be.
 """
 import datetime
 import io

@@ -1,14 +1,14 @@
 """Turns three Avro files of some 25 MB, in blocks of 64 KiB, into JSON lines: flat events of ten fields, rows of forty fields (all
-of them, and one), and orders with lists of records. Beside the program run a plain Rust program for just these schemas, avro-c's
-avrocat (Debian's avro-bin) and Java's avro (Debian's libavro-java) where they are installed, and Python's avro (Debian's
-python3-avro) on a twentieth of the rows."""
+of them, and one), and orders with lists of records. Beside the program run the same built without proof, a plain Rust program for
+just these schemas, avro-c's avrocat (Debian's avro-bin) and Java's avro (Debian's libavro-java) where they are installed, and
+Python's avro (Debian's python3-avro) on a twentieth of the rows."""
 
 import os
 import subprocess
 
 from timing import PLAIN, compared, least_in_turn, peak, seconds, work
 
-OURS = work + "/crates/avrocat/out/avrocat"
+OURS, UNPROVED = work + "/crates/avrocat/out/avrocat", work + "/unproved"
 AVRO_C = "/usr/bin/avrocat"
 JARS = ["avro", "avro-guava-dependencies", "jackson-core-asl", "jackson-mapper-asl", "slf4j-api", "slf4j-nop"]
 CLASSES = ":".join([work] + ["/usr/share/java/%s.jar" % jar for jar in JARS])
@@ -41,10 +41,13 @@ for kind, rows in [("flat", 400_000), ("forty", 200_000), ("nested", 400_000)]:
     if kind == "forty":
         runs.append(("one field", [OURS, "ndjson", "20"], [PLAIN, kind, "one"]))
     for what, ours, plain in runs:
-        first, second = least_in_turn([ours, plain], given)
-        assert first[1] == second[1]
+        unproved = [[UNPROVED] + ours[1:]] * os.path.exists(UNPROVED)
+        first, second, *third = least_in_turn([ours, plain] + unproved, given)
+        assert all(first[1] == other[1] for other in [second] + third)
         print("%s, %s, %d rows, %d bytes, %d bytes of lines" % (kind, what, rows, size, len(first[1])))
         print("  " + compared(first[0], second[0]) + ", %.0f MB/s, %s" % (size / first[0] / 1e6, peak(ours, given)))
+        for took, _ in third:
+            print("  without proof %.3f s, %.2f times the proved program" % (took, took / first[0]))
     if os.path.exists(AVRO_C):
         print("  avro-c's avrocat %.2f s, of all fields" % seconds([AVRO_C, given])[0])
     if has_java:
