@@ -7,9 +7,9 @@ from formats_model import (
     Word,
     block_of,
     check_fields,
-    decimal_of,
     header_of,
     json_string,
+    plain_number_of,
     table_of,
 )
 from json_model import DIGITS
@@ -193,8 +193,8 @@ def drawn_rows(state, count):
 def run_make(words):
     if len(words) != 3:
         raise Usage()
-    start = decimal_of(words[1], MOST_32)
-    rows = list(drawn_rows(start, decimal_of(words[2], MOST_DRAWN)))
+    start = plain_number_of(words[1], MOST_32)
+    rows = list(drawn_rows(start, plain_number_of(words[2], MOST_DRAWN)))
     encoded = b"".join(encoding(it, slot) for row in rows for (_, it), slot in zip(DRAWN, row))
     ids, true = sum(row[0] for row in rows), sum(row[3] for row in rows)
     lines = [

@@ -300,7 +300,7 @@ def digits_of(word, most, limit):
     return int(word)
 
 
-def decimal_of(word, limit):
+def plain_number_of(word, limit):
     """The number of digits that have no zero before them."""
     number = digits_of(word, len(word), limit)
     if str(number) != word:
