@@ -1,4 +1,4 @@
--- Columns and the fields that they are written under. Private contracts alone cite these.
+-- Columns and the fields that they are written under. Private contracts and the law `decoded_is_serializable` cite these.
 use Rattle.std.specs.Prelude.{List, [], ◌∷◌, map, ℕ, All}
 use Rattle.std.specs.List.{AllZip}
 use Rattle.arrow_types.specs.declared.slot.Slot.{Slot}

@@ -18,7 +18,7 @@ pub record State : Type 0 where
 abbrev pub state : Option (List ℕ) → ℕ → ℕ → Option ℕ → State
 state left faults limit size_left = record { left = left; faults = faults; limit = limit; size_left = size_left }
 
--- cited by private contracts alone: the state of a source, by what it tells, under an allowance
+-- the state of a source, by what it tells, under an allowance
 abbrev pub state_of : {S : Type 0} → (S → Option (List ℕ)) → (S → ℕ) → S → Allowance → State
 state_of left faults source allowed = state (left source) (faults source) allowed.limit allowed.size_left
 

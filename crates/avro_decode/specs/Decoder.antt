@@ -55,8 +55,8 @@ pub record HasTable (p : Projected) (n : ℕ) (bytes : List ℕ) (table : List (
   pub counted : AreCounted n p.fields p.projection bytes
   pub symbols : KeptEnumsFit p.avro_fields p.projection
 
--- cited by private contracts alone: they belong together, and these are empty builders of the kept fields, of which
--- arrays can be made
+-- cited by private contracts and `HoldsBuilders` alone: they belong together, and these are empty builders of the kept
+-- fields, of which arrays can be made
 pub record AreReady (p : Projected) (builders : List MutableArray) : Type 0 where
   pub together : BelongTogether p.fields p.avro_fields p.projection
   pub suits : AllSuit (kept p.avro_fields p.projection) builders

@@ -1,5 +1,5 @@
 -- The encodings of slots with nothing beneath them, by how they lie in memory, and which kinds of arrays hold
--- lists and such slots. Private contracts alone cite these.
+-- lists and such slots. Private contracts and, through `Columns`, the model of `ColumnEncoder` cite these.
 use Rattle.std.specs.Prelude.{ℕ, cond, List, [], ◌∷◌}
 use Rattle.arrow_types.specs.declared.physical.PhysicalType.{PhysicalType}
 use Rattle.arrow_types.specs.declared.physical.PhysicalType.TheVariants as physical

@@ -1,6 +1,6 @@
 -- The encoding and the pairs of unions and records in terms of the lists of members and of fields that code
--- sees. Private contracts and the law of
--- tables cite these; the definitions go by recursion on a schema.
+-- sees; those that public contracts begin with go by recursion on a schema. Private contracts cite these, and so do the model of
+-- `ColumnEncoder` and what the crates above state of whole rows and tables.
 use Rattle.std.specs.Prelude.{◌≡◌, Bool, if◌then◌else◌, pos, cond, List, [], ◌∷◌, ◌++◌, ◌⊎◌, ℕ, map, Option, Some, None}
 use Rattle.std.specs.List.{AllZip}
 use Rattle.arrow_types.specs.declared.slot.Slot.{Slot}

@@ -1,5 +1,5 @@
 -- Which bytes are skipped under a schema: values whose contents nobody reads (Avro 1.11,
--- "Binary Encoding"). Only what tells their lengths has to be looked at.
+-- "Binary Encoding"). Only what tells their lengths has to be looked at, and the byte of a boolean, whichever it is.
 use Rattle.std.specs.Prelude.{◌≡◌, ℕ, zero, suc, ◌+◌, ◌^◌, ◌<◌, ℤ, pos, negsuc, List, [], ◌++◌, length, Option, Some, ◌⊎◌}
 use Rattle.avro_schema.specs.declared.schema.Schema.{Schema, Null, Boolean, Int, Long, Float, Double, Bytes, String, Record, Enum, Array', Map', Union', Fixed, Row_of-Schema, end_of-Schema, more_of-Schema}
 use Rattle.avro_schema.specs.declared.schema.Record.{Record as TheRecord, Record', Row_of-AvroField, end_of-AvroField, more_of-AvroField}

@@ -1,5 +1,6 @@
--- The schemas of lists and structs, in terms of the fields that code sees. Private contracts alone cite these;
--- the definitions themselves go by recursion on a data type, whose fields are a row of that recursion.
+-- The schemas of lists and structs, in terms of the fields that code sees; the definitions themselves go by recursion on a data
+-- type, whose fields are a row of that recursion. Private contracts cite these, and what `avro_canonical` states of the record
+-- that a file is rewritten under.
 use Rattle.std.specs.Prelude.{ℕ, ◌+◌, ◌==◌, List, [], ◌∷◌, length, Bool, not, ◌&&◌, Option, Some}
 use Rattle.std.specs.List.{list_all}
 use Rattle.arrow_types.specs.declared.types.DataType.{DataType, List', LargeList', Struct'}

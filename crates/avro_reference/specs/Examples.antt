@@ -100,7 +100,7 @@ numbers =
 
 abbrev pub flat_kinds : List Example
 flat_kinds =
-    -- a boolean is 0 or 1, and is not looked at where it is skipped
+    -- a boolean is 0 or 1, and any byte where it is skipped, which counts as looked at
     all_kept 2 (Boolean ∷ []) (0x00 ∷ 0x01 ∷ []) (Ok (row_of (slot.Boolean false ∷ []) 1 0 0 ∷ row_of (slot.Boolean true ∷ []) 1 0 0 ∷ []))
     ∷ all_kept 1 (Boolean ∷ []) (0x02 ∷ []) (Err Bad)
     ∷ first_skipped 1 Boolean (0x02 ∷ 0x02 ∷ []) (Ok (row_of (whole 1 ∷ []) 1 1 0 ∷ []))

@@ -1,5 +1,5 @@
--- The distinct types of each name. Contracts of private functions, of `Columns` and of what lends it cite this file: nobody has to
--- read it to believe another public contract.
+-- The distinct types of each name. Contracts of private functions, of `Columns` and of what lends it cite this file, and, through
+-- `Seen`, what contracts see of a `RowTypes` and the law that it suffices: nobody has to read it to believe another public contract.
 use Rattle.std.specs.Prelude.{ℕ, List, [], ◌∷◌, map, if◌then◌else◌}
 use Rattle.std.specs.Str.{bytes_eq}
 use Rattle.arrow_types.specs.declared.types.DataType.{DataType}

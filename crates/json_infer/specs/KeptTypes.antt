@@ -1,5 +1,5 @@
--- What is kept of types of which Null adds nothing. Contracts of private functions and what contracts see of a `RowTypes` cite
--- this file: nobody has to read it to believe a public contract.
+-- What is kept of types of which Null adds nothing. Contracts of private functions, here and in `ndjson_infer`, alone cite this
+-- file: nobody has to read it to believe a public contract.
 use Rattle.std.specs.Prelude.{if◌then◌else◌}
 use Rattle.arrow_types.specs.declared.types.DataType.{DataType}
 use Rattle.arrow_types.specs.declared.types.DataType as data_type

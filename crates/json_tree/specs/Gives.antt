@@ -1,5 +1,5 @@
--- What a call gave is what reading a JSON text (RFC 8259, section 2) gives, unless memory ran out. Contracts of private functions alone cite
--- this file.
+-- What a call gave is what reading a JSON text (RFC 8259, section 2) gives, unless memory ran out. `parse` is told without it;
+-- contracts of what reads the parts of a text, here and in crates above, cite it.
 use Rattle.std.specs.Prelude.{◌≡◌, ℕ, List, Result, Ok, Err}
 use Rattle.json_tree.specs.Reading.{Outcome, found, wrong, deep}
 use Rattle.json_tree.specs.declared.value.JsonFault.{JsonFault}

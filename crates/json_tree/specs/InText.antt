@@ -1,5 +1,5 @@
--- Bytes that end a text of UTF-8 (RFC 8259, section 8.1). Contracts of private functions and the invariant
--- of a private type alone cite this file.
+-- Bytes that end a text of UTF-8 (RFC 8259, section 8.1). Contracts of private functions and the
+-- model of `Reader` alone cite this file.
 use Rattle.std.specs.Prelude.{ℕ, List, ◌++◌}
 use Rattle.std.specs.Str.{IsUtf8}
 

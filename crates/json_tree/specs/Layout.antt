@@ -1,5 +1,5 @@
--- How an object's members are put into memory, each by its key (RFC 8259, section 4). Contracts of private functions and the
--- invariant of a private type alone cite this file.
+-- How an object's members are put into memory, each by its key (RFC 8259, section 4), and which keys are distinct. `parse` is
+-- told without it; what compares names and reads an object's members without a tree is told by it.
 use Rattle.std.specs.Prelude.{◌≡◌, ℕ, suc, List, [], ◌∷◌, Bool, true, false, not, ◌||◌, ◌&&◌, Option, Some, None, cond}
 use Rattle.std.specs.Str.{bytes_eq}
 use Rattle.std.specs.BTreeMap.{BTreeMap, get_by_text}

@@ -1,5 +1,6 @@
 -- Reading a JSON text (RFC 8259, sections 2 to 7) from left to right: what is found and what is left, or the first fault.
--- Contracts of private functions alone cite this file, and `proofs/` shows that it finds just what the grammar relates to the bytes.
+-- `parse` is told without it; contracts of what reads the parts of a text, here and in crates above, cite it. `proofs/` shows that
+-- it finds just what the grammar relates to the bytes.
 use Rattle.std.specs.Prelude.{ℕ, zero, suc, List, [], ◌∷◌, ◌++◌, length, Bool, true, false, cond, ◌==◌, Option, Some, None}
 use Rattle.std.specs.Char.{encode_utf8}
 use Rattle.json_tree.specs.Tree.{Json, null, boolean, number, string, array, object}

@@ -1,5 +1,6 @@
 -- Which plans are those of a data type and a schema: what stands for a value is then the canonical encoding of the slot that the
--- value means. Contracts of private functions alone cite this file, but for `IsLinePlanOf`.
+-- value means. The contracts of a `LinePlan` cite `IsLinePlanOf`, which stands on the others; contracts of private functions cite
+-- those too.
 use Rattle.std.specs.Prelude.{◌≡◌, ◌⊎◌, ◌<◌, ℕ, Bool, true, List, [], ◌∷◌, length, map, Option, None}
 use Rattle.arrow_array.specs.Slots.{is_held}
 use Rattle.arrow_types.specs.declared.slot.Slot.{Slot}

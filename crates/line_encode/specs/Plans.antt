@@ -1,4 +1,5 @@
--- What is appended of a value by a plan, and what was read where it was. Contracts of private functions alone cite this file.
+-- What is appended of a value by a plan, and what was read where it was. Contracts of private functions cite
+-- this file, and `IsLinePlanOf`, by which the contracts of a `LinePlan` say which plan it is.
 use Rattle.std.specs.Prelude.{◌≡◌, ◌⊎◌, ◌+◌, ◌<◌, ◌^◌, ℕ, zero, suc, ℤ, pos, negsuc, Bool, true, false, cond, List, [], ◌∷◌, ◌++◌, length, get_or, Option, Some, None}
 use Rattle.std.specs.List.{AllZip}
 use Rattle.std.specs.Str.{IsUtf8}

@@ -1,4 +1,5 @@
--- Cited by private contracts alone: what is taken for one line.
+-- What is taken for one line. Of what is here only state_of has to be read to believe a public contract; private contracts alone
+-- cite the rest.
 use Rattle.std.specs.Prelude.{◌≡◌, ℕ, ◌<◌, List, [], ◌∷◌, ◌++◌, length, Bool, true, cond, Option, Some, All, IsUtf8}
 use Rattle.std.specs.Io.KnownBytes.{IsAtEnd}
 use Rattle.arrow_base.specs.Outside.{RoseOrFull}
