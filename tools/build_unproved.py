@@ -111,7 +111,11 @@ def build(crate, program, top, say):
         raise NotBuilt("there is no rt on the path\n")
     with tempfile.TemporaryDirectory(prefix="unproved-") as room:
         say("1 of 3: rt try translates the sources")
-        words = translate(crate, top, kit, room)
+        try:
+            words = translate(crate, top, kit, room)
+        except OSError:
+            # The kit has other folders than a kit of links can be made of.
+            raise NotKept from None
         say("2 of 3: the kit's clang compiles them")
         must_run([os.path.join(kit, CLANG), *words], room)
         say("3 of 3: the kit's rattle-link links the program")

@@ -60,6 +60,9 @@ def checksum(top):
             for at, folders, files in os.walk(os.path.join(build.folder_of(name, top), part)):
                 folders.sort()
                 for path in sorted(os.path.join(at, it) for it in files):
+                    # An editor's lock file is a link to nothing.
+                    if not os.path.isfile(path):
+                        continue
                     with open(path, "rb") as file:
                         text = file.read()
                     found.update(f"{os.path.relpath(path, top)}\0{len(text)}\0".encode() + text)
@@ -136,7 +139,13 @@ def keep(program, kind, sources, kit, place):
 @contextlib.contextmanager
 def alone(place):
     """One at a time; a second one waits, and then finds what the first one built."""
-    with open(os.path.join(place, "lock"), "w") as lock:
+    try:
+        lock = open(os.path.join(place, "lock"), "w")
+    except OSError:
+        # The file is another user's: two may build at once then, and the later one's program stays.
+        yield
+        return
+    with lock:
         try:
             fcntl.flock(lock, fcntl.LOCK_EX | fcntl.LOCK_NB)
         except BlockingIOError:
