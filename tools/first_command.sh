@@ -23,5 +23,7 @@ head -n 1 "$rows" | grep -qxFf - README.md || { echo "README.md shows another ro
 tools/check_version.sh
 tools/check_documents.py
 tools/guide.py --check
+tools/check_readmes.py
 tools/check_citations.py
 tools/reading_lists.py --check
+tools/try_edits.py --check

@@ -1,9 +1,11 @@
 #!/usr/bin/env python3
-"""Writes the code blocks of docs/GUIDE.md anew, each from the file that the comment above it names.
+"""Writes the code blocks of docs/GUIDE.md and of crates/*/README.md anew, each from the file that the comment above it
+names.
 
 A comment `<!-- FILE -->` stands above the whole file, `<!-- FILE without contracts -->` above the file without
 the lines that are for the prover alone, and `<!-- FILE contracts -->` above its functions with clauses, whose
-bodies are left out.
+bodies are left out. `<!-- FILE fn NAME, NAME -->` stands above these functions of the file, in this order, after what
+they need of its imports; it, too, may end in `without contracts`. In the README of a crate no other Rust code may stand.
 
 Use: tools/guide.py; or tools/guide.py --check, which writes nothing, and fails where a block differs.
 """
@@ -12,14 +14,18 @@ import re
 import sys
 
 ROOT = pathlib.Path(__file__).resolve().parent.parent
-PAGE = ROOT / "docs" / "GUIDE.md"
+GUIDE = ROOT / "docs" / "GUIDE.md"
+READMES = sorted(ROOT.glob("crates/*/README.md"))
 BLOCK = re.compile(
-    r"(<!-- (\S+)( without contracts| contracts|) -->\n```rust\n)(.*?)(```\n)", re.DOTALL
+    r"(<!-- (\S+)(?: fn (\w+(?:, \w+)*))?( without contracts| contracts|) -->\n```rust\n)(.*?)(```\n)", re.DOTALL
 )
 GHOST_USE = re.compile(r"^ghost use [^;]*;\n", re.MULTILINE)
+IMPORT = re.compile(r"^use ([^;{]*)(?:\{([^}]*)\})?;\n", re.MULTILINE)
+# A function from the comments and attributes above it on: its one line, or the lines up to the brace that closes it.
+FUNCTION = r"^(?:(?:///|#\[)[^\n]*\n)*(?:pub(?:\(crate\))? )?fn {}\b(?:[^\n]*\}}\n|.*?^\}}\n)"
 # A function with clauses: its signature, its clauses, and the brace that opens its body, alone in a line.
 CONTRACT = re.compile(
-    r"^(?P<signature>(?:pub )?fn [^{}]*?)\n(?P<clauses>    (?:requires|ensures)\b.*?)\n\{\n",
+    r"^(?P<signature>(?:pub(?:\(crate\))? )?fn [^{}]*?)\n(?P<clauses>    (?:requires|ensures)\b.*?)\n\{\n",
     re.DOTALL | re.MULTILINE,
 )
 
@@ -38,15 +44,54 @@ def contracts(text):
 PARTS = {"": lambda text: text, " without contracts": without_contracts, " contracts": contracts}
 
 
+def imports_for(code, text):
+    """What code needs of a file's imports: of those in braces the names that it uses."""
+    words = set(re.findall(r"\w+", code))
+    for path, names in IMPORT.findall(text):
+        used = [name for name in re.split(r",\s*", names.strip(" \n,")) if name.split(" as ")[-1] in words]
+        if len(used) > 1:
+            yield f"use {path}{{{', '.join(used)}}};\n"
+        elif used or not names and path.rsplit("::", 1)[-1] in words:
+            yield f"use {path}{''.join(used)};\n"
+
+
+def functions(text, names):
+    """The functions of these names, after what they need of the file's imports."""
+    code = []
+    for name in names.split(", "):
+        function = re.search(FUNCTION.format(name), text, re.DOTALL | re.MULTILINE)
+        if function is None:
+            raise LookupError(f"no function {name}")
+        code.append(function[0])
+    return "\n".join(filter(None, ["".join(imports_for("".join(code), text)), *code]))
+
+
 def block_of_file(match):
-    opening, name, part, _, closing = match.groups()
-    return opening + PARTS[part]((ROOT / name).read_text(encoding="utf-8")) + closing
+    opening, name, names, part, _, closing = match.groups()
+    try:
+        text = PARTS[part]((ROOT / name).read_text(encoding="utf-8"))
+        return opening + (functions(text, names) if names else text) + closing
+    except (FileNotFoundError, LookupError) as fault:
+        sys.exit(f"there is no file {name}" if isinstance(fault, FileNotFoundError) else f"{name} has {fault}")
 
 
-page = PAGE.read_text(encoding="utf-8")
-page_of_files = BLOCK.sub(block_of_file, page)
-if "--check" in sys.argv[1:]:
-    if page != page_of_files:
-        sys.exit("docs/GUIDE.md differs from the files that it shows: run tools/guide.py")
-else:
-    PAGE.write_text(page_of_files, encoding="utf-8")
+def main():
+    is_check = "--check" in sys.argv[1:]
+    wrong = []
+    for path in [GUIDE, *READMES]:
+        name = path.relative_to(ROOT)
+        page = path.read_text(encoding="utf-8")
+        if path != GUIDE and page.count("```rust\n") != len(BLOCK.findall(page)):
+            wrong.append(f"{name} has Rust code under no comment that names its file")
+        page_of_files = BLOCK.sub(block_of_file, page)
+        if page == page_of_files:
+            continue
+        if is_check:
+            wrong.append(f"{name} differs from the files that it shows: run tools/guide.py")
+        else:
+            path.write_text(page_of_files, encoding="utf-8")
+    if wrong:
+        sys.exit("\n".join(wrong))
+
+
+main()
