@@ -3,9 +3,12 @@
 
 Use: tools/try_edits.py [NAME ..], from anywhere; with no name it tries those of all crates. An edit
 changes a line of its crate, and rt has to refuse what becomes of it. The crates are built first.
-It prints what rt says of each edit. Its status is 0 where all are refused.
+It prints what rt says of each edit. Its status is 0 where all are refused. With --check alone it
+tries none, and says which edits, of those in must-fail/ too, name a line that doesn't stand once in
+its file; the status is 0 where there is none.
 """
 import concurrent.futures
+import glob
 import os
 import shutil
 import subprocess
@@ -38,9 +41,40 @@ def try_edits(name):
     return run.returncode == 0
 
 
+def lines_lost(path):
+    """The lines that an edit wants to change and that don't stand once in their files."""
+    texts, lost = {}, []
+    with open(path, encoding="utf-8") as edit:
+        for line in edit:
+            kind, _, text = line.rstrip("\n").partition(": ")
+            if kind == "file":
+                file = text
+                if file not in texts:
+                    with open(os.path.join(os.path.dirname(path), "..", file), encoding="utf-8") as code:
+                        texts[file] = code.read()
+            elif kind == "old":
+                old = text
+                lost += [old] if texts[file].count(old) != 1 else []
+            elif kind == "new":
+                texts[file] = texts[file].replace(old, text, 1)
+    return lost
+
+
+def check(names):
+    status = 0
+    for name in names:
+        for path in sorted(it for folder in build.EDITS for it in glob.glob(os.path.join(build.folder_of(name), folder, "*.edit"))):
+            for line in lines_lost(path):
+                print(f"{os.path.relpath(path, build.TOP)}: this doesn't stand once in its file: {line.strip()}")
+                status = 1
+    return status
+
+
 def main():
     uses, _ = build.read_crates()
     named = sys.argv[1:]
+    if named == ["--check"]:
+        sys.exit(check(uses))
     if not set(named) <= set(uses):
         sys.exit("use: tools/try_edits.py [NAME ..], with names of crates.txt")
     lacking = [it for it in named if not os.path.isdir(edits_of(it))]
