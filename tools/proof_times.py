@@ -3,6 +3,11 @@
 
     tools/proof_times.py watch FILE    beside `rt ci`, until it is interrupted: adds what it sees to FILE, as lines of JSON
     tools/proof_times.py table FILE    prints that as rows of a table, and the sums
+    tools/proof_times.py write FILE    writes the table of docs/BENCHMARKS.md anew, and prints the sums and which crates
+                                       FILE doesn't have; what FILE doesn't have stays
+    tools/proof_times.py kinds FILE    prints where the minutes go: sums by the kind of module, and the functions whose
+                                       lifetimes (`Lts`, where a derived `Drop` stands inline at each end of a scope)
+                                       took three seconds or more, the longest first
 
 `watch` looks every two seconds at each prover, and at the processor time of it and of those that it started. Where a
 prover keeps each checked file in a folder under /tmp, which it names after its process, the processor time between two
@@ -11,7 +16,8 @@ for a prover with one job. What comes before the first file, which is reading th
 
 The table's columns are minutes of the proof, its longest function in seconds, minutes of the tests, the longest test,
 and minutes of the edits. Of a crate that was proved more than once the longest proof counts, and so of its tests; of
-edits it is the sum.
+edits it is the sum. In BENCHMARKS the rows stand in the order of crates.txt, names are without their modules, functions
+and tests that took less than 10 seconds aren't named, and in place of the minutes of edits stands how many there are.
 """
 import bisect
 import collections
@@ -23,6 +29,12 @@ import sys
 import time
 
 TICKS = os.sysconf("SC_CLK_TCK")
+ROOT = os.path.dirname(os.path.dirname(os.path.abspath(__file__)))
+DOCUMENT = os.path.join(ROOT, "docs", "BENCHMARKS.md")
+TABLE = re.compile(r"^(\| crate \| proof \|.*\n\|[-|]+\n)((?:\|.*\n)+)", re.M)
+# How names of files begin that drop values of another crate's types, or of one type: their crate.
+TYPES = re.compile(r"\+(\w+)$|(\w+)\+\+")
+LEAST_SECONDS = 10
 
 
 def fields_of(pid):
@@ -96,6 +108,14 @@ def function_of(file):
     return ".".join(parts)
 
 
+def kind_of(file):
+    """The kind of module that a file is: `Lts`, `Proof`, `Tie`, .., or what drops values of a type."""
+    if "Destruct" in file or "-types-drop" in file:
+        return "drops of types"
+    parts = re.sub(r"\.oantt$", "", file).split(".")
+    return parts[-2 if parts[-1] == "decls" and parts[1:] else -1].split("-")[0]
+
+
 def cpu_at(samples, moment):
     """The processor time at a moment, between two samples in proportion."""
     after = bisect.bisect_left(samples, (moment, 0))
@@ -105,7 +125,8 @@ def cpu_at(samples, moment):
     return low + (high - low) * (moment - start) / (end - start)
 
 
-def table(path):
+def read(path):
+    """Each prover that was seen: its line, the processor time that it took, and its files with the seconds of each."""
     provers, samples, files = {}, collections.defaultdict(list), collections.defaultdict(dict)
     with open(path) as lines:
         for line in map(json.loads, lines):
@@ -115,37 +136,121 @@ def table(path):
                 files[line["prover"]][line["file"]] = line["at"]
             else:
                 samples[line["prover"]].append((line["at"], line["cpu"]))
-    crates = collections.defaultdict(lambda: {"proof": (0, None), "tests": (0, None), "edits": (0, None)})
     for prover, line in provers.items():
         if not samples[prover]:
             continue
-        seconds, before = collections.Counter(), None
+        charged, before = [], None
         for file, at in sorted(files[prover].items(), key=lambda pair: pair[1]):
             now = cpu_at(samples[prover], at)
-            seconds[function_of(file)] += 0 if before is None else now - before
+            charged.append((file, 0 if before is None else now - before))
             before = now
-        total = max(cpu for _, cpu in samples[prover])
-        kinds, kind = crates[line["crate"]], line["kind"]
+        yield line, max(cpu for _, cpu in samples[prover]), charged
+
+
+def kinds(path):
+    sums, lifetimes = collections.Counter(), collections.Counter()
+    for line, _, charged in read(path):
+        for file, seconds in charged:
+            sums[kind_of(file)] += seconds / 60
+            if kind_of(file) == "Lts":
+                lifetimes[line["crate"], line["kind"], function_of(file)] += seconds
+    for kind, minutes in sums.most_common(20):
+        print(f"{minutes:6.1f} minutes {kind}")
+    for (crate, of, function), seconds in lifetimes.most_common():
+        if seconds >= 3:
+            print(f"{seconds:6.0f} s {crate} ({of}) {function}")
+
+
+def measured(path):
+    """Crate -> seconds of its proof, its tests and its edits, each with the longest function and its seconds."""
+    crates = collections.defaultdict(lambda: {"proof": (0, None), "tests": (0, None), "edits": (0, None)})
+    for line, total, charged in read(path):
+        seconds = collections.Counter()
+        for file, of_file in charged:
+            seconds[function_of(file)] += of_file
+        parts, kind = crates[line["crate"]], line["kind"]
         if kind == "edits":
-            kinds[kind] = (kinds[kind][0] + total, None)
-        elif total > kinds[kind][0]:
-            kinds[kind] = (total, max(seconds.items(), key=lambda pair: pair[1], default=None))
+            parts[kind] = (parts[kind][0] + total, None)
+        elif total > parts[kind][0]:
+            parts[kind] = (total, max(seconds.items(), key=lambda pair: pair[1], default=None))
+    return crates
+
+
+def print_sums(crates):
     sums = collections.Counter()
-    for crate, kinds in sorted(crates.items()):
-        cells = []
-        for kind, (total, longest) in kinds.items():
+    for parts in crates.values():
+        for kind, (total, _) in parts.items():
             sums[kind] += total / 60
+    print(", ".join(f"{kind} {minutes:.0f}" for kind, minutes in sums.items()), f"in all {sums.total():.0f} minutes")
+
+
+def table(path):
+    crates = measured(path)
+    for crate, parts in sorted(crates.items()):
+        cells = []
+        for kind, (total, longest) in parts.items():
             cells.append(f"{total / 60:.1f}" if total else "")
             if kind != "edits":
                 cells.append(f"`{longest[0]}`, {longest[1]:.0f} s" if longest else "")
         print(f"| `{crate}` | {' | '.join(cells)} |")
-    print(", ".join(f"{kind} {minutes:.0f}" for kind, minutes in sums.items()), f"in all {sums.total():.0f} minutes")
+    print_sums(crates)
+
+
+def longest_shown(longest, crates):
+    if not longest or longest[1] < LEAST_SECONDS:
+        return ""
+    name, seconds = longest
+    types = TYPES.match(name)
+    if types and (types[2] or types[1] in crates):
+        shown = f"the types of `{types[2] or types[1]}`"
+    elif "+" in name:
+        shown = f"the cycle `{name.rsplit('+', 1)[1]}`"
+    else:
+        shown = f"`{name.rsplit('.', 1)[-1]}`"
+    return f"{shown}, {seconds:.0f} s"
+
+
+def times_shown(parts, old, crates):
+    """The four cells of a row on a crate's proof and its tests; what wasn't measured stays."""
+    cells = []
+    for place, kind in ((0, "proof"), (2, "tests")):
+        total, longest = parts[kind]
+        cells += [f"{total / 60:.1f}", longest_shown(longest, crates)] if total else old[place : place + 2]
+    return cells
+
+
+def count_of_edits(crate, folder):
+    return str(len(glob.glob(os.path.join(ROOT, "crates", crate, folder, "*.edit"))) or "")
+
+
+def write(path):
+    crates = measured(path)
+    with open(os.path.join(ROOT, "crates.txt")) as lines:
+        names = [line.split(":")[0] for line in lines if ":" in line and not line.startswith("#")]
+    with open(DOCUMENT, encoding="utf-8") as file:
+        text = file.read()
+    old = {}
+    for row in TABLE.search(text)[2].splitlines():
+        cells = [cell.strip() for cell in row[1:-1].split("|")]
+        old[cells[0].strip("`")] = cells[1:5]
+    rows = []
+    for name in names:
+        cells = old.get(name, [""] * 4)
+        if name in crates:
+            cells = times_shown(crates[name], cells, names)
+        cells = [f"`{name}`", *cells, count_of_edits(name, "must-fail"), count_of_edits(name, "edits")]
+        rows.append("|" + "".join(f" {cell} |" if cell else " |" for cell in cells) + "\n")
+    with open(DOCUMENT, "w", encoding="utf-8") as file:
+        file.write(TABLE.sub(lambda found: found[1] + "".join(rows), text))
+    print_sums(crates)
+    print("not measured:", ", ".join(name for name in names if name not in crates) or "none")
 
 
 if __name__ == "__main__":
-    if len(sys.argv) != 3 or sys.argv[1] not in ("watch", "table"):
+    calls = {"watch": watch, "table": table, "write": write, "kinds": kinds}
+    if len(sys.argv) != 3 or sys.argv[1] not in calls:
         sys.exit(__doc__)
     try:
-        {"watch": watch, "table": table}[sys.argv[1]](sys.argv[2])
+        calls[sys.argv[1]](sys.argv[2])
     except KeyboardInterrupt:
         pass
