@@ -2,7 +2,7 @@
 _avrocat() {
     COMPREPLY=()
     if [ "$COMP_CWORD" -eq 1 ]; then
-        local commands="fields schema count ndjson rewrite infer avro block block-large make help version --help --version"
+        local commands="fields schema count ndjson rewrite infer avro block block-large make help version --help -h --version"
         mapfile -t COMPREPLY < <(compgen -W "$commands" -- "${COMP_WORDS[1]}")
     fi
 }

@@ -11,5 +11,5 @@ complete -c avrocat -n __fish_use_subcommand -f -a block-large -d 'the columns o
 complete -c avrocat -n __fish_use_subcommand -f -a make -d 'what drawn rows add up to'
 complete -c avrocat -n __fish_use_subcommand -f -a help -d 'what each command takes and gives'
 complete -c avrocat -n __fish_use_subcommand -f -a version -d 'name and version'
-complete -c avrocat -n __fish_use_subcommand -f -l help -d 'what each command takes and gives'
+complete -c avrocat -n __fish_use_subcommand -f -s h -l help -d 'what each command takes and gives'
 complete -c avrocat -n __fish_use_subcommand -f -l version -d 'name and version'

@@ -10,6 +10,9 @@ begin with `$ ` are commands, all others what they print. A line `...` of the ou
 
 Code in Markdown under a comment `<!-- FILE, without its contract -->` has to be lines of that file, in its order.
 
+The words of the commands that `avrocat help` prints have to be those that FORMATS, the manual page and the completions have
+(command_words.py).
+
 A document's commands run one after another in a folder of its own, as they stand: the folder has the files of examples/, once by
 their names and once in examples/, and the program as `./avrocat` and as `avrocat` on the path.
 """
@@ -22,6 +25,8 @@ import subprocess
 import sys
 import tempfile
 import typing
+
+import command_words
 
 TOP = os.path.dirname(os.path.dirname(os.path.abspath(__file__)))
 DOCUMENTS = ["README.md", "docs/FORMATS.md", "docs/GUIDE.md", "docs/avrocat.1"]
@@ -144,10 +149,13 @@ def main():
     if missing:
         sys.exit("there is no " + ", ".join(missing))
     # What `./avrocat` says when it builds the program isn't shown in the documents.
-    first = subprocess.run([program, "version"], stdin=subprocess.DEVNULL, capture_output=True)
+    first = subprocess.run([program, "help"], stdin=subprocess.DEVNULL, capture_output=True)
     if first.returncode != 0:
         sys.exit(f"{program} doesn't run: {first.stderr.decode(errors='replace').strip()}")
-    total = total_wrong = 0
+    wrong_words = command_words.differences(first.stdout.decode())
+    for complaint in wrong_words:
+        print(complaint)
+    total, total_wrong = 0, len(wrong_words)
     for document in DOCUMENTS:
         examples, wrong = check(document, program)
         print(f"{document}: {examples} examples, {wrong} differ")
