@@ -95,9 +95,9 @@ fn named(rt: &impl Abort, alloc: Global, word: &str) -> AvroSchema {
 }
 
 /// Whether this is what is printed for a type.
-fn prints(rt: &impl Abort, alloc: Global, schema: &AvroSchema, word: &str) -> bool {
+fn prints(rt: &impl Abort, alloc: Global, schema: AvroSchema, word: &str) -> bool {
     let mut text = Vec::new(alloc);
-    push_type(&mut text, schema).expect(rt, "memory");
+    push_type(&mut text, &schema).expect(rt, "memory");
     text.as_slice() == word.as_bytes()
 }
 
@@ -140,14 +140,14 @@ fn a_type_is_printed_as_the_word_that_names_it(rt: HostRuntime) {
         "<A,B>!",
     ] {
         let schema = named(&rt, rt.alloc(), word);
-        assert!(rt; prints(&rt, rt.alloc(), &schema, word), "{word}");
+        assert!(rt; prints(&rt, rt.alloc(), schema, word), "{word}");
     }
 }
 
 #[test]
 fn numbers_are_printed_without_zeros_before_them(rt: HostRuntime) {
     let schema = named(&rt, rt.alloc(), "decimal(0009,02,004)");
-    assert!(rt; prints(&rt, rt.alloc(), &schema, "decimal(9,2,4)"));
+    assert!(rt; prints(&rt, rt.alloc(), schema, "decimal(9,2,4)"));
 }
 
 fn text(rt: &impl Abort, alloc: Global, value: &str) -> Text {
@@ -212,29 +212,29 @@ fn union_of(rt: &impl Abort, alloc: Global, first: AvroSchema, second: AvroSchem
 fn names_of_types_and_docs_are_left_out(rt: HostRuntime) {
     let alloc = rt.alloc();
     let symbols = enum_of(&rt, alloc, &["A", "B"]);
-    assert!(rt; prints(&rt, alloc, &symbols, "<A,B>"));
+    assert!(rt; prints(&rt, alloc, symbols, "<A,B>"));
     let record = record_of(&rt, alloc, "x-1", AvroSchema::Long(None));
-    assert!(rt; prints(&rt, alloc, &record, "{x-1=long}"));
+    assert!(rt; prints(&rt, alloc, record, "{x-1=long}"));
     let duration = fixed_of(&rt, alloc, 12, Some(FixedLogical::Duration));
-    assert!(rt; prints(&rt, alloc, &duration, "duration"));
+    assert!(rt; prints(&rt, alloc, duration, "duration"));
 }
 
 #[test]
 fn what_no_word_says_is_a_dash(rt: HostRuntime) {
     let alloc = rt.alloc();
     let value = Box::new(alloc, AvroSchema::Int(None)).expect(&rt, "memory");
-    assert!(rt; prints(&rt, alloc, &AvroSchema::Map(value), "-"));
-    assert!(rt; prints(&rt, alloc, &enum_of(&rt, alloc, &[]), "-"));
-    assert!(rt; prints(&rt, alloc, &enum_of(&rt, alloc, &["A", "a b"]), "-"));
+    assert!(rt; prints(&rt, alloc, AvroSchema::Map(value), "-"));
+    assert!(rt; prints(&rt, alloc, enum_of(&rt, alloc, &[]), "-"));
+    assert!(rt; prints(&rt, alloc, enum_of(&rt, alloc, &["A", "a b"]), "-"));
     let unnamed = record_of(&rt, alloc, "", AvroSchema::Null);
-    assert!(rt; prints(&rt, alloc, &unnamed, "-"));
+    assert!(rt; prints(&rt, alloc, unnamed, "-"));
     let other_letters = record_of(&rt, alloc, "\u{e9}", AvroSchema::Null);
-    assert!(rt; prints(&rt, alloc, &other_letters, "-"));
+    assert!(rt; prints(&rt, alloc, other_letters, "-"));
     let no_null = union_of(&rt, alloc, AvroSchema::Int(None), AvroSchema::Float);
-    assert!(rt; prints(&rt, alloc, &no_null, "-"));
+    assert!(rt; prints(&rt, alloc, no_null, "-"));
     let inner = union_of(&rt, alloc, AvroSchema::Null, AvroSchema::Float);
     let in_a_union = union_of(&rt, alloc, AvroSchema::Null, inner);
-    assert!(rt; prints(&rt, alloc, &in_a_union, "-"));
+    assert!(rt; prints(&rt, alloc, in_a_union, "-"));
 }
 
 #[test]
@@ -242,24 +242,28 @@ fn numbers_that_no_word_says_are_a_dash(rt: HostRuntime) {
     let alloc = rt.alloc();
     for logical in [(0, 0), (3, 4), (2_147_483_648, 0)] {
         let decimal = BytesLogical::Decimal(logical.0, logical.1);
-        assert!(rt; prints(&rt, alloc, &AvroSchema::Bytes(Some(decimal)), "-"));
+        assert!(rt; prints(&rt, alloc, AvroSchema::Bytes(Some(decimal)), "-"));
     }
-    assert!(rt; prints(&rt, alloc, &fixed_of(&rt, alloc, 2_147_483_648, None), "-"));
+    assert!(rt; prints(&rt, alloc, fixed_of(&rt, alloc, 2_147_483_648, None), "-"));
     let short = fixed_of(&rt, alloc, 11, Some(FixedLogical::Duration));
-    assert!(rt; prints(&rt, alloc, &short, "-"));
+    assert!(rt; prints(&rt, alloc, short, "-"));
+}
+
+/// So many lists, each in the other, of nulls.
+fn nested_lists(rt: &impl Abort, alloc: Global, lists: usize) -> AvroSchema {
+    let mut schema = AvroSchema::Null;
+    for _ in 0..lists {
+        schema = AvroSchema::Array(Box::new(alloc, schema).expect(rt, "memory"));
+    }
+    schema
 }
 
 #[test]
 fn types_are_printed_that_nest_at_most_64_deep(rt: HostRuntime) {
     let alloc = rt.alloc();
-    let mut schema = AvroSchema::Null;
-    for _ in 0..63 {
-        schema = AvroSchema::Array(Box::new(alloc, schema).expect(&rt, "memory"));
-    }
     let opened = "[".repeat(alloc, 63).expect(&rt, "memory");
     let closed = "]".repeat(alloc, 63).expect(&rt, "memory");
     let word = format!(in alloc; "{opened}null{closed}").expect(&rt, "memory");
-    assert!(rt; prints(&rt, alloc, &schema, word.as_str()));
-    let deeper = AvroSchema::Array(Box::new(alloc, schema).expect(&rt, "memory"));
-    assert!(rt; prints(&rt, alloc, &deeper, "-"));
+    assert!(rt; prints(&rt, alloc, nested_lists(&rt, alloc, 63), word.as_str()));
+    assert!(rt; prints(&rt, alloc, nested_lists(&rt, alloc, 64), "-"));
 }
