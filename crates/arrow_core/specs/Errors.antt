@@ -1,7 +1,7 @@
 -- The exit status of each error, the names of errors and reasons, and out of memory as the one error.
 use Rattle.std.specs.Prelude.{◌≡◌, ℕ, List, Result, IfErr, codes}
 use Rattle.arrow_core.specs.declared.error.Reason.{Reason}
-use Rattle.arrow_core.specs.declared.error.Reason.TheVariants.{Lengths, FieldType, ArrayParts, NullUnderRequired, Interval, DuplicateName, DateRange, ZoneOffset, KeepNumber, NothingKept, NoField, NotCarried, Float, Codec, RootNotRecord, TypeReference, MapOrUnion, NoAvroType, NoJsonText, NoJsonReading, SerializerPair, NotAnArray, TextTimestamp, Rows, BlockBytes, Number, Json, SchemaText, Magic, Header, Container, Marker, Utf8Line, EmptyInput, OuterNotArray, FirstNotObject, NotAnObject, UnknownKey, MissingKey, NegativeSize}
+use Rattle.arrow_core.specs.declared.error.Reason.TheVariants.{Lengths, FieldType, ArrayParts, NullUnderRequired, Interval, DuplicateName, DateRange, ZoneOffset, KeepNumber, NothingKept, NoField, NotCarried, Float, Codec, RootNotRecord, TypeReference, MapOrUnion, NoAvroType, NoJsonText, NoJsonReading, SerializerPair, NotAnArray, TextTimestamp, Rows, BlockBytes, Number, Json, SchemaText, Magic, Header, Container, Marker, Utf8Line, EmptyInput, OuterNotArray, FirstNotObject, NotAnObject, UnknownKey, MissingKey, NegativeSize, RecordDiffers, TestField, TestType, JsonRow, Unresolved, Utf8Value}
 use Rattle.arrow_core.specs.declared.error.Error.{Error}
 use Rattle.arrow_core.specs.declared.error.Error.TheVariants.{InvalidArgumentError, NotYetImplemented, ExternalFormat, OutOfSpec, Overflow, LimitExceeded, ReadFault, WriteFault, OutOfMemory}
 
@@ -75,3 +75,9 @@ reason_name NotAnObject = codes "NotAnObject"
 reason_name UnknownKey = codes "UnknownKey"
 reason_name MissingKey = codes "MissingKey"
 reason_name NegativeSize = codes "NegativeSize"
+reason_name RecordDiffers = codes "RecordDiffers"
+reason_name TestField = codes "TestField"
+reason_name TestType = codes "TestType"
+reason_name JsonRow = codes "JsonRow"
+reason_name Unresolved = codes "Unresolved"
+reason_name Utf8Value = codes "Utf8Value"

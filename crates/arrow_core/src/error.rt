@@ -88,6 +88,18 @@ pub enum Reason {
     MissingKey,
     /// A skipped array block states a negative byte size.
     NegativeSize,
+    /// A file has another record than the files before it.
+    RecordDiffers,
+    /// A test names a field that isn't there.
+    TestField,
+    /// The literal of a test doesn't fit its field.
+    TestType,
+    /// A line's value isn't the JSON encoding of a row.
+    JsonRow,
+    /// The reader's record doesn't resolve against the writer's.
+    Unresolved,
+    /// Bytes that become a text aren't UTF-8.
+    Utf8Value,
 }
 
 impl Reason {
@@ -136,6 +148,12 @@ impl Reason {
             Reason::UnknownKey => "UnknownKey",
             Reason::MissingKey => "MissingKey",
             Reason::NegativeSize => "NegativeSize",
+            Reason::RecordDiffers => "RecordDiffers",
+            Reason::TestField => "TestField",
+            Reason::TestType => "TestType",
+            Reason::JsonRow => "JsonRow",
+            Reason::Unresolved => "Unresolved",
+            Reason::Utf8Value => "Utf8Value",
         }
     }
 }
