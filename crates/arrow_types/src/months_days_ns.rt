@@ -7,6 +7,7 @@ use crate::physical::PrimitiveType;
 /// An interval of months, days and nanoseconds, none of which is a fixed number of the next.
 /// The three parts may differ in sign.
 #[derive(Clone, Copy, PartialEq, Eq, Debug)]
+#[repr(C)]
 pub struct MonthsDaysNs {
     /// Whole months.
     pub months: i32,
