@@ -8,7 +8,7 @@ ghost use Rattle.arrow_bitmap.specs.Bits.{bit_of, boolean_of, booleans_of};
 use arrow_core::Result;
 use std::alloc::Global;
 use std::marker::Model;
-use std::rc::RcSlice;
+use std::sync::ArcSlice;
 
 /// A list of booleans, 64 to a word, from the lowest bit on
 /// (Arrow columnar format, "Validity bitmaps").
@@ -16,21 +16,21 @@ use std::rc::RcSlice;
 /// The words are shared: a slice of a bitmap begins at another bit of the same words.
 #[derive(Drop)]
 pub struct Bitmap {
-    words: RcSlice<u64>,
+    words: ArcSlice<u64>,
     start: usize,
     count: usize,
 }
 
 impl Model for Bitmap {
     ghost use Rattle.std.specs.Prelude.{◌+◌, ◌*◌, ◌^◌, ◌<◌, ◌≤◌, length};
-    ghost use Rattle.std.specs.Rc.{rc_slice_items};
+    ghost use Rattle.std.specs.Arc.{arc_slice_items};
     ghost use Rattle.arrow_bitmap.specs.Bits.{Packed, packed_of};
 
     ghost Value = { Packed };
 
-    ghost view = { λ b. packed_of (rc_slice_items b.words) b.start b.count };
+    ghost view = { λ b. packed_of (arc_slice_items b.words) b.start b.count };
 
-    ghost invariant = { λ b. (b.start + b.count ≤ 64 * length (rc_slice_items b.words))
+    ghost invariant = { λ b. (b.start + b.count ≤ 64 * length (arc_slice_items b.words))
         × (b.start + b.count < 2 ^ 64) };
 }
 
@@ -118,7 +118,7 @@ impl Bitmap {
         ensures offset { IfOk result (λ b. b.offset ≡ 0) }
         ensures memory { OnlyOutOfMemory result }
     {
-        let words = RcSlice::from_vec(words)?;
+        let words = ArcSlice::from_vec(words)?;
         Ok(Bitmap {
             words,
             start: 0,
