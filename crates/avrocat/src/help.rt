@@ -26,7 +26,7 @@ avro NAME PER_BLOCK MARKER FIELD..    JSON lines into an Avro file
     M=00112233445566778899aabbccddeeff
     avrocat avro r 100 $M 'id=long' 'user=string?' < events.ndjson > r.avro
 rewrite NAME MARKER        an Avro file into its canonical form
-    avrocat rewrite r 00112233445566778899aabbccddeeff < events.avro
+    avrocat rewrite r $M < r.avro
 infer                      the type of JSON lines
     avrocat infer < events.ndjson
 count                      how many rows and blocks an Avro file has
