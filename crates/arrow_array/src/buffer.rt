@@ -5,12 +5,12 @@ ghost use Rattle.arrow_core.specs.declared.error.Error.TheVariants.{OutOfMemory}
 
 use arrow_core::Result;
 use std::marker::Model;
-use std::rc::RcSlice;
+use std::sync::ArcSlice;
 
 /// Values side by side in shared memory. A slice of a buffer is fewer values of the same memory.
 #[derive(Drop)]
 pub(crate) struct Buffer<T> {
-    values: RcSlice<T>,
+    values: ArcSlice<T>,
     start: usize,
     count: usize,
 }
@@ -18,15 +18,15 @@ pub(crate) struct Buffer<T> {
 impl<T> Model for Buffer<T> {
     ghost use Rattle.std.specs.Prelude.{List, ◌+◌, ◌^◌, ◌<◌, ◌≤◌, length, take, drop};
     ghost use Rattle.std.specs.Coded.{coded_list};
-    ghost use Rattle.std.specs.Rc.{rc_slice_items};
+    ghost use Rattle.std.specs.Arc.{arc_slice_items};
 
     ghost Value = { List T };
 
     ghost coded = { coded_list T.code };
 
-    ghost view = { λ b. take b.count (drop b.start (rc_slice_items b.values)) };
+    ghost view = { λ b. take b.count (drop b.start (arc_slice_items b.values)) };
 
-    ghost invariant = { λ b. (b.start + b.count ≤ length (rc_slice_items b.values))
+    ghost invariant = { λ b. (b.start + b.count ≤ length (arc_slice_items b.values))
         × (b.start + b.count < 2 ^ 64) };
 }
 
@@ -47,7 +47,7 @@ impl<T: Drop> Buffer<T> {
         ensures memory { OnlyOutOfMemory result }
     {
         let count = values.len();
-        let values = RcSlice::from_vec(values)?;
+        let values = ArcSlice::from_vec(values)?;
         Ok(Buffer {
             values,
             start: 0,
