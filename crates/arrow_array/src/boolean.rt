@@ -1,5 +1,5 @@
 //! Booleans.
-ghost use Rattle.std.specs.Prelude.{◌≡◌, ◌+◌, ◌<◌, ◌≤◌, ◌↔◌, IsTrue, IfOk, IfErr, length, take, drop, vec_len, All};
+ghost use Rattle.std.specs.Prelude.{◌≡◌, ℕ, ◌+◌, ◌<◌, ◌≤◌, ◌↔◌, IsTrue, IfOk, IfErr, length, take, drop, vec_len, All};
 ghost use Rattle.std.specs.Option.{option_copied};
 ghost use Rattle.arrow_core.specs.Errors.{OnlyOutOfMemory};
 ghost use Rattle.arrow_core.specs.declared.error.Error.TheVariants.{OutOfMemory};
@@ -136,6 +136,17 @@ impl BooleanArray {
             → slot_at self.now.slots i ≡ BooleanSlot result }
     {
         self.values.get(i)
+    }
+
+    /// The values bitmap, whose words an engine can hand on by pointer: one boolean a slot,
+    /// whatever the validity says. What stands at a null is unspecified.
+    pub fn values(&self) -> &Bitmap
+        ensures count { length result.now.booleans ≡ length self.now.slots }
+        ensures slots { (k : ℕ) → k < length self.now.slots
+            → IsTrue (is_held (slot_at self.now.slots k))
+            → slot_at self.now.slots k ≡ boolean_at result.now.booleans k }
+    {
+        &self.values
     }
 
     /// Tells that each slot is one of the data type.

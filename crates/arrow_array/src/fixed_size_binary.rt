@@ -1,5 +1,5 @@
 //! Binary values of one size.
-ghost use Rattle.std.specs.Prelude.{◌≡◌, ◌+◌, ◌*◌, ◌/◌, ◌<◌, ◌≤◌, ◌↔◌, IsTrue, IfOk, IfErr, length, take, drop, vec_len, All};
+ghost use Rattle.std.specs.Prelude.{◌≡◌, ℕ, ◌+◌, ◌*◌, ◌/◌, ◌<◌, ◌≤◌, ◌↔◌, IsTrue, IfOk, IfErr, length, take, drop, vec_len, All};
 ghost use Rattle.std.specs.Option.{option_copied};
 ghost use Rattle.arrow_core.specs.Errors.{OnlyOutOfMemory};
 ghost use Rattle.arrow_core.specs.declared.error.Error.TheVariants.{OutOfMemory};
@@ -149,6 +149,19 @@ impl FixedSizeBinaryArray {
         let values = self.values.as_slice();
         let start = i * self.size;
         run_of(values, start, self.size)
+    }
+
+    /// The values buffer, which an engine can hand on by pointer: as many bytes a slot as the type
+    /// says, whatever the validity says. What stands at a null is unspecified.
+    pub fn values(&self) -> &[u8]
+        ensures count { length result.now
+            ≡ length self.now.slots * byte_width self.now.data_type }
+        ensures slots { (k : ℕ) → k < length self.now.slots
+            → IsTrue (is_held (slot_at self.now.slots k))
+            → slot_at self.now.slots k
+            ≡ fixed_at (byte_width self.now.data_type) result.now k }
+    {
+        self.values.as_slice()
     }
 
     /// Tells that each slot is one of the data type.

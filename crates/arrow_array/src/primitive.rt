@@ -1,5 +1,5 @@
 //! Values that lie in memory as they are.
-ghost use Rattle.std.specs.Prelude.{◌≡◌, ◌+◌, ◌<◌, ◌≤◌, ◌↔◌, IsTrue, IfOk, IfErr, length, take, drop, vec_len, All};
+ghost use Rattle.std.specs.Prelude.{◌≡◌, ℕ, ◌+◌, ◌<◌, ◌≤◌, ◌↔◌, IsTrue, IfOk, IfErr, length, take, drop, vec_len, All};
 ghost use Rattle.std.specs.Option.{option_copied};
 ghost use Rattle.arrow_core.specs.Errors.{OnlyOutOfMemory};
 ghost use Rattle.arrow_core.specs.declared.error.Error.TheVariants.{OutOfMemory};
@@ -143,6 +143,17 @@ impl<T: NativeType> PrimitiveArray<T> {
             → slot_at self.now.slots i ≡ T.native_slot result }
     {
         self.values.as_slice()[i]
+    }
+
+    /// The values buffer, which an engine can hand on by pointer: one value a slot, whatever the
+    /// validity says. What stands at a null is unspecified.
+    pub fn values(&self) -> &[T]
+        ensures count { length result.now ≡ length self.now.slots }
+        ensures slots { (k : ℕ) → k < length self.now.slots
+            → IsTrue (is_held (slot_at self.now.slots k))
+            → slot_at self.now.slots k ≡ native_at T.native_slot result.now k }
+    {
+        self.values.as_slice()
     }
 
     /// The `count` slots from index `offset` on. It shares the buffers.
