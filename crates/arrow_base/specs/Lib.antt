@@ -3,4 +3,5 @@ pub mod MemorySink
 pub mod MemorySource
 pub mod Outside
 pub mod SteadySource
+pub mod Told
 pub mod WrittenString

@@ -24,7 +24,7 @@ pub use faults::Failed;
 pub use memory_sink::MemorySink;
 pub use memory_source::MemorySource;
 pub use sink::{Sink, write_all};
-pub use source::Source;
+pub use source::{Source, TellsAlike};
 pub use std_sink::StdSink;
 pub use std_source::StdSource;
 pub use steady_source::SteadySource;

@@ -6,7 +6,7 @@ ghost use Rattle.arrow_base.specs.Outside.{RoseOrFull, is_among, one_more, count
 use crate::calls::Calls;
 use crate::faults::{Failed, Faults};
 use crate::pieces::Pieces;
-use crate::source::Source;
+use crate::source::{Source, TellsAlike};
 use arrow_core::{Bytes, Error, Items, Result};
 
 /// Bytes in memory as a source, which gives them in pieces and fails at the reads that it was told
@@ -84,4 +84,11 @@ impl Source for MemorySource {
     }
 
     ghost bounded = { λ s. s.faults.fits };
+}
+
+impl TellsAlike for MemorySource {
+    ghost use Rattle.arrow_base.specs.MemorySource.{left_of};
+    ghost use Rattle.arrow_base.specs.Told.{told};
+
+    ghost alike = { λ before _ untold. absurd (told (left_of before) untold) };
 }

@@ -1,5 +1,5 @@
 //! Where bytes come from.
-ghost use Rattle.std.specs.Prelude.{◌≡◌, ℕ, ◌<◌, ◌≤◌, List, Option, take, length, IfOk, IfErr, OnErr};
+ghost use Rattle.std.specs.Prelude.{◌≡◌, ℕ, ◌<◌, ◌≤◌, List, Option, None, take, length, IfOk, IfErr, OnErr};
 ghost use Rattle.std.specs.Io.KnownBytes.{Consumes, Keeps, IsAtEnd};
 ghost use Rattle.arrow_base.specs.Outside.{RoseOrFull, GivesThrough, NoneGiven, last_count};
 
@@ -63,6 +63,14 @@ pub trait Source {
     ghost bounded: { (source : Self) → faults source ≤ last_count };
 }
 
+/// A source that tells the bytes still to come in each of its states, or in none that comes after
+/// one in which it doesn't. Code that reads a source twice can decide once by which way it reads,
+/// whether the bytes are told.
+pub trait TellsAlike: Source {
+    // A source that doesn't tell the bytes still to come never begins to.
+    ghost alike: { (before after : Self) → Self.left before ≡ None → Self.left after ≡ None };
+}
+
 impl<S: Source> Source for &mut S {
     ghost left = { λ s. S.left s.now };
 
@@ -79,4 +87,8 @@ impl<S: Source> Source for &mut S {
     }
 
     ghost bounded = { λ s. S.bounded s.now };
+}
+
+impl<S: TellsAlike> TellsAlike for &mut S {
+    ghost alike = { λ before after. S.alike before.now after.now };
 }

@@ -5,9 +5,9 @@ ghost use Rattle.arrow_base.specs.Outside.{RoseOrFull, GivesThrough, NoneGiven, 
 
 use crate::faults::{Failed, Faults};
 use crate::pieces::len_through;
-use crate::source::Source;
+use crate::source::{Source, TellsAlike};
 use arrow_core::{Error, Result};
-use std::io::{BufRead, Read};
+use std::io::{BufRead, BufReader, Read, Stdin};
 
 /// A real reader with a buffer as a source. It tells the bytes that its reader tells: none, where
 /// that is a file or a pipe. Each error of the reader counts as a fault.
@@ -138,4 +138,11 @@ impl<R: BufRead> Source for StdSource<R> {
     }
 
     ghost bounded = { λ s. s.faults.fits };
+}
+
+// Standard input tells no bytes.
+impl TellsAlike for StdSource<BufReader<Stdin>> {
+    ghost use Rattle.arrow_base.specs.Told.{either_way};
+
+    ghost alike = { λ _ _ _. either_way _ };
 }

@@ -4,7 +4,7 @@ ghost use Rattle.std.specs.Io.KnownBytes.{Consumes, IsAtEnd};
 
 use crate::faults::Failed;
 use crate::pieces::Pieces;
-use crate::source::Source;
+use crate::source::{Source, TellsAlike};
 use arrow_core::{Bytes, Result};
 
 /// Bytes in memory as a source that gives them in pieces and never fails.
@@ -61,4 +61,11 @@ impl Source for SteadySource {
     ghost use Rattle.std.proofs.Common.{rules};
 
     ghost bounded = { λ _. Prim.search rules };
+}
+
+impl TellsAlike for SteadySource {
+    ghost use Rattle.arrow_base.specs.SteadySource.{left_of};
+    ghost use Rattle.arrow_base.specs.Told.{told};
+
+    ghost alike = { λ before _ untold. absurd (told (left_of before) untold) };
 }
