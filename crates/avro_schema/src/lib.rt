@@ -4,11 +4,13 @@
 mod block;
 mod cloned;
 mod cursor;
+mod equality;
 mod number;
 mod schema;
 
 pub use block::Block;
 pub use cursor::{Cursor, SliceCursor};
+pub use equality::equality_law;
 pub use number::{next_number, zigzag_i64};
 pub use schema::{
     AvroField, BytesLogical, Enum, Fixed, FixedLogical, IntLogical, LongLogical, Record, Schema,
