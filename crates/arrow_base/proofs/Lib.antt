@@ -1,4 +1,5 @@
 pub mod Decisions
+pub mod Joins
 pub mod Listed
 pub mod OneMeaning
 pub mod PieceLemmas

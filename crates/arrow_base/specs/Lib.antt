@@ -1,3 +1,4 @@
+pub mod Joined
 pub mod JsonString
 pub mod MemorySink
 pub mod MemorySource

@@ -4,7 +4,8 @@ use Rattle.arrow_types.specs.declared.types.DataType.{DataType}
 use Rattle.arrow_types.specs.declared.types.DataType as data_type
 use Rattle.arrow_types.specs.declared.types.DataType.TheBlock.{shape-the_row-Field-0, hidden-the_row-Field-0, shape-the_row-Field-1, hidden-the_row-Field-1}
 use Rattle.arrow_types.specs.declared.types.Field.{Field}
-use Rattle.type_text.specs.Texts.{joined, member_text, type_text, member_texts}
+use Rattle.arrow_base.specs.Joined.{joined}
+use Rattle.type_text.specs.Texts.{member_text, type_text, member_texts}
 
 abbrev pub field_text : Field → List ℕ
 field_text f = member_text f.name (type_text f.data_type)

@@ -1,12 +1,8 @@
 -- The texts of the data types that are inferred from JSON, as `avrocat infer` prints them.
-use Rattle.std.specs.Prelude.{ℕ, List, [], ◌∷◌, ◌++◌, flat_map, codes}
+use Rattle.std.specs.Prelude.{ℕ, List, [], ◌∷◌, ◌++◌, codes}
+use Rattle.arrow_base.specs.Joined.{joined}
 use Rattle.arrow_base.specs.WrittenString.{json_string}
 use Rattle.arrow_types.specs.declared.types.DataType.{DataType, Null, Boolean, Int64, Float64, Utf8, List', Struct', Row_of-Field, end_of-Field, more_of-Field}
-
--- with a comma between each two
-abbrev pub joined : List (List ℕ) → List ℕ
-joined [] = []
-joined (text ∷ texts) = text ++ flat_map (λ next. codes "," ++ next) texts
 
 -- a field of a struct: its name as a JSON string, a colon, and the text of its type
 abbrev pub member_text : List ℕ → List ℕ → List ℕ

@@ -1,8 +1,9 @@
 //! The text of a data type, at the end of a buffer.
 ghost use Rattle.std.specs.Prelude.{◌≡◌, ◌++◌, codes, map, OnOk};
 ghost use Rattle.arrow_core.specs.Errors.{OnlyOutOfMemory};
+ghost use Rattle.arrow_base.specs.Joined.{joined};
 ghost use Rattle.arrow_base.specs.WrittenString.{json_string};
-ghost use Rattle.type_text.specs.Texts.{joined, member_text, type_text};
+ghost use Rattle.type_text.specs.Texts.{member_text, type_text};
 
 use arrow_base::write_str;
 use arrow_core::{Error, Result};
@@ -78,7 +79,7 @@ fn push_struct(out: &mut Vec<u8>, fields: &[Field]) -> Result<()>
 
 /// The fields of a struct, with a comma between each two.
 #[cycle(texts)]
-#[tactic(auto, using(crate::proofs::Joins::led_joined))]
+#[tactic(auto, using(arrow_base::proofs::Joins::led_joined))]
 fn push_members(out: &mut Vec<u8>, fields: &[Field]) -> Result<()>
     ensures appended { OnOk result (out.new.items ≡ out.old.items
         ++ joined (map (λ f. member_text f.name (type_text f.data_type)) fields.now)) }

@@ -1,7 +1,8 @@
 -- A list and a struct are written by their fields.
 use Rattle.std.proofs.Common.{◌++◌, codes, map, List, ℕ, sym, ap, ◌∙◌}
 use Rattle.arrow_types.specs.declared.types.Field.{Field}
-use Rattle.type_text.specs.Texts.{joined, type_text}
+use Rattle.arrow_base.specs.Joined.{joined}
+use Rattle.type_text.specs.Texts.{type_text}
 use Rattle.type_text.proofs.FieldTexts.{field_text, list_text, struct_text, same_part}
 use Rattle.type_text.proofs.text.+texts.Goals as goal
 

@@ -1,7 +1,8 @@
 -- What was appended and what is left are the whole.
 use Rattle.std.proofs.Common.{◌≡◌, ◌++◌, drop, map}
-use Rattle.type_text.specs.Texts.{joined, member_text, type_text}
-use Rattle.type_text.proofs.Joins.{led}
+use Rattle.arrow_base.specs.Joined.{joined}
+use Rattle.type_text.specs.Texts.{member_text, type_text}
+use Rattle.arrow_base.proofs.Joins.{led}
 use Rattle.type_text.proofs.text.+texts.Given as goal
 
 abbrev pub invariant-push_members-loop-field : goal.invariant-push_members-loop-field

@@ -1,6 +1,6 @@
--- Texts are appended one after another, with a comma between each two.
+-- Texts are written one after another, with a comma between each two.
 use Rattle.std.proofs.Common.{◌≡◌, ℕ, List, [], ◌∷◌, ◌++◌, flat_map, codes, refl, ap}
-use Rattle.type_text.specs.Texts.{joined}
+use Rattle.arrow_base.specs.Joined.{joined}
 
 -- the texts that are left: this before the first of them, and a comma before each of the others
 abbrev pub led : List ℕ → List (List ℕ) → List ℕ
