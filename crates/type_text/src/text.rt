@@ -1,5 +1,6 @@
 //! The text of a data type, at the end of a buffer.
 ghost use Rattle.std.specs.Prelude.{◌≡◌, ◌++◌, codes, map, OnOk};
+ghost use Rattle.std.specs.Io.{StartsWith};
 ghost use Rattle.arrow_core.specs.Errors.{OnlyOutOfMemory};
 ghost use Rattle.arrow_base.specs.Joined.{joined};
 ghost use Rattle.arrow_base.specs.WrittenString.{json_string};
@@ -12,6 +13,7 @@ use arrow_types::{DataType, Field};
 /// Appends these bytes. `OutOfMemory` alone.
 fn push(out: &mut Vec<u8>, part: &[u8]) -> Result<()>
     ensures appended { OnOk result (out.new.items ≡ out.old.items ++ part.now) }
+    ensures kept { StartsWith out.new.items out.old.items }
     ensures memory { OnlyOutOfMemory result }
 {
     out.extend_from_slice(part)?;
@@ -21,6 +23,7 @@ fn push(out: &mut Vec<u8>, part: &[u8]) -> Result<()>
 /// Appends the JSON string of `value`. `OutOfMemory` alone.
 fn push_string(out: &mut Vec<u8>, value: &str) -> Result<()>
     ensures appended { OnOk result (out.new.items ≡ out.old.items ++ json_string value.now) }
+    ensures kept { StartsWith out.new.items out.old.items }
     ensures memory { OnlyOutOfMemory result }
 {
     match write_str(out, value) {
@@ -34,10 +37,12 @@ fn push_string(out: &mut Vec<u8>, value: &str) -> Result<()>
 /// `Struct{"a":Int64,"b":Boolean}`. Names are escaped as JSON strings. Other types have no text, and
 /// nothing is appended for them.
 ///
-/// `OutOfMemory` alone; the buffer may then have a part of the text more.
+/// `OutOfMemory` alone. What stood in the buffer stays: on `Ok` the text follows it, on an error a
+/// part of the text.
 #[cycle(texts)]
 pub fn append_type_text(out: &mut Vec<u8>, data_type: &DataType) -> Result<()>
     ensures appended { OnOk result (out.new.items ≡ out.old.items ++ type_text data_type.now) }
+    ensures kept { StartsWith out.new.items out.old.items }
     ensures memory { OnlyOutOfMemory result }
 {
     match data_type {
@@ -57,6 +62,7 @@ pub fn append_type_text(out: &mut Vec<u8>, data_type: &DataType) -> Result<()>
 fn push_list(out: &mut Vec<u8>, item: &Field) -> Result<()>
     ensures appended { OnOk result (out.new.items
         ≡ out.old.items ++ (codes "List(" ++ (type_text item.now.data_type ++ codes ")"))) }
+    ensures kept { StartsWith out.new.items out.old.items }
     ensures memory { OnlyOutOfMemory result }
 {
     push(out, b"List(")?;
@@ -70,6 +76,7 @@ fn push_struct(out: &mut Vec<u8>, fields: &[Field]) -> Result<()>
     ensures appended { OnOk result (out.new.items ≡ out.old.items
         ++ (codes "Struct{" ++ (joined (map (λ f. member_text f.name (type_text f.data_type))
         fields.now) ++ codes "}"))) }
+    ensures kept { StartsWith out.new.items out.old.items }
     ensures memory { OnlyOutOfMemory result }
 {
     push(out, b"Struct{")?;
@@ -83,6 +90,7 @@ fn push_struct(out: &mut Vec<u8>, fields: &[Field]) -> Result<()>
 fn push_members(out: &mut Vec<u8>, fields: &[Field]) -> Result<()>
     ensures appended { OnOk result (out.new.items ≡ out.old.items
         ++ joined (map (λ f. member_text f.name (type_text f.data_type)) fields.now)) }
+    ensures kept { StartsWith out.new.items out.old.items }
     ensures memory { OnlyOutOfMemory result }
 {
     let mut before: &[u8] = b"";
@@ -99,6 +107,7 @@ fn push_members(out: &mut Vec<u8>, fields: &[Field]) -> Result<()>
 fn push_member(out: &mut Vec<u8>, field: &Field) -> Result<()>
     ensures appended { OnOk result (out.new.items
         ≡ out.old.items ++ member_text field.now.name (type_text field.now.data_type)) }
+    ensures kept { StartsWith out.new.items out.old.items }
     ensures memory { OnlyOutOfMemory result }
 {
     push_string(out, field.name.as_str())?;
