@@ -7,7 +7,8 @@ use Rattle.json_tree.specs.Keys.{Gathers}
 use Rattle.json_tree.specs.Grammar.{AfterSpaces, Quoted, Scalar, More, Listed, Member, Encodes}
 use Rattle.json_tree.specs.Reading.{put_together}
 use Rattle.json_tree.proofs.Gathering.{gathers}
-use Rattle.avro_text.specs.Writing.{joined, given}
+use Rattle.arrow_base.specs.Joined.{joined}
+use Rattle.avro_text.specs.Writing.{given}
 
 pub quoted : (text : List ℕ) → Quoted text (json_string text)
 quoted text = (flat_map escaped text, refl, escaped-chars text)

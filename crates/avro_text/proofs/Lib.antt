@@ -5,7 +5,6 @@ pub mod Digits
 pub mod Parts
 pub mod Texts
 pub mod Appends
-pub mod Joins
 pub mod JsonTexts
 pub mod Numerals
 pub mod Members

@@ -21,7 +21,8 @@ use Rattle.avro_schema.specs.declared.schema.AvroField.{AvroField, AvroField-F, 
 use Rattle.avro_text.specs.Outcome.{Outcome, found, then_for, each}
 use Rattle.avro_text.specs.Reading.{reading, field, typed_as, typed, IsSchemaText}
 use Rattle.avro_text.specs.Writable.{IsWritable, numbers_fit, fits_step, field_fits_step, record_fits_step, all_fit}
-use Rattle.avro_text.specs.Writing.{schema_text_of, field_text_of, record_text_of, schema_step, field_step, record_step, given, joined}
+use Rattle.arrow_base.specs.Joined.{joined}
+use Rattle.avro_text.specs.Writing.{schema_text_of, field_text_of, record_text_of, schema_step, field_step, record_step, given}
 use Rattle.avro_text.proofs.Appends.{six, seven}
 use Rattle.avro_text.proofs.Backs.{Back, AllBack, IsBack, all_back, above}
 use Rattle.avro_text.proofs.JsonTexts.{Members, AllEncode, optional, one_more_member, optional_member, object_encodes, string_encodes, array_encodes, no_more}

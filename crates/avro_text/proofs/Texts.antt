@@ -11,7 +11,8 @@ use Rattle.avro_schema.specs.declared.schema.IntLogical.{IntLogical}
 use Rattle.avro_schema.specs.declared.schema.LongLogical.{LongLogical}
 use Rattle.avro_schema.specs.declared.schema.BytesLogical.{BytesLogical}
 use Rattle.avro_schema.specs.declared.schema.StringLogical.{StringLogical}
-use Rattle.avro_text.specs.Writing.{schema_text_of, field_text_of, record_text_of, schema_step, field_step, record_step, joined, given, int_text, long_text, bytes_text, string_text, enum_text, fixed_text}
+use Rattle.arrow_base.specs.Joined.{joined}
+use Rattle.avro_text.specs.Writing.{schema_text_of, field_text_of, record_text_of, schema_step, field_step, record_step, given, int_text, long_text, bytes_text, string_text, enum_text, fixed_text}
 use Rattle.arrow_base.specs.WrittenString.{json_string}
 
 pub text-Null : schema_text_of variant.Null ≡ codes "\"null\""

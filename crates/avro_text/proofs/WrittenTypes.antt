@@ -27,7 +27,8 @@ use Rattle.avro_text.specs.Outcome.{Outcome, found}
 use Rattle.avro_text.specs.Reading.{reading, named, typed, typed_as}
 use Rattle.avro_text.specs.Types.{int_logical, long_logical, string_logical, fixed_logical}
 use Rattle.avro_text.specs.Writable.{numbers_fit, fits_step, field_fits_step, record_fits_step, logical_fits, is_decimal}
-use Rattle.avro_text.specs.Writing.{schema_text_of, int_name, long_name, fixed_logical_text, given, joined}
+use Rattle.arrow_base.specs.Joined.{joined}
+use Rattle.avro_text.specs.Writing.{schema_text_of, int_name, long_name, fixed_logical_text, given}
 use Rattle.avro_text.proofs.Appends.{seven, eight}
 use Rattle.avro_text.proofs.Backs.{Back, IsBack, strings_encode, strings_are}
 use Rattle.avro_text.proofs.Digits.{parts, true_le}

@@ -1,6 +1,7 @@
 -- The JSON text that is written for an Avro schema (Avro 1.11, "Schema Declaration"): one text without spaces, with the attributes in
 -- one fixed order.
-use Rattle.std.specs.Prelude.{ℕ, List, [], ◌∷◌, ◌++◌, map, flat_map, Option, Some, None, codes, decimal}
+use Rattle.std.specs.Prelude.{ℕ, List, [], ◌++◌, map, Option, Some, None, codes, decimal}
+use Rattle.arrow_base.specs.Joined.{joined}
 use Rattle.arrow_base.specs.WrittenString.{json_string}
 use Rattle.avro_schema.specs.declared.schema.Schema.{Schema, Schema-F, fold-Schema}
 use Rattle.avro_schema.specs.declared.schema.Schema.TheOpen as layer
@@ -18,11 +19,6 @@ use Rattle.avro_schema.specs.declared.schema.StringLogical.{StringLogical}
 use Rattle.avro_schema.specs.declared.schema.StringLogical.TheVariants as string
 use Rattle.avro_schema.specs.declared.schema.FixedLogical.{FixedLogical}
 use Rattle.avro_schema.specs.declared.schema.FixedLogical.TheVariants as fixed
-
--- with a comma between each two
-abbrev pub joined : List (List ℕ) → List ℕ
-joined [] = []
-joined (text ∷ texts) = text ++ flat_map (λ next. codes "," ++ next) texts
 
 -- an attribute that is written where it is given
 abbrev pub given : List ℕ → Option (List ℕ) → List ℕ

@@ -1,7 +1,8 @@
 //! JSON texts of schemas. Each writer puts its part at the end of one buffer.
 ghost use Rattle.std.specs.Prelude.{◌≡◌, ◌++◌, codes, map, OnOk};
 ghost use Rattle.arrow_core.specs.Errors.{OnlyOutOfMemory};
-ghost use Rattle.avro_text.specs.Writing.{schema_text_of, record_text_of, field_text_of, joined};
+ghost use Rattle.arrow_base.specs.Joined.{joined};
+ghost use Rattle.avro_text.specs.Writing.{schema_text_of, record_text_of, field_text_of};
 
 use crate::write_parts::{
     push, push_bytes, push_enum, push_fixed, push_given, push_int, push_long, push_string,
@@ -57,7 +58,7 @@ fn push_union(text: &mut Vec<u8>, members: &[AvroSchema]) -> Result<()>
 }
 
 #[cycle(write)]
-#[tactic(auto, using(crate::proofs::Joins::led_joined))]
+#[tactic(auto, using(arrow_base::proofs::Joins::led_joined))]
 fn push_members(text: &mut Vec<u8>, members: &[AvroSchema]) -> Result<()>
     ensures appended { OnOk result (text.new.items ≡ text.old.items
         ++ joined (map schema_text_of members.now)) }
@@ -88,7 +89,7 @@ pub(crate) fn push_record(text: &mut Vec<u8>, record: &Record) -> Result<()>
 }
 
 #[cycle(write)]
-#[tactic(auto, using(crate::proofs::Joins::led_joined))]
+#[tactic(auto, using(arrow_base::proofs::Joins::led_joined))]
 fn push_fields(text: &mut Vec<u8>, fields: &[AvroField]) -> Result<()>
     ensures appended { OnOk result (text.new.items ≡ text.old.items
         ++ joined (map field_text_of fields.now)) }

@@ -1,6 +1,7 @@
 //! Parts of the texts of schemas in which no schema stands.
 ghost use Rattle.std.specs.Prelude.{◌≡◌, ◌++◌, codes, decimal, map, OnOk};
 ghost use Rattle.arrow_core.specs.Errors.{OnlyOutOfMemory};
+ghost use Rattle.arrow_base.specs.Joined.{joined};
 ghost use Rattle.arrow_base.specs.WrittenString.{json_string};
 ghost use Rattle.avro_text.specs.Writing as spec;
 
@@ -186,10 +187,10 @@ pub(crate) fn push_enum(text: &mut Vec<u8>, symbols: &Enum) -> Result<()>
 }
 
 /// JSON strings, with a comma between each two.
-#[tactic(auto, using(crate::proofs::Joins::led_joined))]
+#[tactic(auto, using(arrow_base::proofs::Joins::led_joined))]
 fn push_strings(text: &mut Vec<u8>, values: &[Text]) -> Result<()>
     ensures appended { OnOk result (text.new.items ≡ text.old.items
-        ++ spec.joined (map json_string values.now)) }
+        ++ joined (map json_string values.now)) }
     ensures memory { OnlyOutOfMemory result }
 {
     let mut before: &[u8] = b"";

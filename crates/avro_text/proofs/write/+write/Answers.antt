@@ -3,7 +3,8 @@ use Rattle.std.proofs.Common.{◌++◌, codes, map, sym, ap, ◌∙◌}
 use Rattle.arrow_base.specs.WrittenString.{json_string}
 use Rattle.avro_schema.specs.declared.schema.Record.{out-Record}
 use Rattle.avro_schema.specs.declared.schema.AvroField.{out-AvroField}
-use Rattle.avro_text.specs.Writing.{schema_text_of, record_text_of, field_text_of, given, joined, int_text, long_text, bytes_text, string_text, enum_text, fixed_text}
+use Rattle.arrow_base.specs.Joined.{joined}
+use Rattle.avro_text.specs.Writing.{schema_text_of, record_text_of, field_text_of, given, int_text, long_text, bytes_text, string_text, enum_text, fixed_text}
 use Rattle.avro_text.proofs.Appends.{Adds, after, last, alone}
 use Rattle.avro_text.proofs.Texts.{text-Null, text-Boolean, text-Int, text-Long, text-Float, text-Double, text-Bytes, text-String, text-Record, text-Enum, text-Array, text-Map, text-Union, text-Fixed, record-text, field-text}
 use Rattle.avro_text.proofs.write.+write.Goals as goal

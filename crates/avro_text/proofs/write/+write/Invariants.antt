@@ -1,7 +1,8 @@
 -- What was written and what is left to write are the whole.
 use Rattle.std.proofs.Common.{◌≡◌, ◌++◌, drop, map}
-use Rattle.avro_text.specs.Writing.{joined, schema_text_of, field_text_of}
-use Rattle.avro_text.proofs.Joins.{led}
+use Rattle.arrow_base.specs.Joined.{joined}
+use Rattle.avro_text.specs.Writing.{schema_text_of, field_text_of}
+use Rattle.arrow_base.proofs.Joins.{led}
 use Rattle.avro_text.proofs.write.+write.Given as goal
 
 abbrev pub invariant-push_members-loop-member : goal.invariant-push_members-loop-member

@@ -1,7 +1,8 @@
 -- The parts are written one after another.
 use Rattle.std.proofs.Common.{◌++◌, codes, map, refl, ap, ◌∙◌}
 use Rattle.arrow_base.specs.WrittenString.{json_string}
-use Rattle.avro_text.specs.Writing.{enum_text, given, joined}
+use Rattle.arrow_base.specs.Joined.{joined}
+use Rattle.avro_text.specs.Writing.{enum_text, given}
 use Rattle.avro_text.proofs.Appends.{Adds, after, last}
 use Rattle.avro_text.proofs.write_parts.push_enum.Goals as goal
 

@@ -1,8 +1,8 @@
 -- What was written and what is left to write are the whole.
 use Rattle.std.proofs.Common.{◌≡◌, ◌++◌, drop, map}
 use Rattle.arrow_base.specs.WrittenString.{json_string}
-use Rattle.avro_text.specs.Writing.{joined}
-use Rattle.avro_text.proofs.Joins.{led}
+use Rattle.arrow_base.specs.Joined.{joined}
+use Rattle.arrow_base.proofs.Joins.{led}
 use Rattle.avro_text.proofs.write_parts.push_strings.Given as goal
 
 abbrev pub invariant-loop-value : goal.invariant-loop-value
