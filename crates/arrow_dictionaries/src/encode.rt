@@ -14,6 +14,7 @@ use arrow_core::Result;
 use arrow_types::{IntegerType, NativeType, Offset};
 use first_seen::FirstSeen;
 use std::alloc::Global;
+use std::hash::Hash;
 
 /// Both values, where both are there. In a function of its own over any values, so that no other
 /// lets go of keys early.
@@ -29,7 +30,7 @@ fn both<A: Drop, B: Drop>(first: Result<A>, second: Result<B>) -> Result<(A, B)>
 }
 
 /// The keys of an array's slots, and their distinct values.
-fn primitive_keys<T: NativeType + Ord>(
+fn primitive_keys<T: NativeType + Ord + Hash>(
     alloc: Global,
     distinct: &mut FirstSeen<T>,
     array: &PrimitiveArray<T>,
@@ -53,7 +54,7 @@ fn primitive_keys<T: NativeType + Ord>(
 ///
 /// `Overflow` exactly where there are more distinct slots than the keys have numbers from 0 on.
 /// `OutOfMemory` may come in place of any answer.
-pub fn encode_primitives<T: NativeType + Ord>(
+pub fn encode_primitives<T: NativeType + Ord + Hash>(
     alloc: Global,
     array: &PrimitiveArray<T>,
     key: IntegerType,

@@ -10,9 +10,10 @@ use arrow_core::Result;
 use arrow_types::{NativeType, Offset};
 use first_seen::FirstSeen;
 use std::alloc::Global;
+use std::hash::Hash;
 
 /// The index of slot `i` among the distinct values, where a new one goes last; `None` for a null.
-fn primitive_index<T: NativeType + Ord>(
+fn primitive_index<T: NativeType + Ord + Hash>(
     distinct: &mut FirstSeen<T>,
     array: &PrimitiveArray<T>,
     i: usize,
@@ -31,7 +32,7 @@ fn primitive_index<T: NativeType + Ord>(
 
 /// For each slot its index among the distinct values, which are then in order of first appearance;
 /// `None` for a null.
-pub(crate) fn primitive_indices<T: NativeType + Ord>(
+pub(crate) fn primitive_indices<T: NativeType + Ord + Hash>(
     alloc: Global,
     distinct: &mut FirstSeen<T>,
     array: &PrimitiveArray<T>,

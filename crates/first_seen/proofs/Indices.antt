@@ -1,14 +1,17 @@
 -- The index of a key, after one more.
-use Rattle.std.proofs.Common.{is_some, IfSome, ◌≡◌, ◌∙◌, refl, sym, ap, ℕ, suc, ◌+◌, ◌<◌, Bool, true, false, cond, List, [], ◌∷◌, ◌++◌, ◌||◌, ◌⊎◌, inl, inr, zero, nat_lt, get_or, length, Option, Some, None, if◌then◌else◌, arith}
+use Rattle.std.proofs.Common.{is_some, IfSome, ◌≡◌, ◌∙◌, refl, sym, ap, ℕ, suc, ◌+◌, ◌<◌, ◌≤◌, Bool, true, false, cond, List, [], ◌∷◌, ◌++◌, ◌||◌, ◌⊎◌, inl, inr, zero, nat_lt, get_or, length, take, position, Option, Some, None, if◌then◌else◌, arith}
+use Rattle.std.proofs.lemmas.Iterator.Adapters.{position_from-zero}
+use Rattle.std.proofs.lemmas.List.{length-append, take-append-le, take_all}
 use Rattle.std.proofs.lemmas.Option.{slice_get-get_or}
 use borrow.Author.Tests.{ltb-true}
 use Rattle.std.specs.Borrow.{Bor}
 use Rattle.std.specs.BTreeMap.{BTreeMap, Updates, get}
 use Rattle.std.specs.Cmp.{IsEquivalence}
 use Rattle.std.specs.List.{list_any, position_from, slice_get}
+use Rattle.std.specs.Option.{option_or}
 use Rattle.std.specs.Ordering.{is_eq}
 use Rattle.std.specs.declared.cmp.Ordering.{Ordering}
-use Rattle.first_seen.specs.Keys.{Indexed, index_of, with_key}
+use Rattle.first_seen.specs.Keys.{Indexed, hashed_keys, index_of, with_key}
 
 module _ {K : Type 0} (test : K → Bool) where
   there : (i j : ℕ) (ks : List K) → position_from test i ks ≡ Some j → list_any test ks ≡ true
@@ -47,6 +50,14 @@ module _ {K : Type 0} (same : K → K → Bool) where
       → is_some r ≡ nat_lt i (length us) → IfSome r (λ x. x.now ≡ get_or us i x.now) → IfSome r (λ x. index_of same seen x.now ≡ Some i)
   stands ks us seen i None once v s t e = tt
   stands ks us seen i (Some x) once v s t e = ap (λ zs. index_of same zs x.now) (sym s) ∙ once i x.now (held ks us i x.now v t e)
+
+  -- a key that the set has
+  pub in_set : (compare : K → K → Ordering) (hashed ks seen : List K) (m : BTreeMap K ℕ) (key : K) (i : ℕ) → Indexed same compare hashed m ks → ks ≡ seen → Some i ≡ position (same key) hashed → Some i ≡ index_of same seen key
+  in_set compare hashed ks seen m key i h s e = ap (λ o. option_or o (get compare m key)) (e ∙ position_from-zero (same key) hashed) ∙ h.1 key ∙ ap (λ us. index_of same us key) s
+
+  -- and one that it hasn't
+  pub in_tree : (compare : K → K → Ordering) (hashed ks seen : List K) (m : BTreeMap K ℕ) (key : K) (r : Option ℕ) → Indexed same compare hashed m ks → ks ≡ seen → None ≡ position (same key) hashed → r ≡ get compare m key → r ≡ index_of same seen key
+  in_tree compare hashed ks seen m key r h s e t = t ∙ ap (λ o. option_or o (get compare m key)) (e ∙ position_from-zero (same key) hashed) ∙ h.1 key ∙ ap (λ us. index_of same us key) s
 
   -- a key that is there adds nothing
   pub kept : (ks : List K) (key : K) (j : ℕ) → index_of same ks key ≡ Some j → ks ≡ with_key same ks key
@@ -104,19 +115,62 @@ module _ {K : Type 0} (same : K → K → Bool) where
         by_index (inl e) = old (same key k) refl (once i k e)
         by_index (inr e) = ap (index_of same (ks ++ key ∷ [])) (sym e.1) ∙ last ks (ks ++ key ∷ []) key i e.0 a refl
 
-    -- the tree takes one more key
-    pub indexed_more : (compare : K → K → Ordering) → ((x y : K) → same x y ≡ is_eq (compare x y)) → (m n : BTreeMap K ℕ) (ks seen new : List K) (key copy : K) (index : ℕ)
-        → copy ≡ key → Updates compare m n copy (Some index) → Indexed same compare m ks → ks ≡ seen → index ≡ length ks → index_of same seen key ≡ None → new ≡ ks ++ key ∷ [] → Indexed same compare n new
-    indexed_more compare agree m n ks seen new key copy index e u h s l absent is = (λ q. found q, λ i k at. ap (λ us. index_of same us k) is ∙ once_more ks key a h.1 i k (ap (λ us. slice_get us i) (sym is) ∙ at))
-      where
-        a : index_of same ks key ≡ None
-        a = ap (λ us. index_of same us key) s ∙ absent
+    -- one more key in the set, which is looked up before the tree
+    found_first : (b : Bool) (i : ℕ) (here there : Option ℕ) → option_or (cond b (Some i) here) there ≡ cond b (Some i) (option_or here there)
+    found_first true i here there = refl
+    found_first false i here there = refl
 
-        found : (q : K) → get compare n q ≡ index_of same new q
-        found q =
-            u.0 q
-            ∙ ap (λ b. cond b (Some index) (get compare m q)) (sym (agree copy q))
-            ∙ (λ i. cond (same (e i) q) (Some (l i)) (h.0 q i))
-            ∙ ap (λ j. cond (same key q) (Some j) (index_of same ks q)) (omega arith)
-            ∙ sym (from_more 0 ks key q a)
-            ∙ ap (λ us. index_of same us q) (sym is)
+    -- and one more in the tree, where the set has none that is the same
+    found_then : (b : Bool) (i : ℕ) (here there : Option ℕ) → (b ≡ true → option_or here there ≡ None) → option_or here (cond b (Some i) there) ≡ cond b (Some i) (option_or here there)
+    found_then true i None there h = refl
+    found_then true i (Some j) there h = let e : Some j ≡ None = h refl in absurd cc
+    found_then false i here there h = refl
+
+    module _ (compare : K → K → Ordering) (hashed ks seen new : List K) (m : BTreeMap K ℕ) (key copy : K) (index : ℕ)
+        (e : copy ≡ key) (h : Indexed same compare hashed m ks) (s : ks ≡ seen) (l : index ≡ length ks) (none : index_of same seen key ≡ None) (is : new ≡ ks ++ key ∷ []) where
+      a : index_of same ks key ≡ None
+      a = ap (λ us. index_of same us key) s ∙ none
+
+      once_new : (i : ℕ) (k : K) → slice_get new i ≡ Some k → index_of same new k ≡ Some i
+      once_new i k at = ap (λ us. index_of same us k) is ∙ once_more ks key a h.2 i k (ap (λ us. slice_get us i) (sym is) ∙ at)
+
+      found_new : (q : K) → cond (same key q) (Some (length ks)) (option_or (index_of same hashed q) (get compare m q)) ≡ index_of same new q
+      found_new q =
+          ap (λ o. cond (same key q) (Some (length ks)) o) (h.1 q)
+          ∙ ap (λ j. cond (same key q) (Some j) (index_of same ks q)) (omega arith)
+          ∙ sym (from_more 0 ks key q a)
+          ∙ ap (λ us. index_of same us q) (sym is)
+
+      -- the set takes one more key
+      pub hashed_more : (grown_set : List K) → index < hashed_keys → grown_set ≡ with_key same hashed copy → Indexed same compare grown_set m new
+      hashed_more grown_set small g = (g_is ∙ sym (take_all hashed_keys (ks ++ key ∷ []) (omega (arith, small, l, length-append ks (key ∷ [])))) ∙ ap (take hashed_keys) (sym is), found, once_new)
+        where
+          all : hashed ≡ ks
+          all = h.0 ∙ take_all hashed_keys ks (omega (arith, small, l))
+
+          g_is : grown_set ≡ ks ++ key ∷ []
+          g_is = g ∙ (λ i. with_key same (all i) (e i)) ∙ sym (grown ks (ks ++ key ∷ []) key a refl)
+
+          found : (q : K) → option_or (index_of same grown_set q) (get compare m q) ≡ index_of same new q
+          found q =
+              ap (λ us. option_or (index_of same us q) (get compare m q)) g_is
+              ∙ ap (λ o. option_or o (get compare m q)) (from_more 0 ks key q a)
+              ∙ ap (λ j. option_or (cond (same key q) (Some j) (index_of same ks q)) (get compare m q)) (omega arith)
+              ∙ ap (λ us. option_or (cond (same key q) (Some (length ks)) (index_of same us q)) (get compare m q)) (sym all)
+              ∙ found_first (same key q) (length ks) (index_of same hashed q) (get compare m q)
+              ∙ found_new q
+
+      -- the tree takes one more key
+      pub indexed_more : (n : BTreeMap K ℕ) → ((x y : K) → same x y ≡ is_eq (compare x y)) → hashed_keys ≤ index → Updates compare m n copy (Some index) → Indexed same compare hashed n new
+      indexed_more n agree large u = (h.0 ∙ sym (take-append-le hashed_keys ks (key ∷ []) (omega (arith, large, l))) ∙ ap (take hashed_keys) (sym is), found, once_new)
+        where
+          nowhere : (q : K) → same key q ≡ true → option_or (index_of same hashed q) (get compare m q) ≡ None
+          nowhere q t = h.1 q ∙ sym (alike 0 ks key q t) ∙ a
+
+          found : (q : K) → option_or (index_of same hashed q) (get compare n q) ≡ index_of same new q
+          found q =
+              ap (option_or (index_of same hashed q)) (u.0 q)
+              ∙ ap (λ b. option_or (index_of same hashed q) (cond b (Some index) (get compare m q))) (sym (agree copy q))
+              ∙ (λ i. option_or (index_of same hashed q) (cond (same (e i) q) (Some (l i)) (get compare m q)))
+              ∙ found_then (same key q) (length ks) (index_of same hashed q) (get compare m q) (nowhere q)
+              ∙ found_new q

@@ -1,27 +1,38 @@
 //! Keys in the order in which they first came, each once.
 //!
-//! A tree beside the list finds a key's index. So a look-up among n keys compares log n of them,
-//! whatever keys somebody picks.
+//! A hash finds the index of each of the first 1024 keys, and a tree those of the others. Its seed is
+//! known, so somebody can pick keys whose hashes collide: then a look-up passes at most these 1024,
+//! and the tree compares log n of n keys, whatever they are.
 #![tactic(auto)]
 
 ghost use Rattle.std.specs.Prelude.{◌≡◌, ◌++◌, ◌∷◌, [], IfOk, IfSome, None, OnErr, OnOk, Some, option_copied, slice_get};
 ghost use Rattle.arrow_core.specs.Errors.{OnlyOutOfMemory};
 ghost use Rattle.first_seen.specs.Keys.{index_of, with_key};
 
+#[cfg(test)]
+mod tests;
+
 use arrow_core::Result;
+use indexmap::IndexSet;
 use std::alloc::Global;
 use std::collections::BTreeMap;
+use std::hash::Hash;
 use std::marker::Model;
+
+/// How many keys a hash finds.
+const HASHED_KEYS: usize = 1024;
 
 /// Keys in the order in which they first came, each once.
 #[derive(Drop)]
-pub struct FirstSeen<K: Ord> {
+pub struct FirstSeen<K: Ord + Hash> {
     keys: Vec<K>,
-    // the index of each key
+    // the first keys, each at its index
+    hashed: IndexSet<K>,
+    // the index of each other key
     indices: BTreeMap<K, usize>,
 }
 
-impl<K: Ord> Model for FirstSeen<K> {
+impl<K: Ord + Hash> Model for FirstSeen<K> {
     ghost use Rattle.std.specs.Prelude.{List};
     ghost use Rattle.std.specs.Coded.{coded_list};
     ghost use Rattle.first_seen.specs.Keys.{Indexed};
@@ -32,16 +43,17 @@ impl<K: Ord> Model for FirstSeen<K> {
 
     ghost view = { λ s. s.keys.items };
 
-    ghost invariant = { λ s. Indexed K.eq K.cmp s.indices s.keys.items };
+    ghost invariant = { λ s. Indexed K.eq K.cmp s.hashed.keys s.indices s.keys.items };
 }
 
-impl<K: Ord + Drop> FirstSeen<K> {
+impl<K: Ord + Hash + Drop> FirstSeen<K> {
     /// No keys. It takes no memory.
     pub fn new(alloc: Global) -> FirstSeen<K>
         ensures { result ≡ [] }
     {
         FirstSeen {
             keys: Vec::new(alloc),
+            hashed: IndexSet::new(alloc),
             indices: BTreeMap::new(alloc),
         }
     }
@@ -65,7 +77,10 @@ impl<K: Ord + Drop> FirstSeen<K> {
     pub fn index_of(&self, key: &K) -> Option<usize>
         ensures { result ≡ index_of K.eq self.now key.now }
     {
-        self.indices.get(key).copied()
+        match self.hashed.get_index_of(key) {
+            Some(index) => Some(index),
+            None => self.indices.get(key).copied(),
+        }
     }
 
     /// The same of a key that mostly stands at `near`, where it is looked for first.
@@ -78,7 +93,7 @@ impl<K: Ord + Drop> FirstSeen<K> {
         }
     }
 
-    /// Puts a key that didn't come behind the others. The tree takes the copy. `OutOfMemory` alone;
+    /// Puts a key that didn't come behind the others. The set or the tree takes the copy. `OutOfMemory` alone;
     /// then the keys stay.
     pub fn push(&mut self, key: K, copy: K) -> Result<()>
         requires absent { index_of K.eq self.old key ≡ None }
@@ -89,13 +104,18 @@ impl<K: Ord + Drop> FirstSeen<K> {
     {
         let index = self.keys.len();
         self.keys.reserve(1)?;
+        if index < HASHED_KEYS {
+            self.hashed.insert(copy)?;
+            self.keys.push_reserved(key);
+            return Ok(());
+        }
         self.indices.insert(copy, index)?;
         self.keys.push_reserved(key);
         Ok(())
     }
 }
 
-impl<K: Ord + Copy> FirstSeen<K> {
+impl<K: Ord + Hash + Copy> FirstSeen<K> {
     /// The index of a key, which goes behind the others where it didn't come. `OutOfMemory` alone;
     /// then the keys stay.
     pub fn add(&mut self, key: K) -> Result<usize>

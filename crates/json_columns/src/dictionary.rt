@@ -19,9 +19,10 @@ use arrow_types::{DataType, IntegerType, Offset};
 use json_flat::{WholeNumber, read_integers, read_strings};
 use json_tree::Value;
 use std::alloc::Global;
+use std::hash::Hash;
 
 /// The keys and the values of the dictionary of integers.
-fn encode_integers<T: WholeNumber + Ord>(
+fn encode_integers<T: WholeNumber + Ord + Hash>(
     alloc: Global,
     key: IntegerType,
     data_type: &DataType,

@@ -17,8 +17,8 @@ fn repeats(alloc: Global, fields: &[Field]) -> Result<bool>
     Ok(!have_distinct_names(alloc, fields)?)
 }
 
-/// Whether a Struct, the type itself or one at any depth beneath it, names a field twice. n names
-/// take n log n comparisons, whatever names somebody picks. `OutOfMemory` alone.
+/// Whether a Struct, the type itself or one at any depth beneath it, names a field twice. Each of n
+/// names takes 1024 + log n comparisons at most, whatever names somebody picks. `OutOfMemory` alone.
 #[cycle(names)]
 pub fn names_twice(alloc: Global, data_type: &DataType) -> Result<bool>
     ensures ok { IfOk result (λ b. b ≡ names_twice_of data_type.now) }

@@ -58,9 +58,9 @@ fn many_are_distinct(alloc: Global, fields: &[Field]) -> Result<bool>
     Ok(true)
 }
 
-/// Whether no two of the fields have the same name. The names of many fields are looked up in a
-/// tree, so that n of them take n log n comparisons, whatever names somebody picks. `OutOfMemory`
-/// alone.
+/// Whether no two of the fields have the same name. The names of many fields are looked up among
+/// those before them, so that each of n names takes 1024 + log n comparisons at most, whatever names
+/// somebody picks. `OutOfMemory` alone.
 pub fn have_distinct_names(alloc: Global, fields: &[Field]) -> Result<bool>
     ensures ok { IfOk result (λ b. b ≡ distinct (names_of fields.now)) }
     ensures memory { OnlyOutOfMemory result }

@@ -19,3 +19,15 @@ returns-in-Utf8-clause-counted c = subst (λ t. OnOk c.encode_utf8.result (TooMa
 
 pub returns-in-LargeUtf8-clause-counted : goal.returns-in-LargeUtf8-clause-counted
 returns-in-LargeUtf8-clause-counted c = subst (λ t. OnOk c.encode_large_utf8.result (TooManyDistinct c.args.key t (lent c.args.values.now) → ⊥)) (sym c.in-LargeUtf8.is) c.encode_large_utf8.ensures.counted
+
+pub returns-in_ok-keys-in-Int8-clause-counted : goal.returns-in_ok-keys-in-Int8-clause-counted
+returns-in_ok-keys-in-Int8-clause-counted c = subst (λ t. TooManyDistinct c.args.key t (lent c.args.values.now) → ⊥) (sym c.in-Int8.is) c.in_ok-keys-in-Int8.ensures.counted
+
+pub returns-in_ok-keys-in-Int16-clause-counted : goal.returns-in_ok-keys-in-Int16-clause-counted
+returns-in_ok-keys-in-Int16-clause-counted c = subst (λ t. TooManyDistinct c.args.key t (lent c.args.values.now) → ⊥) (sym c.in-Int16.is) c.in_ok-keys-in-Int16.ensures.counted
+
+pub returns-in_ok-keys-in-Int32-clause-counted : goal.returns-in_ok-keys-in-Int32-clause-counted
+returns-in_ok-keys-in-Int32-clause-counted c = subst (λ t. TooManyDistinct c.args.key t (lent c.args.values.now) → ⊥) (sym c.in-Int32.is) c.in_ok-keys-in-Int32.ensures.counted
+
+pub returns-in_ok-keys-in-Int64-clause-counted : goal.returns-in_ok-keys-in-Int64-clause-counted
+returns-in_ok-keys-in-Int64-clause-counted c = subst (λ t. TooManyDistinct c.args.key t (lent c.args.values.now) → ⊥) (sym c.in-Int64.is) c.in_ok-keys-in-Int64.ensures.counted
