@@ -1,5 +1,5 @@
 -- The arrays that nested builders give, and when they refuse.
-use Rattle.std.proofs.Common.{◌≡◌, ap, ◌∙◌, sym, subst, inl, inr, ℕ, zero, suc, ◌+◌, ◌-◌, ◌/◌, ◌<◌, ◌≤◌, Bool, ℤ, List, [], ◌∷◌, ◌++◌, map, length, drop, get_or, Option, Some, append_assoc, refl, arith, add-one, Result, Ok, Err, IfOk, IfErr, OnOk}
+use Rattle.std.proofs.Common.{◌≡◌, ap, ◌∙◌, sym, subst, inl, inr, ℕ, zero, suc, ◌+◌, ◌-◌, ◌/◌, ◌<◌, ◌≤◌, Bool, ℤ, pos, List, [], ◌∷◌, ◌++◌, map, length, drop, get_or, Option, Some, append_assoc, refl, arith, add-one, Result, Ok, Err, IfOk, IfErr, OnOk}
 use Rattle.std.specs.Result.{IsErrAnd}
 use Rattle.std.specs.Option.{is_some}
 use Rattle.std.proofs.Math.Seq.{drop-cons}
@@ -12,15 +12,17 @@ use Rattle.arrow_types.specs.declared.types.DataType.{DataType}
 use Rattle.arrow_bitmap.specs.Bits.{Packed}
 use Rattle.arrow_array.specs.FixedLists.{FixedListFits, fixed_list_at, list_size}
 use Rattle.arrow_array.specs.Lists.{ListFits, list_at}
+use Rattle.arrow_array.specs.Offsets.{offset_at}
 use Rattle.arrow_array.specs.Parts.{IsRefusalOf}
 use Rattle.arrow_array.specs.Slots.{slots_of}
 use Rattle.arrow_builders.specs.Children.{AllFit}
 use Rattle.arrow_flat.specs.Builders.{slots_where}
 use Rattle.arrow_builders.specs.Fits.{ChildrenFit, ListsFit, FixedListsFit}
+use Rattle.arrow_flat.specs.Normalized.{AreNormalized}
 use Rattle.arrow_flat.specs.Nested.{items_of, lists_from, offsets_of, fixed_list_slot}
 use Rattle.arrow_builders.specs.declared.array.MutableArray.{MutableArray}
 use Rattle.arrow_builders.proofs.ListFits.{list_parts, parts_reach}
-use Rattle.arrow_flat.proofs.ListOffsets.{length-offsets}
+use Rattle.arrow_flat.proofs.ListOffsets.{last_offset, length-offsets}
 use Rattle.arrow_builders.proofs.NestedSlots.{lists-array, fixed_lists-array}
 use Rattle.arrow_builders.proofs.OtherFits.{fixed_parts, fixed_fit}
 
@@ -68,6 +70,14 @@ module _ (is_large : Bool) (t u item other : DataType) (ls : List (Option ℕ)) 
   same_lists h =
       let m : n - 1 ≡ length ls = omega (arith, ne, ap length oe, length-offsets ls) in
       rw (oe, ye) (lists-array ls xs v (n - 1) (parts_reach is_large t item ls xs v (plain_parts h)) ve m)
+
+-- lists that have as many items as there are begin at the first and end with the last
+pub lists_normalized : {A : Type 0} (offsets : A → List ℤ) (items : A → List Slot) (r : Result A Error) (os : List ℤ) (ls : List (Option ℕ)) (ys xs : List Slot) → os ≡ offsets_of ls → ys ≡ xs → length xs ≡ items_of ls → IfOk r (λ a. offsets a ≡ os) → IfOk r (λ a. items a ≡ ys) → IfOk r (λ a. AreNormalized (offsets a) (length (items a)))
+lists_normalized offsets items (Ok a) os ls ys xs oe ye t h k =
+    let m : length (offsets_of ls) - 1 ≡ length ls = omega (arith, length-offsets ls) in
+    let all : AreNormalized (offsets_of ls) (items_of ls) = record { first = refl; last = ap (λ (k : ℕ). offset_at (offsets_of ls) k) m ∙ last_offset ls (pos 0) } in
+    subst (λ (zs : List ℤ). AreNormalized zs (length (items a))) (sym (h ∙ oe)) (subst (AreNormalized (offsets_of ls)) (sym (ap length (k ∙ ye) ∙ t)) all)
+lists_normalized offsets items (Err e) os ls ys xs oe ye t h k = tt
 
 -- ---- fixed-size lists
 

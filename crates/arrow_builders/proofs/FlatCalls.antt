@@ -11,13 +11,16 @@ use Rattle.arrow_types.specs.declared.slot.Slot.TheVariants as slot
 use Rattle.arrow_types.specs.declared.types.DataType.{DataType}
 use Rattle.arrow_types.specs.declared.physical.PhysicalType.TheVariants as physical
 use Rattle.arrow_types.specs.declared.physical.PrimitiveType.TheVariants as primitive
+use Rattle.arrow_array.specs.Arrays.{array_type, array_slots, dictionaries_of}
 use Rattle.arrow_array.specs.Parts.{byte_width}
+use Rattle.arrow_array.specs.declared.array.Array.{Array}
 use Rattle.arrow_flat.specs.Builders.{PlainBuilder, ContentBuilder, plain_node, content_node}
 use Rattle.arrow_flat.specs.Dictionaries.{dictionary_node}
 use Rattle.arrow_flat.specs.Nodes.{Node, KeepsCapacity, Takes, NoLessSpare, Emptied, HasSpare, IsEmpty}
 use Rattle.arrow_builders.specs.Calls.{PushesNull, Reserves, Clears, Boxes}
 use Rattle.arrow_builders.specs.Fits.{ChildrenFit}
-use Rattle.arrow_builders.specs.MutableArrays.{builder_type, builder_slots, nodes, slots_at}
+use Rattle.arrow_builders.specs.MutableArrays.{builder_type, builder_slots, builder_dictionaries, nodes, slots_at}
+use Rattle.arrow_builders.specs.NormalizedArrays.{IsNormalized}
 use Rattle.arrow_builders.specs.Shapes.{flat, dictionary, shape, Added, nulls_at, AllAdded, AllGetNulls, FitsIn, BytesFitIn}
 use Rattle.arrow_builders.specs.declared.array.MutableArray.{MutableArray}
 use Rattle.arrow_builders.specs.declared.array.MutableArray.{Null, Boolean, Int8, Int16, Int32, Int64, UInt8, UInt16, UInt32, UInt64, Int128, MonthDayNano, Utf8, LargeUtf8, Binary, LargeBinary, FixedSizeBinary, Dictionary}
@@ -132,23 +135,27 @@ module _ {B : Type 0} {wrap : B → MutableArray} {node : B → Node} {slots : B
   flat_clears h = record { same_shape = kind.shapes_are b c same; capacity = both_nodes (AllZip Emptied) (h, tt) }
 
   -- the array that was made
-  pub flat_boxed : {A : Type 0} (type_of : A → DataType) (slots_of : A → List Slot) (a : A) → type_of a ≡ builder_type (wrap b) → slots_of a ≡ slots b → slots c ≡ [] → (node c).bytes ≡ 0 → Boxes type_of slots_of (wrap b) (wrap c) (Ok a)
-  flat_boxed type_of slots_of a t s e z = record {
+  pub flat_boxed : (a : Array) → array_type a ≡ builder_type (wrap b) → array_slots a ≡ slots b → dictionaries_of a ≡ builder_dictionaries (wrap b) → IsNormalized a → slots c ≡ [] → (node c).bytes ≡ 0 → Boxes (λ (x : Array). x) (wrap b) (wrap c) (Ok a)
+  flat_boxed a t s d n e z = record {
     same_shape = kind.shapes_are b c same;
     same_type = t;
     same_slots = s ∙ sym (kind.slots_are b);
+    same_dictionaries = d;
+    normalized = λ _. n;
     emptied = all_of IsEmpty (record { slots = kind.counts c ∙ ap length e; bytes = z });
     fits = kind.fits b;
     err = tt;
   }
 
   -- an error that is handed on
-  pub flat_unboxed : {A : Type 0} (type_of : A → DataType) (slots_of : A → List Slot) (e : Error) (r : Result A Error) → e ≡ OutOfMemory → IsErrAnd r (λ x. x ≡ e) → Boxes type_of slots_of (wrap b) (wrap c) r
-  flat_unboxed type_of slots_of e (Ok a) m h = absurd h
-  flat_unboxed type_of slots_of e (Err x) m h = record {
+  pub flat_unboxed : (e : Error) (r : Result Array Error) → e ≡ OutOfMemory → IsErrAnd r (λ x. x ≡ e) → Boxes (λ (x : Array). x) (wrap b) (wrap c) r
+  flat_unboxed e (Ok a) m h = absurd h
+  flat_unboxed e (Err x) m h = record {
     same_shape = kind.shapes_are b c same;
     same_type = tt;
     same_slots = tt;
+    same_dictionaries = tt;
+    normalized = λ _. tt;
     emptied = tt;
     fits = tt;
     err = inl (h ∙ m);
@@ -215,3 +222,7 @@ sized_null b c same r s l ks kl k m p has =
     flat_null fixed_size_binary b c same r s (on_ok (c.bytes ≡ b.bytes + w) (c.bytes ≡ b.bytes + 1 * w) r (λ e. omega (arith, e)) l)
     ks kl (on_err (w ≤ b.byte_spare → c ≡ b) (1 * w ≤ b.byte_spare → c ≡ b) r (λ f h. f (omega (arith, h))) k)
     m p (λ f g. has f (omega (arith, g)))
+
+-- the one dictionary of an array, by its slots and the slots of its values
+pub one_dictionary : (s t i j : List Slot) → s ≡ t → i ≡ j → ◌≡◌ {A = List (List Slot × List Slot)} ((s, i) ∷ []) ((t, j) ∷ [])
+one_dictionary s t i j e d = λ k. (e k, d k) ∷ []

@@ -1,5 +1,5 @@
 -- What calls do to a builder with children, by what they do to its first node and to those beneath.
-use Rattle.std.proofs.Common.{◌≡◌, ◌∙◌, ℕ, ◌+◌, ◌≤◌, Bool, false, List, [], ◌∷◌, ◌++◌, map, All, Option, None, Result, Ok, Err, IfOk, IfErr, OnOk, OnErr, IsOk, refl, sym, ap, subst, arith}
+use Rattle.std.proofs.Common.{◌≡◌, ◌∙◌, ℕ, ◌+◌, ◌≤◌, Bool, false, List, [], ◌∷◌, ◌++◌, length, map, All, Option, None, Result, Ok, Err, IfOk, IfErr, OnOk, OnErr, IsOk, refl, sym, ap, subst, arith}
 use Rattle.std.specs.List.{AllZip}
 use Rattle.std.specs.Result.{IsErrAnd}
 use Rattle.std.proofs.lemmas.List.Elements.{All-cons}
@@ -9,6 +9,7 @@ use Rattle.arrow_types.specs.declared.slot.Slot.{Slot}
 use Rattle.arrow_types.specs.declared.slot.Slot.TheVariants as slot
 use Rattle.arrow_types.specs.declared.types.DataType.{DataType}
 use Rattle.arrow_types.specs.declared.physical.PhysicalType.{PhysicalType}
+use Rattle.arrow_array.specs.Arrays.{all_dictionaries, dictionaries_of}
 use Rattle.arrow_array.specs.FixedLists.{list_size}
 use Rattle.arrow_array.specs.Parts.{IsRefusalOf}
 use Rattle.arrow_array.specs.declared.array.Array.{Array}
@@ -17,9 +18,9 @@ use Rattle.arrow_flat.specs.Nested.{ListMarks, Marks, lists_node, marks_node, li
 use Rattle.arrow_flat.specs.Nodes.{Node, KeepsCapacity, Takes, NoLessSpare, Emptied, HasSpare}
 use Rattle.arrow_flat.proofs.ListOffsets.{lists-push}
 use Rattle.arrow_builders.specs.Calls.{PushesNulls, PushesNull, AllPushNull, Reserves, AllReserve, Clears, Boxes, AllBox}
-use Rattle.arrow_builders.specs.Children.{all_nodes, all_nulls, all_slots, AllFit}
+use Rattle.arrow_builders.specs.Children.{all_nodes, all_nulls, all_slots, builders_dictionaries, AllFit}
 use Rattle.arrow_builders.specs.Fits.{ChildrenFit}
-use Rattle.arrow_builders.specs.MutableArrays.{builder_slots, nodes, slots_at}
+use Rattle.arrow_builders.specs.MutableArrays.{builder_slots, builder_dictionaries, nodes, slots_at}
 use Rattle.arrow_builders.specs.Shapes.{Shape, lists, fixed_lists, shape, Added, nulls_in, nulls_at, AllAdded, AllTake, AllGetNulls, AllGetBytes, FitsIn, IsFlat}
 use Rattle.arrow_builders.specs.declared.structs.DynMutableStructArray.{DynMutableStructArray}
 use Rattle.arrow_builders.specs.declared.array.MutableArray.{MutableArray, Struct}
@@ -40,11 +41,11 @@ nested_null b c (Ok u) n h = record { nulls = h; refused = tt; refused_capacity 
 nested_null b c (Err e) n h = record { nulls = h; refused = λ f. absurd (n f); refused_capacity = λ f. absurd (n f); err = λ f. absurd (n f) }
 
 -- an array of a kind as one of any kind
-pub boxed_as : {A B : Type 0} (f : A → DataType) (g : A → List Slot) (p : B → DataType) (q : B → List Slot) (b c : MutableArray) (a : A) (x : B) → p x ≡ f a → q x ≡ g a → Boxes f g b c (Ok a) → Boxes p q b c (Ok x)
-boxed_as f g p q b c a x t s h = record { same_shape = h.same_shape; same_type = t ∙ h.same_type; same_slots = s ∙ h.same_slots; emptied = h.emptied; fits = h.fits; err = tt }
+pub boxed_as : {A : Type 0} (array_of : A → Array) (b c : MutableArray) (a : A) → Boxes array_of b c (Ok a) → Boxes (λ (x : Array). x) b c (Ok (array_of a))
+boxed_as array_of b c a h = record { same_shape = h.same_shape; same_type = h.same_type; same_slots = h.same_slots; same_dictionaries = h.same_dictionaries; normalized = h.normalized; emptied = h.emptied; fits = h.fits; err = tt }
 
-pub refused_as : {A B : Type 0} (f : A → DataType) (g : A → List Slot) (p : B → DataType) (q : B → List Slot) (b c : MutableArray) (e : Error) → Boxes f g b c (Err e) → Boxes p q b c (Err e)
-refused_as f g p q b c e h = record { same_shape = h.same_shape; same_type = tt; same_slots = tt; emptied = tt; fits = tt; err = h.err }
+pub refused_as : {A : Type 0} (array_of : A → Array) (b c : MutableArray) (e : Error) → Boxes array_of b c (Err e) → Boxes (λ (x : Array). x) b c (Err e)
+refused_as array_of b c e h = record { same_shape = h.same_shape; same_type = tt; same_slots = tt; same_dictionaries = tt; normalized = λ _. tt; emptied = tt; fits = tt; err = h.err }
 
 pub lists_same : (k : PhysicalType) (t u : DataType) (s z : Shape) → u ≡ t → z ≡ s → lists k u z ≡ lists k t s
 lists_same k t u s z e d = ap (λ (v : DataType). lists k v z) e ∙ ap (lists k t) d
@@ -181,15 +182,35 @@ all_refuse_null bs cs e (Err z) h m s t bad = record { shapes = s; slots = tt; b
 -- ---- arrays
 
 -- an error that is handed on
-pub unboxed : {A : Type 0} (f : A → DataType) (g : A → List Slot) (b c : MutableArray) (e : Error) (r : Result A Error) → IsErrAnd r (λ z. z ≡ e) → shape c ≡ shape b → IsRefusalOf (ChildrenFit b) e → Boxes f g b c r
-unboxed f g b c e (Ok a) h s q = absurd h
-unboxed f g b c e (Err z) h s q = record { same_shape = s; same_type = tt; same_slots = tt; emptied = tt; fits = tt; err = subst (IsRefusalOf (ChildrenFit b)) (sym h) q }
+pub unboxed : {A : Type 0} (array_of : A → Array) (b c : MutableArray) (e : Error) (r : Result A Error) → IsErrAnd r (λ z. z ≡ e) → shape c ≡ shape b → IsRefusalOf (ChildrenFit b) e → Boxes array_of b c r
+unboxed array_of b c e (Ok a) h s q = absurd h
+unboxed array_of b c e (Err z) h s q = record { same_shape = s; same_type = tt; same_slots = tt; same_dictionaries = tt; normalized = λ _. tt; emptied = tt; fits = tt; err = subst (IsRefusalOf (ChildrenFit b)) (sym h) q }
 
 pub all_unboxed : {V : Type 0} (arrays_of : V → List Array) (bs cs : List MutableArray) (e : Error) (r : Result V Error) → IsErrAnd r (λ z. z ≡ e) → map shape cs ≡ map shape bs → IsRefusalOf (AllFit bs) e → AllBox arrays_of bs cs r
 all_unboxed arrays_of bs cs e (Ok v) h s q = absurd h
-all_unboxed arrays_of bs cs e (Err z) h s q = record { shapes = s; types = tt; slots = tt; emptied = tt; fits = tt; err = subst (IsRefusalOf (AllFit bs)) (sym h) q }
+all_unboxed arrays_of bs cs e (Err z) h s q = record { shapes = s; types = tt; slots = tt; dictionaries = tt; emptied = tt; fits = tt; err = subst (IsRefusalOf (AllFit bs)) (sym h) q }
 
--- what is known of an array's type, told of an equal type
-pub typed : {A : Type 0} (f : A → DataType) (r : Result A Error) (t u : DataType) → IfOk r (λ a. f a ≡ t) → t ≡ u → IfOk r (λ a. f a ≡ u)
-typed f (Ok a) t u h e = h ∙ e
-typed f (Err z) t u h e = tt
+-- what is known of an array, told of what equals it
+pub shown : {A X : Type 0} (f : A → X) (r : Result A Error) (t u : X) → IfOk r (λ a. f a ≡ t) → t ≡ u → IfOk r (λ a. f a ≡ u)
+shown f (Ok a) t u h e = h ∙ e
+shown f (Err z) t u h e = tt
+
+-- an array of a kind without offsets
+pub no_offsets : {A : Type 0} (r : Result A Error) → IfOk r (λ a. Unit {0})
+no_offsets (Ok a) = tt
+no_offsets (Err z) = tt
+
+-- the dictionaries of arrays, by those of each
+pub values_are : (xs : List Array) (bs : List MutableArray) → map dictionaries_of xs ≡ map builder_dictionaries bs → all_dictionaries xs ≡ builders_dictionaries bs
+values_are [] [] e = refl
+values_are [] (b ∷ bs) e = absurd (omega (arith, ap length e))
+values_are (x ∷ xs) [] e = absurd (omega (arith, ap length e))
+values_are (x ∷ xs) (b ∷ bs) e =
+    ap (λ d. d ++ all_dictionaries xs) (heads (dictionaries_of x) (builder_dictionaries b) (map dictionaries_of xs) (map builder_dictionaries bs) e)
+    ∙ ap (λ ds. builder_dictionaries b ++ ds) (values_are xs bs (tails (dictionaries_of x) (builder_dictionaries b) (map dictionaries_of xs) (map builder_dictionaries bs) e))
+  where
+    heads : {X : Type 0} (x y : X) (xs ys : List X) → x ∷ xs ≡ y ∷ ys → x ≡ y
+    heads x y xs ys e = cc
+
+    tails : {X : Type 0} (x y : X) (xs ys : List X) → x ∷ xs ≡ y ∷ ys → xs ≡ ys
+    tails x y xs ys e = cc

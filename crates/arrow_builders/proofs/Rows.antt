@@ -7,9 +7,9 @@ use Rattle.arrow_types.specs.declared.slot.Slot.{Slot}
 use Rattle.arrow_types.specs.declared.types.DataType.{DataType}
 use Rattle.arrow_array.specs.Structs.{record_at}
 use Rattle.arrow_flat.specs.Builders.{slots_where}
-use Rattle.arrow_builders.specs.Children.{all_nodes, all_slots, fields_of, AllFit}
+use Rattle.arrow_builders.specs.Children.{all_nodes, all_slots, builders_dictionaries, fields_of, AllFit}
 use Rattle.arrow_builders.specs.Fits.{ChildrenFit, FitBelow, RecordsFit}
-use Rattle.arrow_builders.specs.MutableArrays.{builder_type, builder_slots, slots_below, nodes, nodes_below, slots_at, slots_at_below, types_below}
+use Rattle.arrow_builders.specs.MutableArrays.{builder_type, builder_slots, slots_below, nodes, nodes_below, slots_at, slots_at_below, types_below, builder_dictionaries, dictionaries_below}
 use Rattle.arrow_flat.specs.Nested.{marks_node}
 use Rattle.arrow_flat.specs.Nodes.{Node}
 use Rattle.arrow_builders.specs.Shapes.{records, field, shape, shapes_below}
@@ -37,6 +37,10 @@ slots_at-row : (n : _) (row : Row_of-MutableArray n) → slots_at_below row ≡ 
 slots_at-row n end_of-MutableArray = refl
 slots_at-row n (more_of-MutableArray b rest) = ap (λ (xs : List (List Slot)). slots_at b ++ xs) (slots_at-row _ rest)
 
+dictionaries-row : (n : _) (row : Row_of-MutableArray n) → dictionaries_below row ≡ builders_dictionaries (items-the_row-MutableArray n row)
+dictionaries-row n end_of-MutableArray = refl
+dictionaries-row n (more_of-MutableArray b rest) = ap (λ (ds : List (List Slot × List Slot)). builder_dictionaries b ++ ds) (dictionaries-row _ rest)
+
 shapes-row : (n : _) (row : Row_of-MutableArray n) → shapes_below row ≡ fields_of (map shape (items-the_row-MutableArray n row))
 shapes-row n end_of-MutableArray = refl
 shapes-row n (more_of-MutableArray b rest) = ap (field (shape b)) (shapes-row _ rest)
@@ -63,6 +67,11 @@ pub slots_at-record : (b : DynMutableStructArray) → slots_at (Struct b) ≡ bu
 slots_at-record b =
     let row = row_of (Struct b) in
     ap (λ (xs : List (List Slot)). builder_slots (Struct b) ∷ xs) (slots_at-row row.0 row.1 ∙ ap all_slots (items_hidden-the_row-MutableArray-0 b.values))
+
+pub dictionaries-record : (b : DynMutableStructArray) → builder_dictionaries (Struct b) ≡ builders_dictionaries b.values.items
+dictionaries-record b =
+    let row = row_of (Struct b) in
+    dictionaries-row row.0 row.1 ∙ ap builders_dictionaries (items_hidden-the_row-MutableArray-0 b.values)
 
 pub shape-record : (b : DynMutableStructArray) → shape (Struct b) ≡ records b.marks.data_type (fields_of (map shape b.values.items))
 shape-record b =

@@ -4,17 +4,17 @@ use Rattle.std.specs.Prelude.{◌≡◌, ℕ, ◌++◌, ◌∷◌, [], List, map
 use Rattle.std.specs.List.{AllZip}
 use Rattle.arrow_core.specs.declared.error.Error.{Error}
 use Rattle.arrow_core.specs.Errors.{OnlyOutOfMemory}
-use Rattle.arrow_types.specs.declared.slot.Slot.{Slot}
 use Rattle.arrow_types.specs.declared.slot.Slot.TheVariants as slot
-use Rattle.arrow_types.specs.declared.types.DataType.{DataType}
-use Rattle.arrow_array.specs.Arrays.{array_type, array_slots}
+use Rattle.arrow_array.specs.Arrays.{array_type, array_slots, dictionaries_of}
 use Rattle.arrow_array.specs.Parts.{IsRefusalOf}
 use Rattle.arrow_array.specs.declared.array.Array.{Array}
 use Rattle.arrow_flat.specs.Nodes.{NoLessSpare, Emptied, HasSpare, IsEmpty}
 use Rattle.arrow_builders.specs.Children.{all_nodes, all_nulls, all_slots, AllFit}
 use Rattle.arrow_builders.specs.Fits.{ChildrenFit}
-use Rattle.arrow_builders.specs.MutableArrays.{builder_type, builder_slots, nodes, slots_at}
+use Rattle.arrow_builders.specs.MutableArrays.{builder_type, builder_slots, builder_dictionaries, nodes, slots_at}
+use Rattle.arrow_builders.specs.NormalizedArrays.{IsNormalized}
 use Rattle.arrow_builders.specs.Shapes.{shape, nulls_at, AllTake, AllGetNulls, AllGetBytes, FitsIn, BytesFitIn, IsFlat}
+use Rattle.arrow_builders.specs.Tight.{IsTight}
 use Rattle.arrow_builders.specs.declared.array.MutableArray.{MutableArray}
 
 -- n nulls are asked for
@@ -68,11 +68,13 @@ pub record AllClear (bs cs : List MutableArray) : Type 0 where
   pub shapes : map shape cs ≡ map shape bs
   pub capacity : AllZip Emptied (all_nodes bs) (all_nodes cs)
 
--- the array is asked for, of which these are the type and the slots
-pub record Boxes {A : Type 0} (type_of : A → DataType) (slots_of : A → List Slot) (b c : MutableArray) (r : Result A Error) : Type 0 where
+-- the array is asked for, of one kind or of any
+pub record Boxes {A : Type 0} (array_of : A → Array) (b c : MutableArray) (r : Result A Error) : Type 0 where
   pub same_shape : shape c ≡ shape b
-  pub same_type : IfOk r (λ a. type_of a ≡ builder_type b)
-  pub same_slots : IfOk r (λ a. slots_of a ≡ builder_slots b)
+  pub same_type : IfOk r (λ a. array_type (array_of a) ≡ builder_type b)
+  pub same_slots : IfOk r (λ a. array_slots (array_of a) ≡ builder_slots b)
+  pub same_dictionaries : IfOk r (λ a. dictionaries_of (array_of a) ≡ builder_dictionaries b)
+  pub normalized : IsTight b → IfOk r (λ a. IsNormalized (array_of a))
   pub emptied : OnOk r (All IsEmpty (nodes c))
   pub fits : OnOk r (ChildrenFit b)
   pub err : IfErr r (IsRefusalOf (ChildrenFit b))
@@ -82,6 +84,7 @@ pub record AllBox {V : Type 0} (arrays_of : V → List Array) (bs cs : List Muta
   pub shapes : map shape cs ≡ map shape bs
   pub types : IfOk r (λ v. map array_type (arrays_of v) ≡ map builder_type bs)
   pub slots : IfOk r (λ v. map array_slots (arrays_of v) ≡ map builder_slots bs)
+  pub dictionaries : IfOk r (λ v. map dictionaries_of (arrays_of v) ≡ map builder_dictionaries bs)
   pub emptied : OnOk r (All IsEmpty (all_nodes cs))
   pub fits : OnOk r (AllFit bs)
   pub err : IfErr r (IsRefusalOf (AllFit bs))

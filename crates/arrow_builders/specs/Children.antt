@@ -2,7 +2,7 @@
 use Rattle.std.specs.Prelude.{ℕ, List, [], ◌∷◌, ◌++◌, map}
 use Rattle.arrow_types.specs.declared.slot.Slot.{Slot}
 use Rattle.arrow_builders.specs.Fits.{ChildrenFit}
-use Rattle.arrow_builders.specs.MutableArrays.{nodes, slots_at}
+use Rattle.arrow_builders.specs.MutableArrays.{builder_dictionaries, nodes, slots_at}
 use Rattle.arrow_flat.specs.Nodes.{Node}
 use Rattle.arrow_builders.specs.Shapes.{Added, Shape, no_field, field, shape, nulls_in}
 use Rattle.arrow_builders.specs.declared.array.MutableArray.{MutableArray}
@@ -16,6 +16,11 @@ all_nodes (b ∷ bs) = nodes b ++ all_nodes bs
 abbrev pub all_slots : List MutableArray → List (List Slot)
 all_slots [] = []
 all_slots (b ∷ bs) = slots_at b ++ all_slots bs
+
+-- the dictionaries of each, one builder's after another
+abbrev pub builders_dictionaries : List MutableArray → List (List Slot × List Slot)
+builders_dictionaries [] = []
+builders_dictionaries (b ∷ bs) = builder_dictionaries b ++ builders_dictionaries bs
 
 -- the shapes of a struct's children
 abbrev pub fields_of : List Shape → Shape

@@ -2,6 +2,7 @@ pub use Rattle.arrow_flat.specs.Builders
 pub use Rattle.arrow_flat.specs.Dictionaries
 pub use Rattle.arrow_flat.specs.Nested
 pub use Rattle.arrow_flat.specs.Nodes
+pub use Rattle.arrow_flat.specs.Normalized
 pub mod Calls
 pub mod Children
 pub mod Fits
@@ -9,5 +10,6 @@ pub mod FixedContent
 pub mod Found
 pub mod Lending
 pub mod MutableArrays
+pub mod NormalizedArrays
 pub mod Shapes
 pub mod Tight

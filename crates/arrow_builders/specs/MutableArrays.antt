@@ -139,6 +139,20 @@ abbrev mutual
   slots_at_below end_of-MutableArray = []
   slots_at_below (more_of-MutableArray b rest) = slots_at b ++ slots_at_below rest
 
+-- the dictionaries at every depth, in the order of the fields: of each its slots, and the slots of its values
+abbrev mutual
+  pub builder_dictionaries : MutableArray → List (List Slot × List Slot)
+  builder_dictionaries (List' lists p child) = builder_dictionaries child
+  builder_dictionaries (LargeList' lists p child) = builder_dictionaries child
+  builder_dictionaries (FixedSizeList' marks p child) = builder_dictionaries child
+  builder_dictionaries (Struct' marks size row) = dictionaries_below row
+  builder_dictionaries (Dictionary b) = (b.slots, b.items) ∷ []
+  builder_dictionaries b = []
+
+  pub dictionaries_below : {m : _} → Row_of-MutableArray m → List (List Slot × List Slot)
+  dictionaries_below end_of-MutableArray = []
+  dictionaries_below (more_of-MutableArray b rest) = builder_dictionaries b ++ dictionaries_below rest
+
 -- the types of a struct's children
 abbrev pub types_below : {m : _} → Row_of-MutableArray m → List DataType
 types_below end_of-MutableArray = []

@@ -6,13 +6,14 @@ ghost use Rattle.arrow_core.specs.Errors.{OnlyOutOfMemory};
 ghost use Rattle.arrow_core.specs.declared.error.Error.TheVariants.{OutOfMemory};
 ghost use Rattle.arrow_types.specs.Layouts.{physical_type};
 ghost use Rattle.arrow_types.specs.declared.slot.Slot.TheVariants.{Null as NullSlot};
-ghost use Rattle.arrow_array.specs.Arrays.{array_type, array_slots};
+ghost use Rattle.arrow_array.specs.Arrays.{array_type, array_slots, dictionaries_of};
 ghost use Rattle.arrow_array.specs.Parts.{IsRefusalOf, is_extension};
 ghost use Rattle.arrow_flat.specs.Nodes.{NoLessSpare, Emptied, HasSpare, IsEmpty};
 ghost use Rattle.arrow_builders.specs.Calls.{PushesNull};
 ghost use Rattle.arrow_builders.specs.Fits.{ChildrenFit, TypesFit};
 ghost use Rattle.arrow_builders.specs.FixedContent.{HasFixedContent};
-ghost use Rattle.arrow_builders.specs.MutableArrays.{builder_type, builder_slots, builder_kind, nodes, lengths_of, slots_at};
+ghost use Rattle.arrow_builders.specs.MutableArrays.{builder_type, builder_slots, builder_dictionaries, builder_kind, nodes, lengths_of, slots_at};
+ghost use Rattle.arrow_builders.specs.NormalizedArrays.{IsNormalized};
 ghost use Rattle.arrow_builders.specs.Shapes.{shape, nulls_at, AllTake, AllGetNulls, AllGetBytes, FitsIn, BytesFitIn, IsFlat};
 ghost use Rattle.arrow_builders.specs.Tight.{IsTight};
 
@@ -239,6 +240,10 @@ impl MutableArray {
 
     /// The array of the slots, over the builder's buffers. The builder is then empty.
     ///
+    /// Each dictionary has the values that its builder was made with. Where each child has exactly
+    /// the slots that its lists reach, the array's offsets begin at 0, and nothing lies past the
+    /// last.
+    ///
     /// `InvalidArgumentError(ArrayParts)` where its children, which it lent out, no longer fit its
     /// type or its length. `OutOfMemory`. After either the builder may have lost its slots: it
     /// takes only `node_lengths`, `clear` and drop.
@@ -248,6 +253,9 @@ impl MutableArray {
         ensures data_type { builder_type self.new ≡ builder_type self.old }
         ensures array_type { IfOk result (λ a. array_type a ≡ builder_type self.old) }
         ensures array_slots { IfOk result (λ a. array_slots a ≡ builder_slots self.old) }
+        ensures dictionaries { IfOk result
+            (λ a. dictionaries_of a ≡ builder_dictionaries self.old) }
+        ensures normalized { IsTight self.old → IfOk result IsNormalized }
         ensures slots { OnOk result (builder_slots self.new ≡ []) }
         ensures tight { OnOk result (IsTight self.new) }
         ensures emptied { OnOk result (All IsEmpty (nodes self.new)) }

@@ -1,7 +1,7 @@
 //! What a builder of any kind does at each of its nodes.
 
 ghost use Rattle.std.specs.Prelude.{◌≡◌};
-ghost use Rattle.arrow_array.specs.Arrays.{array_type, array_slots};
+ghost use Rattle.arrow_array.specs.declared.array.Array.{Array as AnyArray};
 ghost use Rattle.arrow_builders.specs.Calls.{Boxes, Clears, PushesNull, Reserves};
 ghost use Rattle.arrow_builders.specs.Found.{found_at};
 ghost use Rattle.arrow_builders.specs.MutableArrays.{nodes};
@@ -72,7 +72,7 @@ impl MutableArray {
     /// `as_box`, with the arrays of the children.
     #[cycle(boxes)]
     pub(crate) fn box_nodes(&mut self) -> Result<Array>
-        ensures { Boxes array_type array_slots self.old self.new result }
+        ensures { Boxes (λ (a : AnyArray). a) self.old self.new result }
     {
         match self {
             MutableArray::List(builder) => match builder.as_box() {

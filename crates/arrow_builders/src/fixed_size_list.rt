@@ -6,6 +6,7 @@ ghost use Rattle.arrow_core.specs.Errors.{OnlyOutOfMemory};
 ghost use Rattle.arrow_core.specs.declared.error.Error.TheVariants.{OutOfMemory};
 ghost use Rattle.arrow_types.specs.declared.slot.Slot.TheVariants.{List as ListSlot};
 ghost use Rattle.arrow_array.specs.FixedLists.{list_size};
+ghost use Rattle.arrow_array.specs.declared.array.Array.TheVariants.{FixedSizeList as ArrayOf};
 ghost use Rattle.arrow_builders.specs.Calls.{Boxes, Clears, PushesNulls, Reserves};
 ghost use Rattle.arrow_builders.specs.FixedContent.{HasFixedContent};
 ghost use Rattle.arrow_builders.specs.Found.{found_at};
@@ -171,8 +172,7 @@ impl MutableFixedSizeListArray {
     /// The array of the slots. The builder and its child are then empty.
     #[cycle(boxes)]
     pub(crate) fn as_box(&mut self) -> Result<FixedSizeListArray>
-        ensures { Boxes (λ a. a.data_type) (λ a. a.slots)
-            (FixedSizeList self.old) (FixedSizeList self.new) result }
+        ensures { Boxes ArrayOf (FixedSizeList self.old) (FixedSizeList self.new) result }
     {
         let alloc = self.marks.alloc();
         let values = self.values.box_nodes()?;

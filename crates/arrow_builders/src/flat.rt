@@ -1,7 +1,7 @@
 //! What a builder of any kind without children does.
 
 ghost use Rattle.std.specs.Prelude.{◌≡◌, ◌∷◌, [], map};
-ghost use Rattle.arrow_array.specs.Arrays.{array_type, array_slots};
+ghost use Rattle.arrow_array.specs.declared.array.Array.{Array as AnyArray};
 ghost use Rattle.arrow_builders.specs.Calls.{Boxes, Clears, PushesNull, Reserves};
 ghost use Rattle.arrow_builders.specs.MutableArrays.{nodes, lengths_of};
 ghost use Rattle.arrow_builders.specs.Shapes.{IsFlat};
@@ -77,7 +77,7 @@ impl MutableArray {
     /// The array of the slots. The builder is then empty.
     pub(crate) fn box_flat(&mut self) -> Result<Array>
         requires { IsFlat self.old }
-        ensures { Boxes array_type array_slots self.old self.new result }
+        ensures { Boxes (λ (a : AnyArray). a) self.old self.new result }
     {
         match self {
             MutableArray::Null(builder) => Ok(Array::Null(builder.as_box()?)),

@@ -6,6 +6,7 @@ ghost use Rattle.arrow_core.specs.Errors.{OnlyOutOfMemory};
 ghost use Rattle.arrow_core.specs.declared.error.Error.TheVariants.{OutOfMemory, Overflow};
 ghost use Rattle.arrow_types.specs.Numbers.{greatest_offset};
 ghost use Rattle.arrow_types.specs.declared.slot.Slot.TheVariants.{List as ListSlot};
+ghost use Rattle.arrow_array.specs.declared.array.Array.TheVariants.{List as ArrayOf};
 ghost use Rattle.arrow_builders.specs.Calls.{Boxes, Clears, PushesNulls, Reserves};
 ghost use Rattle.arrow_builders.specs.FixedContent.{HasFixedContent};
 ghost use Rattle.arrow_builders.specs.Found.{found_at};
@@ -157,7 +158,7 @@ impl DynMutableListArray {
     /// The array of the slots. The builder and its child are then empty.
     #[cycle(boxes)]
     pub(crate) fn as_box(&mut self) -> Result<ListArray>
-        ensures { Boxes (λ a. a.data_type) (λ a. a.slots) (List self.old) (List self.new) result }
+        ensures { Boxes ArrayOf (List self.old) (List self.new) result }
     {
         let alloc = self.lists.alloc();
         let values = self.values.box_nodes()?;

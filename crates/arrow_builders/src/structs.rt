@@ -5,6 +5,7 @@ ghost use Rattle.std.specs.Borrow.{sem};
 ghost use Rattle.arrow_core.specs.Errors.{OnlyOutOfMemory};
 ghost use Rattle.arrow_core.specs.declared.error.Error.TheVariants.{OutOfMemory};
 ghost use Rattle.arrow_array.specs.Structs.{record_at};
+ghost use Rattle.arrow_array.specs.declared.array.Array.TheVariants.{Struct as ArrayOf};
 ghost use Rattle.arrow_builders.specs.Calls.{AllBox, AllClear, AllPushNull, AllReserve, Boxes, Clears, PushesNulls, Reserves};
 ghost use Rattle.arrow_builders.specs.Children.{all_nodes};
 ghost use Rattle.arrow_builders.specs.FixedContent.{HasFixedContent};
@@ -151,8 +152,7 @@ impl DynMutableStructArray {
     /// The array of the slots. The builder and its children are then empty.
     #[cycle(boxes)]
     pub(crate) fn as_box(&mut self) -> Result<StructArray>
-        ensures { Boxes (λ a. a.data_type) (λ a. a.slots)
-            (Struct self.old) (Struct self.new) result }
+        ensures { Boxes ArrayOf (Struct self.old) (Struct self.new) result }
     {
         let alloc = self.marks.alloc();
         let values = box_all(alloc, &mut self.values)?;

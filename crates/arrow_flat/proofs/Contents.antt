@@ -1,5 +1,5 @@
 -- One slot more in the buffers of a builder of slots of variable length.
-use Rattle.std.proofs.Common.{◌≡◌, ap, ◌∙◌, inl, inr, Bool, cond, ℕ, ◌+◌, ◌-◌, ◌<◌, ◌≤◌, ℤ, pos, negsuc, List, [], ◌∷◌, ◌++◌, map, length, take, drop, Some, refl, arith}
+use Rattle.std.proofs.Common.{◌≡◌, ap, ◌∙◌, inl, inr, Bool, cond, ℕ, ◌+◌, ◌-◌, ◌<◌, ◌≤◌, ℤ, pos, negsuc, List, [], ◌∷◌, ◌++◌, map, length, take, drop, Some, Result, Ok, Err, IfOk, refl, arith}
 use Rattle.std.proofs.lemmas.Bool.{cases_eq}
 use Rattle.std.proofs.lemmas.List.{get_or_append_left, get_or_push, length_push, length-append, length-drop, take-append-le, drop-append-le, take_all, drop_at, map-append, length-map}
 use Rattle.arrow_types.specs.declared.slot.Slot.{Slot}
@@ -8,6 +8,7 @@ use Rattle.arrow_array.specs.Offsets.{offset_at, IsWithin, IsNotAbove, between, 
 use Rattle.arrow_array.specs.Slots.{slots_of}
 use Rattle.arrow_flat.specs.Bits.{mask_of}
 use Rattle.arrow_flat.specs.Contents.{HoldContents, content_at}
+use Rattle.arrow_flat.specs.Normalized.{AreNormalized}
 use Rattle.arrow_flat.proofs.Slots.{slots_of-push}
 
 IsWithin-more : (z : ℤ) (a b : ℕ) → a ≤ b → IsWithin z a → IsWithin z b
@@ -121,3 +122,10 @@ HoldContents-cut holds number (o ∷ os) bs n h = record {
 -- there is one offset more than there are slots
 pub HoldContents-count : {X : Type 0} (holds : List ℕ → Type 0) (number : X → ℤ) (os : List X) (bs : List ℕ) (n : ℕ) → HoldContents holds (map number os) bs n → length os ≡ n + 1
 HoldContents-count holds number os bs n h = omega (arith, length-map os number, h.count)
+
+-- what an array with these buffers begins and ends with
+pub hold_normalized : {A E : Type 0} (holds : List ℕ → Type 0) (offsets : A → List ℤ) (bytes : A → List ℕ) (r : Result A E) (ps : List ℤ) (bs : List ℕ) (n : ℕ) → HoldContents holds ps bs n → IfOk r (λ a. offsets a ≡ ps) → IfOk r (λ a. bytes a ≡ bs) → IfOk r (λ a. AreNormalized (offsets a) (length (bytes a)))
+hold_normalized holds offsets bytes (Ok a) ps bs n h e d =
+    let m : length ps - 1 ≡ n = omega (arith, h.count) in
+    rw (e, d) (record { first = h.first; last = rw m h.last })
+hold_normalized holds offsets bytes (Err x) ps bs n h e d = tt

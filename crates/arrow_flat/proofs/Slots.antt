@@ -70,6 +70,6 @@ slots_of-told f g None ts m n e d l k =
     rw (zero-add i) (rw (zero-add i) (rw (all i h) refl))))
 
 -- what is known of an array's slots, told of an equal list
-pub IfOk-same : {A E : Type 0} (slots : A → List Slot) (r : Result A E) (xs ys : List Slot) → IfOk r (λ a. slots a ≡ xs) → xs ≡ ys → IfOk r (λ a. slots a ≡ ys)
-IfOk-same slots (Ok a) xs ys h e = h ∙ e
-IfOk-same slots (Err x) xs ys h e = tt
+pub IfOk-same : {A E X : Type 0} (shown : A → X) (r : Result A E) (xs ys : X) → IfOk r (λ a. shown a ≡ xs) → xs ≡ ys → IfOk r (λ a. shown a ≡ ys)
+IfOk-same shown (Ok a) xs ys h e = h ∙ e
+IfOk-same shown (Err x) xs ys h e = tt

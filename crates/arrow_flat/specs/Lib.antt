@@ -5,3 +5,4 @@ pub mod Contents
 pub mod Dictionaries
 pub mod Nested
 pub mod Nodes
+pub mod Normalized

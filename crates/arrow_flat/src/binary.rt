@@ -1,6 +1,6 @@
 //! A builder of binary values.
 
-ghost use Rattle.std.specs.Prelude.{◌≡◌, ◌+◌, ◌<◌, ◌≤◌, ◌++◌, ◌∷◌, [], ◌⊎◌, ◌↔◌};
+ghost use Rattle.std.specs.Prelude.{◌≡◌, ◌+◌, ◌<◌, ◌≤◌, ◌++◌, ◌∷◌, [], ◌⊎◌, ◌↔◌, length};
 ghost use Rattle.std.specs.Prelude.{Err, IsOk, IfOk, IfErr, OnOk, OnErr};
 ghost use Rattle.std.specs.Option.{option_copied};
 ghost use Rattle.arrow_core.specs.Errors.{OnlyOutOfMemory};
@@ -10,6 +10,7 @@ ghost use Rattle.arrow_types.specs.declared.slot.Slot.TheVariants.{Binary as Bin
 ghost use Rattle.arrow_flat.specs.Builders.{content_node, optional_slot};
 ghost use Rattle.arrow_flat.specs.Contents.{content_len};
 ghost use Rattle.arrow_flat.specs.Nodes.{KeepsCapacity};
+ghost use Rattle.arrow_flat.specs.Normalized.{AreNormalized};
 
 use crate::bitmap::MutableBitmap;
 use crate::content::{Content, MutableContentArray, first_offset};
@@ -85,13 +86,15 @@ impl<O: Offset> MutableContentArray<BinaryValues, O> {
         }
     }
 
-    /// The array of the slots, over the builder's buffers. The builder is then empty.
+    /// The array of the slots, over the builder's buffers, which hold nothing else. The builder is
+    /// then empty.
     ///
     /// After `OutOfMemory` the builder may have lost its slots.
     pub fn as_box(&mut self) -> Result<BinaryArray<O>>
         ensures data_type { self.new.data_type ≡ self.old.data_type }
         ensures array_type { IfOk result (λ a. a.data_type ≡ self.old.data_type) }
         ensures array_slots { IfOk result (λ a. a.slots ≡ self.old.slots) }
+        ensures normalized { IfOk result (λ a. AreNormalized a.offsets (length a.bytes)) }
         ensures emptied { OnOk result (self.new.slots ≡ []) }
         ensures no_bytes { OnOk result (self.new.bytes ≡ 0) }
         ensures memory { OnlyOutOfMemory result }

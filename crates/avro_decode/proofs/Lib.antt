@@ -26,3 +26,4 @@ pub mod Signed
 pub mod Suited
 pub mod Valid
 pub mod Wholes
+pub mod Symbols

@@ -12,3 +12,4 @@ pub mod Plans
 pub mod Refusals
 pub mod Steps
 pub mod Suits
+pub mod Symbols

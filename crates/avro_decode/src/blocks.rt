@@ -3,11 +3,12 @@
 ghost use Rattle.std.specs.Prelude.{◌≡◌, ◌≤◌, ◌+◌, ◌*◌, [], length, map, All, OnOk, IfOk, IfErr};
 ghost use Rattle.arrow_core.specs.Errors.{OnlyOutOfMemory};
 ghost use Rattle.arrow_core.specs.declared.error.Error.TheVariants.{OutOfMemory};
-ghost use Rattle.arrow_array.specs.Arrays.{array_type, array_slots};
+ghost use Rattle.arrow_array.specs.Arrays.{array_type, array_slots, dictionaries_of};
 ghost use Rattle.arrow_builders.specs.Fits.{TypesFit};
 ghost use Rattle.arrow_builders.specs.FixedContent.{HasFixedContent};
 ghost use Rattle.arrow_builders.specs.Nodes.{IsEmpty, KeepsCapacity, HasSpare};
-ghost use Rattle.arrow_builders.specs.MutableArrays.{builder_type, builder_slots};
+ghost use Rattle.arrow_builders.specs.MutableArrays.{builder_type, builder_slots, builder_dictionaries};
+ghost use Rattle.arrow_builders.specs.NormalizedArrays.{IsNormalized};
 ghost use Rattle.arrow_builders.specs.Shapes.{shape};
 ghost use Rattle.arrow_builders.specs.Tight.{IsTight};
 ghost use Rattle.avro_schema.specs.Number.{MovesForward};
@@ -27,6 +28,7 @@ ghost use Rattle.avro_decode.specs.Masks.{total, BytesBoundContent};
 ghost use Rattle.avro_decode.specs.Plans.{PlanFits, kept_fields};
 ghost use Rattle.avro_decode.specs.Refusals.{BelongTogether, AreCounted, BytesRefused, BlockRefused};
 ghost use Rattle.avro_decode.specs.Suits.{AllSuit};
+ghost use Rattle.avro_decode.specs.Symbols.{dictionary_values, kept_symbols};
 
 use crate::fault::BlockFault;
 use crate::kept::offsets_fit;
@@ -44,7 +46,9 @@ use std::alloc::Global;
 use std::marker::PhantomData;
 
 /// The columns of a block's kept fields: one for each, in order, of exactly the field's data type
-/// (Avro 1.11, "Object Container Files" and "Binary Encoding").
+/// (Avro 1.11, "Object Container Files" and "Binary Encoding"). The values of an enum's dictionary
+/// are the schema's symbols in order, so keys mean the same in each block. The offsets of a column
+/// begin at 0, and nothing lies past the last.
 ///
 /// Ok: the block is valid for the fields, the Avro fields and the projection, and the columns hold
 /// the kept slots of its rows. In this order:
@@ -79,6 +83,9 @@ pub fn deserialize(
         projection.now block.now.bytes (map array_slots chunk)) }
     ensures data_types { IfOk result (λ chunk. map array_type chunk
         ≡ kept_types fields.now projection.now) }
+    ensures dictionaries { IfOk result (λ chunk. map dictionary_values chunk
+        ≡ kept_symbols avro_fields.now projection.now) }
+    ensures normalized { IfOk result (λ chunk. All IsNormalized chunk) }
     ensures err { IfErr result (BlockRefused fields.now block.now.number_of_rows avro_fields.now
         projection.now block.now.bytes) }
 {
@@ -107,6 +114,9 @@ pub(crate) fn decode_into(
         projection.now block.now.bytes (map array_slots chunk)) }
     ensures data_types { IfOk result (λ chunk. map array_type chunk
         ≡ kept_types fields.now projection.now) }
+    ensures dictionaries { IfOk result (λ chunk. map dictionary_values chunk
+        ≡ kept_symbols avro_fields.now projection.now) }
+    ensures normalized { IfOk result (λ chunk. All IsNormalized chunk) }
     ensures err { IfErr result (BytesRefused block.now.number_of_rows fields.now avro_fields.now
         projection.now block.now.bytes) }
 {
@@ -272,6 +282,9 @@ fn freeze(alloc: Global, builders: &mut [MutableArray]) -> Result<Vec<Array>>
         ≡ map builder_type builders.old) }
     ensures slots { IfOk result (λ arrays. map array_slots arrays.items
         ≡ map builder_slots builders.old) }
+    ensures dictionaries { IfOk result (λ arrays. map dictionaries_of arrays.items
+        ≡ map builder_dictionaries builders.old) }
+    ensures normalized { IfOk result (λ arrays. All IsNormalized arrays.items) }
     ensures memory { OnlyOutOfMemory result }
 {
     let mut arrays = Vec::new(alloc);

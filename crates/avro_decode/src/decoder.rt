@@ -1,12 +1,14 @@
 //! Blocks of one schema into columns, one after another.
 
-ghost use Rattle.std.specs.Prelude.{◌≡◌, map, OnOk, IfOk, IfErr};
+ghost use Rattle.std.specs.Prelude.{◌≡◌, map, All, OnOk, IfOk, IfErr};
 ghost use Rattle.arrow_core.specs.declared.error.Error.TheVariants.{OutOfMemory};
 ghost use Rattle.arrow_array.specs.Arrays.{array_type, array_slots};
+ghost use Rattle.arrow_builders.specs.NormalizedArrays.{IsNormalized};
 ghost use Rattle.avro_grammar.specs.ValidBlock.{ValidBlock};
 ghost use Rattle.avro_decode.specs.Columns.{AreColumns, kept_types};
 ghost use Rattle.avro_decode.specs.Decoder.{projected, CanBeDecoded, AreReady, ProjectionRefused};
 ghost use Rattle.avro_decode.specs.Refusals.{BelongTogether, AreCounted, FieldsRefused, BlockRefused};
+ghost use Rattle.avro_decode.specs.Symbols.{dictionary_values, kept_symbols};
 
 use crate::blocks::decode_into;
 use crate::prepare::{check_types, make_builders};
@@ -106,6 +108,9 @@ impl Decoder {
             self.old.avro_fields self.old.projection block.now.bytes (map array_slots chunk)) }
         ensures data_types { IfOk result (λ chunk. map array_type chunk
             ≡ kept_types self.old.fields self.old.projection) }
+        ensures dictionaries { IfOk result (λ chunk. map dictionary_values chunk
+            ≡ kept_symbols self.old.avro_fields self.old.projection) }
+        ensures normalized { IfOk result (λ chunk. All IsNormalized chunk) }
         ensures err { IfErr result (BlockRefused self.old.fields block.now.number_of_rows
             self.old.avro_fields self.old.projection block.now.bytes) }
         ensures possible { CanBeDecoded self.old }

@@ -1,8 +1,9 @@
 -- What contracts see of a reader of files, and what its `next` answers.
-use Rattle.std.specs.Prelude.{◌≡◌, ℕ, List, map, Bool, IsTrue, Option, Some, None, Result, Ok, Err, ◌⊎◌}
+use Rattle.std.specs.Prelude.{◌≡◌, ℕ, List, map, All, Bool, IsTrue, Option, Some, None, Result, Ok, Err, ◌⊎◌}
 use Rattle.arrow_core.specs.declared.error.Error.{Error}
 use Rattle.arrow_array.specs.declared.array.Array.{Array}
 use Rattle.arrow_array.specs.Arrays.{array_type, array_slots}
+use Rattle.arrow_builders.specs.NormalizedArrays.{IsNormalized}
 use Rattle.avro_grammar.specs.ValidBlock.{ValidBlock}
 use Rattle.avro_container.specs.BlockReader.{NoBlock, AtEnd}
 use Rattle.avro_container.specs.BlockReader as blocks
@@ -12,6 +13,7 @@ use Rattle.avro_container.specs.Taking.{State, Passed}
 use Rattle.avro_decode.specs.Columns.{AreColumns, kept_types}
 use Rattle.avro_decode.specs.Decoder.{Projected}
 use Rattle.avro_decode.specs.Refusals.{BelongTogether, AreCounted, BlockRefused}
+use Rattle.avro_decode.specs.Symbols.{dictionary_values, kept_symbols}
 use Rattle.avro_read.specs.declared.reader.Reader.{Reader}
 
 module _ {S : Type 0} where
@@ -58,6 +60,8 @@ pub record ReadsChunk (p : Projected) (marker : List ℕ) (old new : State) (chu
   pub counted : AreCounted block.rows p.fields p.projection block.bytes
   pub columns : AreColumns block.rows p.avro_fields p.projection block.bytes (map array_slots chunk)
   pub data_types : map array_type chunk ≡ kept_types p.fields p.projection
+  pub dictionaries : map dictionary_values chunk ≡ kept_symbols p.avro_fields p.projection
+  pub normalized : All IsNormalized chunk
 
 -- the next block was taken, and it is refused for what the error says
 pub record RefusedBlock (p : Projected) (marker : List ℕ) (old new : State) (e : Error) : Type 0 where

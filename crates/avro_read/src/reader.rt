@@ -102,7 +102,8 @@ impl<S: Source + Drop> Reader<S> {
 impl<S: Source> Reader<S> {
     ghost use Rattle.avro_read.specs.Reader.{source_of, projected_of, marker_of, limit_of, failure_of as reader_failure, IsOpen, HasEnded, state_of, Next, error_in};
 
-    /// The chunk of the next block, also of one of no rows; None where the source ended before a
+    /// The chunk of the next block, also of one of no rows: the keys of an enum's column mean the
+    /// same in each. None where the source ended before a
     /// block's first byte, or after an error, and from then on: no byte is taken then.
     ///
     /// The errors are those of `BlockReader::next`, and then those of `deserialize` from `Overflow`

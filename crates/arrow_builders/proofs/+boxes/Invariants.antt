@@ -1,7 +1,7 @@
 use Rattle.std.proofs.Common.{◌≡◌, ◌++◌, drop, map, All}
-use Rattle.arrow_array.specs.Arrays.{array_type, array_slots}
+use Rattle.arrow_array.specs.Arrays.{array_type, array_slots, dictionaries_of}
 use Rattle.arrow_builders.specs.Fits.{ChildrenFit}
-use Rattle.arrow_builders.specs.MutableArrays.{builder_type, builder_slots, nodes}
+use Rattle.arrow_builders.specs.MutableArrays.{builder_type, builder_slots, builder_dictionaries, nodes}
 use Rattle.arrow_flat.specs.Nodes.{IsEmpty}
 use Rattle.arrow_builders.specs.Shapes.{shape}
 use Rattle.arrow_builders.specs.declared.array.MutableArray.{MutableArray}
@@ -24,4 +24,5 @@ invariant-structs::box_all-loop-i l = record {
   each : Upto Boxed l.i l.fn.children l.children;
   told_types : map array_type l.arrays.items ++ map builder_type (drop l.i l.fn.children) ≡ map builder_type l.fn.children;
   told_slots : map array_slots l.arrays.items ++ map builder_slots (drop l.i l.fn.children) ≡ map builder_slots l.fn.children;
+  told_dictionaries : map dictionaries_of l.arrays.items ++ map builder_dictionaries (drop l.i l.fn.children) ≡ map builder_dictionaries l.fn.children;
 }

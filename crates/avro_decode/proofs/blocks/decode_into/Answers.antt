@@ -1,9 +1,13 @@
-use Rattle.std.proofs.Common.{◌∙◌, List, drop, refl, sym, subst}
+use Rattle.std.proofs.Common.{◌≡◌, ◌∙◌, List, All, drop, map, refl, sym, subst}
 use Rattle.arrow_types.specs.declared.slot.Slot.{Slot}
+use Rattle.arrow_array.specs.declared.array.Array.{Array}
+use Rattle.arrow_builders.specs.NormalizedArrays.{IsNormalized}
 use Rattle.avro_reference.proofs.Counting.{on_ok}
 use Rattle.avro_decode.specs.Columns.{AreColumns}
+use Rattle.avro_decode.specs.Symbols.{dictionary_values, kept_symbols}
 use Rattle.avro_decode.proofs.Capacity.{fits_stay, types_stay}
 use Rattle.avro_decode.proofs.Fields.{suit_same}
+use Rattle.avro_decode.proofs.Symbols.{decoded_symbols, of_chunk}
 use Rattle.avro_decode.proofs.Valid.{decoded_is_valid}
 use Rattle.avro_decode.proofs.Wholes.{same_lengths, never_refused}
 use Rattle.avro_decode.proofs.blocks.decode_into.Goals as goal
@@ -46,3 +50,13 @@ pub returns-clause-valid : goal.returns-clause-valid
 returns-clause-valid c =
     let decoded = c.in_ok-deserialize_into.ensures in
     on_ok c.try_new.result (decoded_is_valid _ _ _ _ _ _ _ (c.new-cursor.ensures.rest ∙ c.as_slice.ensures) c.requires.ready.together decoded.counted decoded.columns)
+
+pub returns-clause-dictionaries : goal.returns-clause-dictionaries
+returns-clause-dictionaries c =
+    let shapes = c.in_ok-deserialize_into.ensures.shapes ∙ c.reserve_rows.ensures.shapes in
+    let suits = suit_same _ _ _ shapes c.requires.ready.suits in
+    of_chunk (λ (chunk : List Array). map dictionary_values chunk ≡ kept_symbols c.args.avro_fields.now c.args.projection.now) c.try_new.result _ c.try_new.ensures.arrays
+    (decoded_symbols c.args.avro_fields.now c.args.projection.now _ _ suits c.in_ok-freeze.ensures.dictionaries)
+
+pub returns-clause-normalized : goal.returns-clause-normalized
+returns-clause-normalized c = of_chunk (All IsNormalized) c.try_new.result _ c.try_new.ensures.arrays c.in_ok-freeze.ensures.normalized

@@ -1,7 +1,8 @@
 use Rattle.std.proofs.Common.{◌≡◌, map, All}
-use Rattle.arrow_array.specs.Arrays.{array_type, array_slots}
+use Rattle.arrow_array.specs.Arrays.{array_type, array_slots, dictionaries_of}
 use Rattle.arrow_builders.specs.Fits.{TypesFit}
-use Rattle.arrow_builders.specs.MutableArrays.{builder_type, builder_slots}
+use Rattle.arrow_builders.specs.MutableArrays.{builder_type, builder_slots, builder_dictionaries}
+use Rattle.arrow_builders.specs.NormalizedArrays.{IsNormalized}
 use Rattle.arrow_builders.specs.Shapes.{shape}
 use Rattle.arrow_builders.specs.Tight.{IsTight}
 use Rattle.avro_decode.proofs.Frozen.{EmptySoFar}
@@ -16,4 +17,6 @@ invariant-loop-i l = record {
   types_fit : All (λ b. TypesFit (shape b)) l.builders;
   data_types : DoneSoFar array_type builder_type l.arrays.items l.builders l.i (map builder_type l.fn.builders);
   slots : DoneSoFar array_slots builder_slots l.arrays.items l.builders l.i (map builder_slots l.fn.builders);
+  dictionaries : DoneSoFar dictionaries_of builder_dictionaries l.arrays.items l.builders l.i (map builder_dictionaries l.fn.builders);
+  normalized : All IsNormalized l.arrays.items;
 }
