@@ -12,7 +12,7 @@ use Rattle.avro_container.specs.File.{FileBlock}
 use Rattle.avro_container.specs.Laws.{told}
 use Rattle.avro_container.specs.Taking.{State, state}
 use Rattle.avro_blocks.specs.Changes.{Change, change_of, CameFromOutside}
-use Rattle.avro_blocks.specs.Written.{StopsAtBlock}
+use Rattle.avro_blocks.specs.Written.{StopsAtBlock, WithAllRows}
 use Rattle.avro_blocks.proofs.OneBlock.{AreOne, AreOneOr, or_outside, one_stop}
 use Rattle.avro_blocks.proofs.Reading.{IsGood, consumed_some}
 use Rattle.avro_blocks.proofs.Results.{memory_or_not}
@@ -35,14 +35,14 @@ use Rattle.arrow_convert.specs.Laws.{OneErrorComes}
 -- ---- a block
 
 module _ (w : Rewriting) (can : CanBeDecoded w.decoder) where
-  good_block : (b : FileBlock) (e : Error) → IsGood (RewritesBlock w) b → BlockIsRefused w b e → e ≡ OutOfMemory
+  good_block : (b : FileBlock) (e : Error) → IsGood (WithAllRows (RewritesBlock w)) b → BlockIsRefused w b e → e ≡ OutOfMemory
   good_block b e good h = valid_blocks w.decoder.fields b.rows w.decoder.avro_fields w.decoder.projection b.bytes e valid h
     where
       valid : ValidBlock b.rows b.bytes w.decoder.fields w.decoder.avro_fields w.decoder.projection
       valid = record {
-        columns = record { lengths = can.lengths; some = can.some; carried = can.carried; fits = can.fits; no_float = can.no_float; offsets = good.1.has.counted.0; symbols = good.1.has.symbols };
-        table = good.1.table;
-        rows = good.1.has.rows;
+        columns = record { lengths = can.lengths; some = can.some; carried = can.carried; fits = can.fits; no_float = can.no_float; offsets = good.2.0.has.counted.0; symbols = good.2.0.has.symbols };
+        table = good.2.0.table;
+        rows = good.2.0.has.rows;
       }
 
   one_refusal : (b : FileBlock) (e d : Error) → BlockIsRefused w b e → BlockIsRefused w b d → AreOne e d
@@ -121,7 +121,7 @@ module _ (name new_marker all : List ℕ) (limit f g f_after g_after : ℕ) (lef
 
   both_stop : (e d : Error) → BlockNotRewritten name new_marker limit one sink e → BlockNotRewritten name new_marker limit two another d → Same e d
   both_stop e d h k =
-      from (one_stop (RewritesBlock w) (BlockIsRefused w) (good_block w can) (one_refusal w can) h.source_marker s.rest h.faults k.faults (limit - h.count) new other after also_after e d still also_still first second)
+      from (one_stop (WithAllRows (RewritesBlock w)) (BlockIsRefused w) (good_block w can) (one_refusal w can) h.source_marker s.rest h.faults k.faults (limit - h.count) new other after also_after e d still also_still first second)
     where
       s : Stands all limit h.root h.source_marker
       s = stands all limit f h.faults h.left h.root h.source_marker h.count h.reads
@@ -165,12 +165,12 @@ module _ (name new_marker all : List ℕ) (limit f g f_after g_after : ℕ) (lef
       also_still : RoseOrFull k.faults g_after → ⊥
       also_still rose = also_steady (rose_from g k.faults g_after k.never_falls rose)
 
-      first : StopsAtBlock (RewritesBlock w) (BlockIsRefused w) h.source_marker (told s.rest h.faults (limit - h.count)) new after e
-      first = subst (λ (z : Option (List ℕ)). StopsAtBlock (RewritesBlock w) (BlockIsRefused w) h.source_marker (state z h.faults (limit - h.count) None) new after e) own.3 h.stops
+      first : StopsAtBlock (WithAllRows (RewritesBlock w)) (BlockIsRefused w) h.source_marker (told s.rest h.faults (limit - h.count)) new after e
+      first = subst (λ (z : Option (List ℕ)). StopsAtBlock (WithAllRows (RewritesBlock w)) (BlockIsRefused w) h.source_marker (state z h.faults (limit - h.count) None) new after e) own.3 h.stops
 
-      second : StopsAtBlock (RewritesBlock w) (BlockIsRefused w) h.source_marker (told s.rest k.faults (limit - h.count)) other also_after d
+      second : StopsAtBlock (WithAllRows (RewritesBlock w)) (BlockIsRefused w) h.source_marker (told s.rest k.faults (limit - h.count)) other also_after d
       second =
-          subst (λ (x : Rewriting × List ℕ × Option (List ℕ) × ℕ). StopsAtBlock (RewritesBlock x.0) (BlockIsRefused x.0) x.1 (state x.2 k.faults (limit - x.3) None) other also_after d)
+          subst (λ (x : Rewriting × List ℕ × Option (List ℕ) × ℕ). StopsAtBlock (WithAllRows (RewritesBlock x.0)) (BlockIsRefused x.0) x.1 (state x.2 k.faults (limit - x.3) None) other also_after d)
           (λ i. (rewriting_of (r.0 i) (same i) (target i) new_marker, r.1 i, r.3 i, (r.2 ∙ sym own.2) i)) k.stops
 
       from : AreOneOr after also_after e d → Same e d

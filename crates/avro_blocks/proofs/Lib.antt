@@ -1,3 +1,4 @@
+pub mod AllRows
 pub mod OneBlock
 pub mod Reading
 pub mod Results

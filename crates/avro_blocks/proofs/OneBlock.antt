@@ -103,7 +103,7 @@ or_outside sink another e d (inl same) = inl same
 or_outside sink another e d (inr (inl memory)) = inr (inl (inl memory))
 or_outside sink another e d (inr (inr memory)) = inr (inr (inl memory))
 
-module _ (Shows : FileBlock → List ℕ → Type 0) (Wrong : FileBlock → Error → Type 0) (good_block : (b : FileBlock) (e : Error) → IsGood Shows b → Wrong b e → e ≡ OutOfMemory)
+module _ (Shows : FileBlock → List ℕ → ℕ → Type 0) (Wrong : FileBlock → Error → Type 0) (good_block : (b : FileBlock) (e : Error) → IsGood Shows b → Wrong b e → e ≡ OutOfMemory)
     (one_wrong : (b : FileBlock) (e d : Error) → Wrong b e → Wrong b d → AreOne e d) (marker : List ℕ) where
   -- where a block is taken whole, the other reader has no error but out of memory
   block_or_none : (all : List ℕ) (f g limit : ℕ) (new other : State) (b : FileBlock) → Passed marked_block (told all f limit) new (b, marker) → (RoseOrFull g other.faults → ⊥) → (d : Error) → NoBlock marker (told all g limit) other d → d ≡ OutOfMemory

@@ -1,7 +1,6 @@
 -- Of a source that tells its bytes: where they are blocks that can be written, no other error comes than from outside.
 use Rattle.std.proofs.Common.{◌≡◌, ◌∙◌, inl, inr, ℕ, zero, suc, ◌+◌, ◌≤◌, List, [], ◌∷◌, ◌++◌, length, All, Option, Some, None, refl, sym, ap, subst, append_assoc, length-append, arith}
 use Rattle.std.proofs.lemmas.List.{append_cancel_left}
-use Rattle.std.specs.List.{AllZip}
 use Rattle.std.specs.Io.KnownBytes.{Consumes}
 use Rattle.arrow_base.specs.Outside.{RoseOrFull}
 use Rattle.arrow_core.specs.declared.error.Error.{Error}
@@ -13,7 +12,7 @@ use Rattle.avro_container.specs.Taking.{State, SizeFalls}
 use Rattle.avro_container.proofs.Complete.{block_is_read, no_bytes_are_end}
 use Rattle.avro_container.proofs.OneFile.{block_reads, block_some, prefix_none}
 use Rattle.avro_blocks.specs.Changes.{Change, change_of, CameFromOutside}
-use Rattle.avro_blocks.specs.Written.{WritesBlocks, WrongBlock, BlockFails, StopsAtBlock}
+use Rattle.avro_blocks.specs.Written.{BlockText, ShowBlocks, WritesBlocks, WrongBlock, BlockFails, StopsAtBlock}
 use Rattle.avro_blocks.proofs.Steps.{rose_from}
 
 pub consumed_some : (all taken : List ℕ) (left : Option (List ℕ)) → Consumes (Some all) left taken → (rest : List ℕ) × (left ≡ Some rest) × (all ≡ taken ++ rest)
@@ -54,17 +53,17 @@ split marker a b rest xs ys (one q r x more h t) (one p s y others g u) e =
 -- ---- the next block of such a file
 
 -- the block becomes some bytes
-abbrev pub IsGood : (FileBlock → List ℕ → Type 0) → FileBlock → Type 0
-IsGood Shows b = (text : List ℕ) × Shows b text
+abbrev pub IsGood : (FileBlock → List ℕ → ℕ → Type 0) → FileBlock → Type 0
+IsGood Shows b = (text : List ℕ) × (rows : ℕ) × Shows b text rows
 
-pub all_good : (Shows : FileBlock → List ℕ → Type 0) (blocks : List FileBlock) (texts : List (List ℕ)) → AllZip Shows blocks texts → All (IsGood Shows) blocks
+pub all_good : (Shows : FileBlock → List ℕ → ℕ → Type 0) (blocks : List FileBlock) (texts : List BlockText) → ShowBlocks Shows blocks texts → All (IsGood Shows) blocks
 all_good Shows [] texts h k d lt = absurd (omega (arith, lt))
 all_good Shows (b ∷ blocks) [] h k d lt = absurd h
-all_good Shows (b ∷ blocks) (t ∷ texts) h zero d lt = (t, h.0)
+all_good Shows (b ∷ blocks) (t ∷ texts) h zero d lt = (t.text, t.rows, h.0)
 all_good Shows (b ∷ blocks) (t ∷ texts) h (suc k) d lt = all_good Shows blocks texts h.1 k d (omega (arith, lt))
 
 -- of blocks of which Good holds nothing is wrong
-module _ (Shows : FileBlock → List ℕ → Type 0) (Wrong : FileBlock → Error → Type 0) (Good : FileBlock → Type 0) (good_block : (b : FileBlock) (e : Error) → Good b → Wrong b e → e ≡ OutOfMemory) (marker : List ℕ) where
+module _ (Shows : FileBlock → List ℕ → ℕ → Type 0) (Wrong : FileBlock → Error → Type 0) (Good : FileBlock → Type 0) (good_block : (b : FileBlock) (e : Error) → Good b → Wrong b e → e ≡ OutOfMemory) (marker : List ℕ) where
   next_fails : (rest : List ℕ) (zs : List FileBlock) (faults limit : ℕ) (new : State) (e : Error) → Sequence (IsFileBlock marker) rest zs → length rest ≤ limit → (RoseOrFull faults new.faults → ⊥) → NoBlock marker (told rest faults limit) new e → e ≡ OutOfMemory
   next_fails rest zs faults limit new e none within steady h = (no_bytes_are_end marker faults limit new steady).1 e h
   next_fails rest zs faults limit new e (one q r x more g t) within steady h =

@@ -1,13 +1,13 @@
 //! Block after block of a file, each into the bytes that it becomes.
 
-ghost use Rattle.std.specs.Prelude.{◌≡◌, ◌+◌, ◌<◌, ◌≤◌, ℕ, List, length, IfSome, IfOk, OnOk, IfErr};
+ghost use Rattle.std.specs.Prelude.{◌≡◌, ◌+◌, ◌<◌, ◌≤◌, ℕ, List, length, IfSome, IfOk, IfErr};
 ghost use Rattle.arrow_core.specs.declared.error.Error.{Error};
 ghost use Rattle.arrow_base.specs.Outside.{last_count};
 ghost use Rattle.avro_container.specs.BlockReader.{source_of, marker_of, limit_of, IsOpen, state_of};
 ghost use Rattle.avro_container.specs.File.{FileBlock, the_block};
 ghost use Rattle.avro_blocks.specs.Blocks.{NextWritten};
 ghost use Rattle.avro_blocks.specs.Changes.{change_of};
-ghost use Rattle.avro_blocks.specs.Written.{AllWritten, AppendsBlock, BlockFails, StopsAtBlock};
+ghost use Rattle.avro_blocks.specs.Written.{AllWritten, AppendsRows, BlockFails, StopsAtBlock};
 
 use arrow_base::{Bytes, Result, Sink, Source, write_all};
 use avro_container::BlockReader;
@@ -19,19 +19,19 @@ pub trait EncodesBlocks {
     // Which blocks it takes.
     ghost ready: { Self → Type 0 };
 
-    // Which bytes a block becomes.
-    ghost shows: { Self → FileBlock → List ℕ → Type 0 };
+    // Which bytes a block becomes, and how many rows these have.
+    ghost shows: { Self → FileBlock → List ℕ → ℕ → Type 0 };
 
     // Why a block becomes none.
     ghost wrong: { Self → FileBlock → Error → Type 0 };
 
-    /// Appends the bytes that a block becomes. It states no more rows than it has bytes. After an
-    /// error part of the bytes may have been appended.
-    fn append_block(&mut self, out: &mut Vec<u8>, block: &Block) -> Result<()>
+    /// Appends the bytes that a block becomes, and answers how many rows these have: no more than
+    /// the block has bytes. After an error part of the bytes may have been appended.
+    fn append_block(&mut self, out: &mut Vec<u8>, block: &Block) -> Result<usize>
         requires { ready self.old }
-        ensures ok { OnOk result (AppendsBlock (shows self.old)
+        ensures ok { IfOk result (AppendsRows (shows self.old)
             (the_block block.now.number_of_rows block.now.bytes) out.old.items out.new.items) }
-        ensures few { OnOk result (block.now.number_of_rows ≤ length block.now.bytes) }
+        ensures few { IfOk result (λ rows. rows ≤ length block.now.bytes) }
         ensures err { IfErr result (wrong self.old
             (the_block block.now.number_of_rows block.now.bytes)) }
         ensures same { self.new ≡ self.old };
@@ -45,7 +45,7 @@ struct Buffers {
 }
 
 /// Takes the next block and writes the bytes that it becomes, once all of them are made. Answers
-/// its number of rows, or None at the end.
+/// how many rows these have, or None at the end.
 fn write_next<S: Source, E: EncodesBlocks, K: Sink>(
     reader: &mut BlockReader<S>,
     encoder: &mut E,
@@ -77,13 +77,13 @@ fn write_next<S: Source, E: EncodesBlocks, K: Sink>(
         return Ok(None);
     }
     buffers.text.clear();
-    encoder.append_block(&mut buffers.text, &buffers.block)?;
+    let rows = encoder.append_block(&mut buffers.text, &buffers.block)?;
     write_all(sink, &buffers.text)?;
-    Ok(Some(buffers.block.number_of_rows))
+    Ok(Some(rows))
 }
 
 /// Takes blocks up to the source's end, writes the bytes that each becomes before the next one is
-/// taken, and answers how many rows they have.
+/// taken, and answers how many rows were written.
 ///
 /// The errors, for each block in this order: those of `BlockReader::next`; those of
 /// `EncodesBlocks::append_block`; `WriteFault`. After any error but `WriteFault` the sink got the

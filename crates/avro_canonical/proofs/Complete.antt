@@ -17,7 +17,7 @@ use Rattle.avro_container.specs.Laws.{told}
 use Rattle.avro_container.specs.Taking.{State, state}
 use Rattle.avro_container.proofs.OneFile.{header_reads}
 use Rattle.avro_blocks.specs.Changes.{Change, change_of, Failed, header_of, IsTold, CameFromOutside}
-use Rattle.avro_blocks.specs.Written.{StopsAtBlock}
+use Rattle.avro_blocks.specs.Written.{StopsAtBlock, WithAllRows}
 use Rattle.avro_blocks.proofs.Reading.{consumed_some, stops_for_memory}
 use Rattle.avro_blocks.proofs.Results.{memory_or_not}
 use Rattle.avro_blocks.proofs.Steps.{rose_from}
@@ -147,10 +147,10 @@ module _ (name marker : List ℕ) where
           let new : State = state source.bytes_after source.faults_after n.limit_after None in
           let after : Change = change_of n.held n.sink_faults sink.bytes_after sink.faults_after in
           let w : Rewriting = rewriting_of form.root form.columns n.target marker in
-          let stops : StopsAtBlock (RewritesBlock w) (BlockIsRefused w) form.source_marker (told f.back n.faults (limit - n.count)) new after e =
-          subst (λ (x : Rewriting × List ℕ × Option (List ℕ)). StopsAtBlock (RewritesBlock x.0) (BlockIsRefused x.0) x.1 (state x.2 n.faults (limit - n.count) None) new after e) (λ i. (rewriting_of (r.0 i) (same i) n.target marker, r.1 i, r.3 i)) n.stops in
+          let stops : StopsAtBlock (WithAllRows (RewritesBlock w)) (BlockIsRefused w) form.source_marker (told f.back n.faults (limit - n.count)) new after e =
+          subst (λ (x : Rewriting × List ℕ × Option (List ℕ)). StopsAtBlock (WithAllRows (RewritesBlock x.0)) (BlockIsRefused x.0) x.1 (state x.2 n.faults (limit - n.count) None) new after e) (λ i. (rewriting_of (r.0 i) (same i) n.target marker, r.1 i, r.3 i)) n.stops in
           from_outside n.held n.sink_faults sink e n.sink_never_falls
-          (stops_for_memory (RewritesBlock w) (BlockIsRefused w) (HasRows p) (good_block p possible) form.source_marker f.back form.blocks n.faults (limit - n.count) new after e f.blocks (all_have p form.blocks form.tables form.rows) (omega (arith, lengths, tells.within, r.2))
+          (stops_for_memory (WithAllRows (RewritesBlock w)) (BlockIsRefused w) (HasRows p) (good_block p possible) form.source_marker f.back form.blocks n.faults (limit - n.count) new after e f.blocks (all_have p form.blocks form.tables form.rows) (omega (arith, lengths, tells.within, r.2))
           (λ rose. tells.steady (rose_from source.faults n.faults source.faults_after n.never_falls rose)) stops)
 
       from : RewritingFails name marker limit source sink e → CameFromOutside sink e

@@ -1,7 +1,7 @@
 -- Blocks rewritten one after another, and headers before them.
-use Rattle.std.proofs.Common.{◌≡◌, ◌∙◌, inr, ℕ, ◌-◌, ◌≤◌, List, [], ◌∷◌, ◌++◌, Option, None, Result, Ok, Err, refl, ap, subst, length-append, arith}
+use Rattle.std.proofs.Common.{◌≡◌, ◌∙◌, inr, ℕ, ◌-◌, ◌≤◌, List, [], ◌∷◌, ◌++◌, map, Option, None, Result, Ok, Err, refl, ap, subst, length-append, arith}
 use Rattle.std.specs.Prelude.{IfOk, IfErr}
-use Rattle.std.specs.List.{concat, AllByRecursion, AllZip}
+use Rattle.std.specs.List.{concat, flat_map, AllByRecursion, AllZip}
 use Rattle.std.proofs.KnownBytes.{Appends-trans, Appends-kept, Consumes-trans}
 use Rattle.std.proofs.lemmas.List.{append-nil}
 use Rattle.std.specs.Io.KnownBytes.{Appends, Consumes}
@@ -13,7 +13,8 @@ use Rattle.avro_container.specs.Canonical.{canonical_blocks}
 use Rattle.avro_container.specs.File.{FileBlock}
 use Rattle.avro_container.specs.Taking.{State, state}
 use Rattle.avro_blocks.specs.Changes.{Change, change_of, header_of}
-use Rattle.avro_blocks.specs.Written.{AllWritten, StopsAtBlock}
+use Rattle.avro_blocks.specs.Written.{AllWritten, BlockText, StopsAtBlock, WithAllRows}
+use Rattle.avro_blocks.proofs.AllRows.{rows_of_blocks, texts_joined, whole_texts}
 use Rattle.avro_file.specs.File.{metadata_bytes}
 use Rattle.avro_file.specs.Metadata.{ReadsMetadata}
 use Rattle.avro_decode.specs.Decoder.{HasTable}
@@ -55,16 +56,16 @@ module _ (name marker : List ℕ) (limit limit_after : ℕ) (source sink : Chang
   all_told : ◌≡◌ {A = Rewriting × List ℕ × State × State} (w, other, old, new) (v, source_marker, state left faults (limit - taken) None, state source.bytes_after source.faults_after limit_after None)
   all_told = λ i. (made.made i, same i, from i, to i)
 
-  rewrites : (count : ℕ) → AllWritten (RewritesBlock v) source_marker (state left faults (limit - taken) None) (state source.bytes_after source.faults_after limit_after None) held sink.bytes_after count → Rewrites name marker limit source sink count
+  rewrites : (count : ℕ) → AllWritten (WithAllRows (RewritesBlock v)) source_marker (state left faults (limit - taken) None) (state source.bytes_after source.faults_after limit_after None) held sink.bytes_after count → Rewrites name marker limit source sink count
   rewrites count all =
       let b = all.writes in
       let head = reads.header in
       let last : Consumes left source.bytes_after (b.bytes ++ []) = Consumes-trans left all.between.left source.bytes_after b.bytes [] b.taken.consumed all.ended.0.consumed in
       let rest : Consumes left source.bytes_after b.bytes = subst (Consumes left source.bytes_after) (append-nil b.bytes) last in
-      let t = have_tables v b.blocks b.texts b.shows in
+      let t = have_tables v b.blocks (map (λ (t : BlockText). t.text) b.texts) (whole_texts (RewritesBlock v) b.blocks b.texts b.shows) in
       record {
         bytes = head.bytes ++ b.bytes;
-        text = metadata_bytes target marker ++ concat b.texts;
+        text = metadata_bytes target marker ++ flat_map (λ (t : BlockText). t.text) b.texts;
         taken = Consumes-trans source.bytes left source.bytes_after head.bytes b.bytes head.consumed rest;
         whole = all.ended.1;
         within = omega (arith, length-append head.bytes b.bytes, head.within, head.count_is, b.taken.limit);
@@ -83,18 +84,18 @@ module _ (name marker : List ℕ) (limit limit_after : ℕ) (source sink : Chang
           target = target;
           named = made.has_target.named;
           encoded = t.encoded;
-          is = ap (λ (z : List ℕ). metadata_bytes target marker ++ z) t.joined;
-          counted = b.counted;
+          is = ap (λ (z : List ℕ). metadata_bytes target marker ++ z) (texts_joined b.texts ∙ t.joined);
+          counted = b.counted ∙ rows_of_blocks (RewritesBlock v) b.blocks b.texts b.shows;
         };
-        written = Appends-trans sink.bytes held sink.bytes_after (metadata_bytes target marker) (concat b.texts) header (Appends-kept held all.held_between sink.bytes_after _ b.written all.keeps);
+        written = Appends-trans sink.bytes held sink.bytes_after (metadata_bytes target marker) (flat_map (λ (t : BlockText). t.text) b.texts) header (Appends-kept held all.held_between sink.bytes_after _ b.written all.keeps);
       }
 
-  pub if_rewrites : (r : Result ℕ Error) → IfOk r (AllWritten (RewritesBlock w) other old new held sink.bytes_after) → IfOk r (Rewrites name marker limit source sink)
+  pub if_rewrites : (r : Result ℕ Error) → IfOk r (AllWritten (WithAllRows (RewritesBlock w)) other old new held sink.bytes_after) → IfOk r (Rewrites name marker limit source sink)
   if_rewrites (Ok count) h =
-      rewrites count (subst (λ (x : Rewriting × List ℕ × State × State). AllWritten (RewritesBlock x.0) x.1 x.2 x.3 held sink.bytes_after count) all_told h)
+      rewrites count (subst (λ (x : Rewriting × List ℕ × State × State). AllWritten (WithAllRows (RewritesBlock x.0)) x.1 x.2 x.3 held sink.bytes_after count) all_told h)
   if_rewrites (Err e) h = tt
 
-  pub if_stops : (r : Result ℕ Error) → IfErr r (StopsAtBlock (RewritesBlock w) (BlockIsRefused w) other old new (change_of held sink_faults sink.bytes_after sink.faults_after)) → IfErr r (RewritingFails name marker limit source sink)
+  pub if_stops : (r : Result ℕ Error) → IfErr r (StopsAtBlock (WithAllRows (RewritesBlock w)) (BlockIsRefused w) other old new (change_of held sink_faults sink.bytes_after sink.faults_after)) → IfErr r (RewritingFails name marker limit source sink)
   if_stops (Ok count) h = tt
   if_stops (Err e) h =
       inr (inr (record {
@@ -113,5 +114,5 @@ module _ (name marker : List ℕ) (limit limit_after : ℕ) (source sink : Chang
         sink_never_falls = sink_never_falls;
         header = header;
         limit_after = limit_after;
-        stops = subst (λ (x : Rewriting × List ℕ × State × State). StopsAtBlock (RewritesBlock x.0) (BlockIsRefused x.0) x.1 x.2 x.3 (change_of held sink_faults sink.bytes_after sink.faults_after) e) all_told h;
+        stops = subst (λ (x : Rewriting × List ℕ × State × State). StopsAtBlock (WithAllRows (RewritesBlock x.0)) (BlockIsRefused x.0) x.1 x.2 x.3 (change_of held sink_faults sink.bytes_after sink.faults_after) e) all_told h;
       }))

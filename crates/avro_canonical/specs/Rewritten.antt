@@ -11,7 +11,7 @@ use Rattle.avro_schema.specs.declared.schema.Record.{Record, out-Record}
 use Rattle.avro_container.specs.File.{FileBlock, the_block}
 use Rattle.avro_container.specs.Taking.{state}
 use Rattle.avro_blocks.specs.Changes.{Change, change_of, header_of}
-use Rattle.avro_blocks.specs.Written.{StopsAtBlock}
+use Rattle.avro_blocks.specs.Written.{StopsAtBlock, WithAllRows}
 use Rattle.avro_file.specs.File.{AvroFile, canonical_file, metadata_bytes}
 use Rattle.avro_file.specs.Metadata.{ReadsMetadata, MetadataFails, WriteFails}
 use Rattle.avro_decode.specs.Decoder.{projected, HasTable}
@@ -104,7 +104,7 @@ pub record BlockNotRewritten (name marker : List ℕ) (limit : ℕ) (source sink
   pub sink_never_falls : sink.faults ≤ sink_faults
   pub header : Appends sink.bytes held (metadata_bytes target marker)
   pub limit_after : ℕ
-  pub stops : StopsAtBlock (RewritesBlock (rewriting_of root columns target marker)) (BlockIsRefused (rewriting_of root columns target marker)) source_marker
+  pub stops : StopsAtBlock (WithAllRows (RewritesBlock (rewriting_of root columns target marker))) (BlockIsRefused (rewriting_of root columns target marker)) source_marker
       (state left faults (limit - count) None) (state source.bytes_after source.faults_after limit_after None) (change_of held sink_faults sink.bytes_after sink.faults_after) e
 
 -- why a rewriting stops; before the new header the sink got nothing

@@ -13,16 +13,18 @@ use avro_schema::Block;
 use std::alloc::Global;
 
 impl EncodesBlocks for BlockRewriter {
+    ghost use Rattle.avro_blocks.specs.Written.{WithAllRows};
     ghost use Rattle.avro_canonical.specs.Canonical.{BlockIsRefused, RewritesBlock};
 
     ghost ready = { λ _. Unit {0} };
 
-    ghost shows = { RewritesBlock };
+    ghost shows = { λ rewriter. WithAllRows (RewritesBlock rewriter) };
 
     ghost wrong = { BlockIsRefused };
 
-    fn append_block(&mut self, out: &mut Vec<u8>, block: &Block) -> Result<()> {
-        self.push_block(out, block)
+    fn append_block(&mut self, out: &mut Vec<u8>, block: &Block) -> Result<usize> {
+        self.push_block(out, block)?;
+        Ok(block.number_of_rows)
     }
 }
 

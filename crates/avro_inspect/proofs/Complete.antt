@@ -1,7 +1,6 @@
 -- Of a source that tells its bytes: a file is counted, and has one count.
 use Rattle.std.proofs.Common.{◌≡◌, ◌∙◌, inl, inr, ℕ, ◌+◌, ◌-◌, List, [], ◌∷◌, ◌++◌, length, Option, Some, None, refl, sym, ap, subst, length-append, arith}
 use Rattle.std.specs.Prelude.{sum_by}
-use Rattle.std.specs.List.{AllZip}
 use Rattle.arrow_core.specs.declared.error.Error.{Error}
 use Rattle.arrow_core.specs.declared.error.Error.TheVariants.{OutOfMemory}
 use Rattle.avro_schema.specs.declared.schema.Schema as schema
@@ -12,7 +11,7 @@ use Rattle.avro_container.specs.Taking.{State, state}
 use Rattle.avro_container.proofs.OneFile.{one_file}
 use Rattle.avro_text.specs.Writing.{schema_text_of}
 use Rattle.avro_blocks.specs.Changes.{Change, change_of, header_of, IsTold, CameFromOutside}
-use Rattle.avro_blocks.specs.Written.{StopsAtBlock}
+use Rattle.avro_blocks.specs.Written.{BlockText, ShowBlocks, StopsAtBlock}
 use Rattle.avro_blocks.proofs.Reading.{stops_for_memory}
 use Rattle.avro_blocks.proofs.Steps.{rose_from}
 use Rattle.avro_file.specs.File.{StandsFor, AvroFile}
@@ -25,8 +24,8 @@ use Rattle.avro_inspect.specs.Taken.{StopsCounting}
 
 -- ---- counting is to write nothing of each block, where no block is wrong
 
-abbrev Nothing : FileBlock → List ℕ → Type 0
-Nothing block text = text ≡ []
+abbrev Nothing : FileBlock → List ℕ → ℕ → Type 0
+Nothing block text rows = text ≡ []
 
 abbrev Never : FileBlock → Error → Type 0
 Never block e = ⊥
@@ -38,15 +37,15 @@ Any block = Unit {0}
 abbrev untold : Change
 untold = change_of None 0 None 0
 
-nothings : (blocks : List FileBlock) → (texts : List (List ℕ)) × AllZip Nothing blocks texts
+nothings : (blocks : List FileBlock) → (texts : List BlockText) × ShowBlocks Nothing blocks texts
 nothings [] = ([], tt)
-nothings (b ∷ blocks) = let more = nothings blocks in ([] ∷ more.0, (refl, more.1))
+nothings (b ∷ blocks) = let more = nothings blocks in (record { text = []; rows = 0 } ∷ more.0, (refl, more.1))
 
 as_written : (marker : List ℕ) (old new : State) (e : Error) → StopsCounting marker old new e → StopsAtBlock Nothing Never marker old new untold e
 as_written marker old new e h = record {
   between = h.between;
   held = None;
-  count = sum_by (λ (b : FileBlock). b.rows) h.blocks;
+  count = sum_by (λ (t : BlockText). t.rows) (nothings h.blocks).0;
   before = record { bytes = h.takes.bytes; taken = h.takes.taken; blocks = h.blocks; sequence = h.takes.sequence; texts = (nothings h.blocks).0; shows = (nothings h.blocks).1; written = tt; counted = refl };
   fails = inl (tt, inl h.no_next);
 }

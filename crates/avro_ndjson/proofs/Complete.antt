@@ -15,7 +15,9 @@ use Rattle.avro_container.specs.Laws.{told}
 use Rattle.avro_container.specs.Taking.{State, state}
 use Rattle.avro_container.proofs.OneFile.{header_reads}
 use Rattle.avro_blocks.specs.Changes.{Change, header_of, Failed, IsTold, CameFromOutside}
-use Rattle.avro_blocks.proofs.Reading.{consumed_some, IsGood, all_good, stops_for_memory}
+use Rattle.avro_blocks.specs.Written.{WithAllRows}
+use Rattle.avro_blocks.proofs.AllRows.{with_all_rows}
+use Rattle.avro_blocks.proofs.Reading.{consumed_some, IsGood, stops_for_memory}
 use Rattle.avro_blocks.proofs.Results.{memory_or_not}
 use Rattle.avro_blocks.proofs.Steps.{rose_from}
 use Rattle.avro_file.specs.File.{StandsFor, AvroFile}
@@ -34,21 +36,23 @@ use Rattle.avro_ndjson.proofs.Reasons.{shown_or_not, one_reason}
 -- ---- a block that can be shown
 
 module _ (p : Projected) (can : CanBeDecoded p) where
-  good_is_valid : (b : FileBlock) → IsGood (ShowsBlock p) b → ValidBlock b.rows b.bytes p.fields p.avro_fields p.projection
+  good_is_valid : (b : FileBlock) → IsGood (WithAllRows (ShowsBlock p)) b → ValidBlock b.rows b.bytes p.fields p.avro_fields p.projection
   good_is_valid b good =
-      let has = good.1.is in
+      let shows = good.2.0 in
+      let has = shows.is in
       record {
         columns = record { lengths = can.lengths; some = can.some; carried = can.carried; fits = can.fits; no_float = can.no_float; offsets = has.counted.0; symbols = has.symbols };
-        table = good.1.table;
+        table = shows.table;
         rows = has.rows;
       }
 
   -- a good block has nothing wrong
-  pub good_block : (b : FileBlock) (e : Error) → IsGood (ShowsBlock p) b → BlockIsWrong p b e → e ≡ OutOfMemory
+  pub good_block : (b : FileBlock) (e : Error) → IsGood (WithAllRows (ShowsBlock p)) b → BlockIsWrong p b e → e ≡ OutOfMemory
   good_block b e good (inl h) = valid_blocks p.fields b.rows p.avro_fields p.projection b.bytes e (good_is_valid b good) h
   good_block b e good (inr late) =
-      let same : good.1.table ≡ late.1.0 = same_table b.rows p.avro_fields p.projection b.bytes good.1.table late.1.0 good.1.is.rows late.1.1.rows in
-      absurd (true_false (sym good.1.in_range ∙ ap (dates_in_range p) same ∙ late.1.2))
+      let shows = good.2.0 in
+      let same : shows.table ≡ late.1.0 = same_table b.rows p.avro_fields p.projection b.bytes shows.table late.1.0 shows.is.rows late.1.1.rows in
+      absurd (true_false (sym shows.in_range ∙ ap (dates_in_range p) same ∙ late.1.2))
     where
       true_false : true ≡ false → ⊥
       true_false q = cc
@@ -80,8 +84,8 @@ files_end keep bytes limit source sink e tells (text, count, can) = from
     p : Projected
     p = projected_of keep can.root can.fields
 
-    good : All (IsGood (ShowsBlock p)) can.blocks
-    good = all_good (ShowsBlock p) can.blocks can.texts can.shows
+    good : All (IsGood (WithAllRows (ShowsBlock p))) can.blocks
+    good = with_all_rows (ShowsBlock p) can.blocks can.texts can.shows
 
     stopped : BlockNotShown keep limit source sink e → CameFromOutside sink e
     stopped n =
@@ -90,7 +94,7 @@ files_end keep bytes limit source sink e tells (text, count, can) = from
         let new : State = state source.bytes_after source.faults_after n.limit_after None in
         let stops : StopsAtBlock p can.marker (told f.back n.faults (limit - n.count)) new sink e =
         subst (λ (x : Record × List Field × List ℕ × Option (List ℕ)). StopsAtBlock (projected_of keep x.0 x.1) x.2 (state x.3 n.faults (limit - n.count) None) new sink e) (λ i. (r.0 i, same i, r.1 i, r.3 i)) n.stops in
-        stops_for_memory (ShowsBlock p) (BlockIsWrong p) (IsGood (ShowsBlock p)) (good_block p (can_be_decoded keep can.root can.fields can.shown)) can.marker f.back can.blocks n.faults (limit - n.count) new sink e f.blocks good (omega (arith, lengths, tells.within, r.2))
+        stops_for_memory (WithAllRows (ShowsBlock p)) (BlockIsWrong p) (IsGood (WithAllRows (ShowsBlock p))) (good_block p (can_be_decoded keep can.root can.fields can.shown)) can.marker f.back can.blocks n.faults (limit - n.count) new sink e f.blocks good (omega (arith, lengths, tells.within, r.2))
         (λ rose. tells.steady (rose_from source.faults n.faults source.faults_after n.never_falls rose)) stops
 
     from : ConversionFails keep limit source sink e → CameFromOutside sink e

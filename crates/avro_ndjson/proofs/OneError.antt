@@ -12,6 +12,7 @@ use Rattle.avro_grammar.specs.Inferred.{inferred_columns}
 use Rattle.avro_container.specs.Laws.{told}
 use Rattle.avro_container.specs.Taking.{State, state}
 use Rattle.avro_blocks.specs.Changes.{Change, change_of}
+use Rattle.avro_blocks.specs.Written.{WithAllRows}
 use Rattle.avro_blocks.proofs.OneBlock.{AreOne, AreOneOr, or_outside, one_stop}
 use Rattle.avro_blocks.proofs.Reading.{consumed_some}
 use Rattle.avro_blocks.proofs.Results.{memory_or_not}
@@ -91,7 +92,7 @@ module _ (keep : Option (List ℕ)) (all : List ℕ) (limit f g f_after g_after 
       by_reason e d h.root h.why (subst (λ (root : Record). CannotBeShown keep (out-Record root).fields d) r.0 k.why) (memory_or_not e) (memory_or_not d)
 
   both_stop : (e d : Error) → BlockNotShown keep limit one sink e → BlockNotShown keep limit two another d → Same e d
-  both_stop e d h k = one_stop (ShowsBlock p) (BlockIsWrong p) (good_block p can) (one_wrong p can) h.marker s.rest h.faults k.faults (limit - h.count) new other sink another e d still also_still first second
+  both_stop e d h k = one_stop (WithAllRows (ShowsBlock p)) (BlockIsWrong p) (good_block p can) (one_wrong p can) h.marker s.rest h.faults k.faults (limit - h.count) new other sink another e d still also_still first second
     where
       s : Stands all limit h.root h.marker
       s = stands all limit f h.faults h.left h.root h.marker h.count h.reads

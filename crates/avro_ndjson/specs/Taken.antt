@@ -14,7 +14,7 @@ use Rattle.avro_ndjson.specs.Shown.{dates_in_range, ShowsBlock}
 
 -- one block after another was taken, and the lines of their rows, so many in all, were written
 abbrev pub WritesBlocks : Projected → List ℕ → State → State → Option (List ℕ) → Option (List ℕ) → ℕ → Type 0
-WritesBlocks p = written.WritesBlocks (ShowsBlock p)
+WritesBlocks p = written.WritesBlocks (written.WithAllRows (ShowsBlock p))
 
 -- what is wrong with a block: it is refused as a block alone is, or shows a date that is in no year from 0 to 9999
 abbrev pub BlockIsWrong : Projected → FileBlock → Error → Type 0
@@ -25,4 +25,4 @@ BlockIsWrong p block e =
 
 -- whole blocks were shown, and the next one was not: there is none, or it is wrong, or the sink failed within its lines
 abbrev pub StopsAtBlock : Projected → List ℕ → State → State → Change → Error → Type 0
-StopsAtBlock p = written.StopsAtBlock (ShowsBlock p) (BlockIsWrong p)
+StopsAtBlock p = written.StopsAtBlock (written.WithAllRows (ShowsBlock p)) (BlockIsWrong p)

@@ -127,17 +127,19 @@ impl BlockEncoder {
 }
 
 impl EncodesBlocks for BlockEncoder {
+    ghost use Rattle.avro_blocks.specs.Written.{WithAllRows};
     ghost use Rattle.avro_ndjson.specs.Encoder.{IsEncoder};
     ghost use Rattle.avro_ndjson.specs.Shown.{ShowsBlock};
     ghost use Rattle.avro_ndjson.specs.Taken.{BlockIsWrong};
 
     ghost ready = { IsEncoder };
 
-    ghost shows = { λ encoder. ShowsBlock encoder.decoder };
+    ghost shows = { λ encoder. WithAllRows (ShowsBlock encoder.decoder) };
 
     ghost wrong = { λ encoder. BlockIsWrong encoder.decoder };
 
-    fn append_block(&mut self, out: &mut Vec<u8>, block: &Block) -> Result<()> {
-        self.push_block(out, block)
+    fn append_block(&mut self, out: &mut Vec<u8>, block: &Block) -> Result<usize> {
+        self.push_block(out, block)?;
+        Ok(block.number_of_rows)
     }
 }
