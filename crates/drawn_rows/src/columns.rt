@@ -41,8 +41,12 @@ fn draw_ids(alloc: Global, rows: usize) -> Result<Array>
     ensures memory { OnlyOutOfMemory result }
 {
     let mut column = MutablePrimitiveArray::<i64>::with_capacity(alloc, 0)?;
-    push_ids(&mut column, rows)?;
-    Ok(Array::Int64(column.as_box()?))
+    let array = match push_ids(&mut column, rows) {
+        Ok(()) => column.as_box(),
+        Err(error) => Err(error),
+    };
+    drop(column);
+    Ok(Array::Int64(array?))
 }
 
 /// Appends the user of the row that is drawn from this state.
@@ -83,8 +87,12 @@ fn draw_users(alloc: Global, start: u32, rows: usize) -> Result<Array>
 {
     let mut column = MutableUtf8Array::<i32>::with_capacity(alloc, 0)?;
     let mut text = String::new(alloc);
-    push_users(&mut column, &mut text, start, rows)?;
-    Ok(Array::Utf8(column.as_box()?))
+    let array = match push_users(&mut column, &mut text, start, rows) {
+        Ok(()) => column.as_box(),
+        Err(error) => Err(error),
+    };
+    drop((column, text));
+    Ok(Array::Utf8(array?))
 }
 
 /// Appends the booleans of so many rows.
@@ -106,8 +114,12 @@ fn draw_oks(alloc: Global, start: u32, rows: usize) -> Result<Array>
     ensures memory { OnlyOutOfMemory result }
 {
     let mut column = MutableBooleanArray::with_capacity(alloc, 0)?;
-    push_oks(&mut column, start, rows)?;
-    Ok(Array::Boolean(column.as_box()?))
+    let array = match push_oks(&mut column, start, rows) {
+        Ok(()) => column.as_box(),
+        Err(error) => Err(error),
+    };
+    drop(column);
+    Ok(Array::Boolean(array?))
 }
 
 /// The columns of rows that are drawn.

@@ -33,7 +33,9 @@ pub fn coerce_data_type(alloc: Global, datatypes: &[DataType]) -> Result<DataTyp
     ensures memory { OnlyOutOfMemory result }
 {
     let seen = Seen::of(alloc, datatypes)?;
-    coerced_of(alloc, &seen, datatypes)
+    let coerced = coerced_of(alloc, &seen, datatypes);
+    drop(seen);
+    coerced
 }
 
 // The coercion of types of which this is kept. What is kept is dropped by the caller, so that there
@@ -122,7 +124,9 @@ fn coerced_both(alloc: Global, one: &DataType, other: &DataType) -> Result<DataT
     ensures memory { OnlyOutOfMemory result }
 {
     let seen = Seen::of_pair(alloc, one, other)?;
-    coerced(alloc, &seen)
+    let data_type = coerced(alloc, &seen);
+    drop(seen);
+    data_type
 }
 
 // The coercion of the distinct types among these. What is kept of them is dropped here alone.
@@ -132,7 +136,9 @@ fn coerced_distinct(alloc: Global, types: &[DataType]) -> Result<DataType>
     ensures memory { OnlyOutOfMemory result }
 {
     let seen = Seen::of(alloc, types)?;
-    coerced(alloc, &seen)
+    let data_type = coerced(alloc, &seen);
+    drop(seen);
+    data_type
 }
 
 // A field of this name for values of several types.

@@ -55,7 +55,9 @@ fn infer_items(alloc: Global, seen: &mut Seen, items: &[Value]) -> Result<DataTy
 {
     for item in items {
         let data_type = infer(alloc, item)?;
-        add_kept(alloc, seen, &data_type)?;
+        let added = add_kept(alloc, seen, &data_type);
+        drop(data_type);
+        added?;
     }
     let item_type = coerced(alloc, seen)?;
     items_type(alloc, item_type)

@@ -11,6 +11,7 @@ use crate::parts::{are_same, fields, is_struct};
 use arrow_core::Result;
 use arrow_types::DataType;
 use std::alloc::Global;
+use std::mem::replace;
 
 /// What is kept of types that came one at a time, so that their coercion can be told: two of them
 /// at most, or the members of all. A type that came before adds nothing.
@@ -34,8 +35,13 @@ fn two(alloc: Global, one: &DataType, other: &DataType) -> Result<Seen>
     ensures memory { OnlyOutOfMemory result }
 {
     let one = one.try_clone(alloc)?;
-    let other = other.try_clone(alloc)?;
-    Ok(Seen::Two(one, other))
+    match other.try_clone(alloc) {
+        Ok(other) => Ok(Seen::Two(one, other)),
+        Err(error) => {
+            drop(one);
+            Err(error)
+        }
+    }
 }
 
 // Two distinct Structs, by their members.
@@ -92,7 +98,7 @@ impl Seen {
     fn set(&mut self, seen: Seen)
         ensures { self.new ≡ seen }
     {
-        *self = seen;
+        drop(replace(self, seen));
     }
 
     /// Keeps what is needed of one more type.

@@ -4,5 +4,6 @@ pub mod ColumnLemmas
 pub mod Digits
 pub mod Forms
 pub mod Joined
+pub mod Kept
 pub mod Records
 pub mod Runs

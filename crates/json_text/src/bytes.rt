@@ -2,6 +2,7 @@
 ghost use Rattle.std.specs.Prelude.{◌≡◌, ◌*◌, ◌≤◌, ◌++◌, ◌==◌, [], pos, codes, length, take, OnOk, if◌then◌else◌};
 ghost use Rattle.std.specs.Bool.{OnFalse};
 ghost use Rattle.std.specs.Fmt.{decimal, signed_decimal};
+ghost use Rattle.std.specs.Io.{StartsWith};
 ghost use Rattle.arrow_base.specs.WrittenString.{json_string};
 ghost use Rattle.json_text.specs.JsonText.{null};
 ghost use Rattle.json_text.specs.Unescaped.{IsUnescaped};
@@ -12,14 +13,18 @@ use std::alloc::AllocError;
 
 /// What appending a text answers: nothing, or that there is no memory. The wider error of calls
 /// would go through memory at each value.
+///
+/// What stood in the buffer stays: on `Ok` the text follows it, on an error a part of the text.
 pub type Appended = std::result::Result<(), AllocError>;
 
 /// Appends the bytes.
 ///
-/// `AllocError` where there is no memory.
+/// `AllocError` where there is no memory. What stood in `out` stays: on `Ok` the text follows it, on
+/// an error a part of the text.
 #[inline]
 pub fn push(out: &mut Vec<u8>, bytes: &[u8]) -> Appended
     ensures ok { OnOk result (out.new.items ≡ out.old.items ++ bytes.now) }
+    ensures kept { StartsWith out.new.items out.old.items }
 {
     out.extend_from_slice(bytes)?;
     Ok(())
@@ -28,10 +33,12 @@ pub fn push(out: &mut Vec<u8>, bytes: &[u8]) -> Appended
 /// Appends the first of 16 bytes, as many as `len` says. All are copied, in one step of constant
 /// length, and the others taken away again.
 ///
-/// `AllocError` where there is no memory.
+/// `AllocError` where there is no memory. What stood in `out` stays: on `Ok` the text follows it, on
+/// an error a part of the text.
 #[inline]
 pub(crate) fn push_prefix(out: &mut Vec<u8>, bytes: &[u8; 16], len: u8) -> Appended
     ensures ok { OnOk result (out.new.items ≡ out.old.items ++ take len bytes.now) }
+    ensures kept { StartsWith out.new.items out.old.items }
 {
     let start = out.len();
     out.extend_from_slice(bytes)?;
@@ -41,11 +48,13 @@ pub(crate) fn push_prefix(out: &mut Vec<u8>, bytes: &[u8; 16], len: u8) -> Appen
 
 /// Appends the comma that stands before the item at `index`: none where that is 0.
 ///
-/// `AllocError` where there is no memory.
+/// `AllocError` where there is no memory. What stood in `out` stays: on `Ok` the text follows it, on
+/// an error a part of the text.
 #[inline]
 pub fn push_comma(out: &mut Vec<u8>, index: usize) -> Appended
     ensures ok { OnOk result
         (out.new.items ≡ out.old.items ++ (if index == 0 then [] else codes ",")) }
+    ensures kept { StartsWith out.new.items out.old.items }
 {
     if index == 0 {
         return Ok(());
@@ -113,10 +122,12 @@ fn short_has_escape(string: &[u8]) -> bool
 
 /// Appends the JSON string of a string (RFC 8259, section 7).
 ///
-/// `AllocError` where there is no memory.
+/// `AllocError` where there is no memory. What stood in `out` stays: on `Ok` the text follows it, on
+/// an error a part of the text.
 #[inline]
 pub fn push_string(out: &mut Vec<u8>, string: &str) -> Appended
     ensures ok { OnOk result (out.new.items ≡ out.old.items ++ json_string string.now) }
+    ensures kept { StartsWith out.new.items out.old.items }
 {
     if has_escape(string.as_bytes()) {
         return push_escaped(out, string);
@@ -131,6 +142,7 @@ pub fn push_string(out: &mut Vec<u8>, string: &str) -> Appended
 fn push_unescaped(out: &mut Vec<u8>, string: &str) -> Appended
     requires { IsUnescaped string.now }
     ensures ok { OnOk result (out.new.items ≡ out.old.items ++ json_string string.now) }
+    ensures kept { StartsWith out.new.items out.old.items }
 {
     out.push(b'"')?;
     out.extend_from_slice(string.as_bytes())?;
@@ -140,6 +152,7 @@ fn push_unescaped(out: &mut Vec<u8>, string: &str) -> Appended
 
 fn push_escaped(out: &mut Vec<u8>, string: &str) -> Appended
     ensures ok { OnOk result (out.new.items ≡ out.old.items ++ json_string string.now) }
+    ensures kept { StartsWith out.new.items out.old.items }
 {
     match write_str(out, string) {
         Ok(()) => Ok(()),
@@ -149,10 +162,12 @@ fn push_escaped(out: &mut Vec<u8>, string: &str) -> Appended
 
 /// Appends `null`.
 ///
-/// `AllocError` where there is no memory.
+/// `AllocError` where there is no memory. What stood in `out` stays: on `Ok` the text follows it, on
+/// an error a part of the text.
 #[inline(never)]
 pub fn push_null(out: &mut Vec<u8>) -> Appended
     ensures ok { OnOk result (out.new.items ≡ out.old.items ++ null) }
+    ensures kept { StartsWith out.new.items out.old.items }
 {
     push(out, b"null")
 }
@@ -162,6 +177,7 @@ pub fn push_null(out: &mut Vec<u8>) -> Appended
 pub(crate) fn push_string_if(out: &mut Vec<u8>, is_valid: bool, string: &str) -> Appended
     ensures ok { OnOk result
         (out.new.items ≡ out.old.items ++ (if is_valid then json_string string.now else null)) }
+    ensures kept { StartsWith out.new.items out.old.items }
 {
     if is_valid {
         push_string(out, string)
@@ -187,6 +203,7 @@ fn count_digits(integer: u64) -> usize
 #[inline]
 fn push_digits(out: &mut Vec<u8>, integer: u64) -> Appended
     ensures ok { OnOk result (out.new.items ≡ out.old.items ++ decimal integer) }
+    ensures kept { StartsWith out.new.items out.old.items }
 {
     let start = out.len();
     out.extend_from_slice(&[b'0'; 20])?;
@@ -201,6 +218,7 @@ fn push_digits(out: &mut Vec<u8>, integer: u64) -> Appended
 fn push_sign(out: &mut Vec<u8>, is_negative: bool) -> Appended
     ensures ok { OnOk result
         (out.new.items ≡ out.old.items ++ (if is_negative then codes "-" else [])) }
+    ensures kept { StartsWith out.new.items out.old.items }
 {
     if !is_negative {
         return Ok(());
@@ -212,6 +230,7 @@ fn push_sign(out: &mut Vec<u8>, is_negative: bool) -> Appended
 #[inline]
 fn push_integer(out: &mut Vec<u8>, integer: i64) -> Appended
     ensures ok { OnOk result (out.new.items ≡ out.old.items ++ signed_decimal integer) }
+    ensures kept { StartsWith out.new.items out.old.items }
 {
     push_sign(out, integer < 0)?;
     push_digits(out, integer.unsigned_abs())
@@ -221,6 +240,7 @@ fn push_integer(out: &mut Vec<u8>, integer: i64) -> Appended
 #[inline(never)]
 pub(crate) fn push_signed(out: &mut Vec<u8>, integer: i64) -> Appended
     ensures ok { OnOk result (out.new.items ≡ out.old.items ++ signed_decimal integer) }
+    ensures kept { StartsWith out.new.items out.old.items }
 {
     push_integer(out, integer)
 }
@@ -230,6 +250,7 @@ pub(crate) fn push_signed(out: &mut Vec<u8>, integer: i64) -> Appended
 pub(crate) fn push_signed_if(out: &mut Vec<u8>, is_valid: bool, integer: i64) -> Appended
     ensures ok { OnOk result
         (out.new.items ≡ out.old.items ++ (if is_valid then signed_decimal integer else null)) }
+    ensures kept { StartsWith out.new.items out.old.items }
 {
     if is_valid {
         push_integer(out, integer)
@@ -244,6 +265,7 @@ pub(crate) fn push_unsigned_if(out: &mut Vec<u8>, is_valid: bool, integer: u64) 
     ensures ok { OnOk result
         (out.new.items ≡ out.old.items ++
         (if is_valid then signed_decimal (pos integer) else null)) }
+    ensures kept { StartsWith out.new.items out.old.items }
 {
     if is_valid {
         push_digits(out, integer)
@@ -257,6 +279,7 @@ pub(crate) fn push_unsigned_if(out: &mut Vec<u8>, is_valid: bool, integer: u64) 
 pub(crate) fn push_wide_if(out: &mut Vec<u8>, is_valid: bool, integer: i128) -> Appended
     ensures ok { OnOk result
         (out.new.items ≡ out.old.items ++ (if is_valid then signed_decimal integer else null)) }
+    ensures kept { StartsWith out.new.items out.old.items }
 {
     if is_valid {
         push(out, Buffer::new().format(integer).as_bytes())
@@ -267,13 +290,15 @@ pub(crate) fn push_wide_if(out: &mut Vec<u8>, is_valid: bool, integer: i128) -> 
 
 /// Appends a boolean, or `null` where there is none.
 ///
-/// `AllocError` where there is no memory.
+/// `AllocError` where there is no memory. What stood in `out` stays: on `Ok` the text follows it, on
+/// an error a part of the text.
 #[inline(never)]
 pub fn push_boolean_if(out: &mut Vec<u8>, is_valid: bool, boolean: bool) -> Appended
     ensures ok { OnOk result
         (out.new.items
         ≡ out.old.items
         ++ (if is_valid then (if boolean then codes "true" else codes "false") else null)) }
+    ensures kept { StartsWith out.new.items out.old.items }
 {
     if !is_valid {
         push_null(out)

@@ -1,5 +1,6 @@
 //! The columns beneath rows, prepared once for all rows.
 ghost use Rattle.std.specs.Prelude.{◌≡◌, ◌++◌, [], ◌∷◌, ◌==◌, codes, length, map, IfOk, OnOk, if◌then◌else◌};
+ghost use Rattle.std.specs.Io.{StartsWith};
 ghost use Rattle.arrow_base.specs.WrittenString.{json_string};
 ghost use Rattle.arrow_types.specs.declared.types.Field.{Field as TheField};
 ghost use Rattle.json_text.specs.Columns.{AddsColumn, AreWithin, AreFields, key_bytes, key_of};
@@ -60,10 +61,12 @@ fn make_key(alloc: Global, is_first: bool, name: &str) -> std::result::Result<Ke
 
 /// Appends a key.
 ///
-/// `AllocError` where there is no memory.
+/// `AllocError` where there is no memory. What stood in `out` stays: on `Ok` the text follows it, on
+/// an error a part of the text.
 #[inline]
 pub fn push_key(out: &mut Vec<u8>, key: &Key) -> Appended
     ensures ok { OnOk result (out.new.items ≡ out.old.items ++ key_bytes key.now) }
+    ensures kept { StartsWith out.new.items out.old.items }
 {
     match key {
         Key::Short(bytes, len) => push_prefix(out, bytes, *len),

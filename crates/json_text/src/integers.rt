@@ -1,5 +1,6 @@
 //! Integers by the type that they are of: dates, timestamps, and integers.
 ghost use Rattle.std.specs.Prelude.{◌≡◌, ◌++◌, OnOk, if◌then◌else◌};
+ghost use Rattle.std.specs.Io.{StartsWith};
 ghost use Rattle.json_dates.specs.Times.{date_json, timestamp_json};
 ghost use Rattle.json_text.specs.Columns.{IsForm, integer_in_range, integer_text};
 ghost use Rattle.json_text.specs.JsonText.{null, zone_offset};
@@ -57,6 +58,7 @@ pub fn integer_form(data_type: &DataType) -> IntegerForm
 /// Appends the text of a day.
 fn push_day(out: &mut Vec<u8>, day: i64) -> Appended
     ensures ok { OnOk result (out.new.items ≡ out.old.items ++ date_json day) }
+    ensures kept { StartsWith out.new.items out.old.items }
 {
     match push_date(out, day) {
         Ok(()) => Ok(()),
@@ -67,6 +69,7 @@ fn push_day(out: &mut Vec<u8>, day: i64) -> Appended
 /// Appends the text of a timestamp on the clock of an offset.
 fn push_moment(out: &mut Vec<u8>, unit: TimeUnit, offset: Option<i16>, value: i64) -> Appended
     ensures ok { OnOk result (out.new.items ≡ out.old.items ++ timestamp_json unit offset value) }
+    ensures kept { StartsWith out.new.items out.old.items }
 {
     match push_timestamp(out, unit, offset, value) {
         Ok(()) => Ok(()),
@@ -78,6 +81,7 @@ fn push_moment(out: &mut Vec<u8>, unit: TimeUnit, offset: Option<i16>, value: i6
 #[inline(never)]
 fn push_formed(out: &mut Vec<u8>, form: &IntegerForm, integer: i64) -> Appended
     ensures ok { OnOk result (out.new.items ≡ out.old.items ++ integer_text form.now integer) }
+    ensures kept { StartsWith out.new.items out.old.items }
 {
     match form {
         IntegerForm::Decimal => push_signed(out, integer),
@@ -89,7 +93,8 @@ fn push_formed(out: &mut Vec<u8>, form: &IntegerForm, integer: i64) -> Appended
 
 /// Appends the text of an integer by its form, or `null` where there is none.
 ///
-/// `AllocError` where there is no memory.
+/// `AllocError` where there is no memory. What stood in `out` stays: on `Ok` the text follows it, on
+/// an error a part of the text.
 #[inline]
 pub fn push_integer_if(
     out: &mut Vec<u8>,
@@ -100,6 +105,7 @@ pub fn push_integer_if(
     ensures ok { OnOk result
         (out.new.items
         ≡ out.old.items ++ (if is_valid then integer_text form.now integer else null)) }
+    ensures kept { StartsWith out.new.items out.old.items }
 {
     if !is_valid {
         return push_null(out);

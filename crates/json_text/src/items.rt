@@ -1,5 +1,6 @@
 //! The texts of runs of items of one flat kind.
 ghost use Rattle.std.specs.Prelude.{◌≡◌, ◌-◌, ◌≤◌, ◌++◌, length, map, take, drop, OnOk};
+ghost use Rattle.std.specs.Io.{StartsWith};
 ghost use Rattle.json_text.specs.Columns.{IsForm};
 ghost use Rattle.json_text.specs.JsonText.{text, joined};
 
@@ -28,6 +29,7 @@ pub(crate) fn push_numbers<T: Printed>(
         ≡ out.old.items
         ++ joined (map (text array.now.data_type)
         (take (end - start) (drop start array.now.slots)))) }
+    ensures kept { StartsWith out.new.items out.old.items }
 {
     let _ = array.data_type();
     for k in 0..end - start {
@@ -52,6 +54,7 @@ pub(crate) fn push_strings<O: Offset>(
         ≡ out.old.items
         ++ joined (map (text array.now.data_type)
         (take (end - start) (drop start array.now.slots)))) }
+    ensures kept { StartsWith out.new.items out.old.items }
 {
     for k in 0..end - start {
         push_comma(out, k)?;
@@ -75,6 +78,7 @@ pub(crate) fn push_booleans(
         ≡ out.old.items
         ++ joined (map (text array.now.data_type)
         (take (end - start) (drop start array.now.slots)))) }
+    ensures kept { StartsWith out.new.items out.old.items }
 {
     for k in 0..end - start {
         push_comma(out, k)?;
@@ -93,6 +97,7 @@ pub(crate) fn push_nulls(out: &mut Vec<u8>, array: &NullArray, start: usize, end
         ≡ out.old.items
         ++ joined (map (text array.now.data_type)
         (take (end - start) (drop start array.now.slots)))) }
+    ensures kept { StartsWith out.new.items out.old.items }
 {
     for k in 0..end - start {
         push_comma(out, k)?;
@@ -118,6 +123,7 @@ pub(crate) fn push_binaries<O: Offset>(
         ≡ out.old.items
         ++ joined (map (text array.now.data_type)
         (take (end - start) (drop start array.now.slots)))) }
+    ensures kept { StartsWith out.new.items out.old.items }
 {
     for k in 0..end - start {
         push_comma(out, k)?;
@@ -143,6 +149,7 @@ pub(crate) fn push_fixed_size_binaries(
         ≡ out.old.items
         ++ joined (map (text array.now.data_type)
         (take (end - start) (drop start array.now.slots)))) }
+    ensures kept { StartsWith out.new.items out.old.items }
 {
     for k in 0..end - start {
         push_comma(out, k)?;

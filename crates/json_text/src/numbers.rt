@@ -1,5 +1,6 @@
 //! The texts of the values that primitive columns keep.
 ghost use Rattle.std.specs.Prelude.{◌≡◌, ◌++◌, OnOk, if◌then◌else◌};
+ghost use Rattle.std.specs.Io.{StartsWith};
 ghost use Rattle.arrow_types.specs.declared.types.DataType.{DataType as TheDataType};
 ghost use Rattle.arrow_array.specs.Parts.{IsPlain};
 ghost use Rattle.json_text.specs.Columns.{IsForm};
@@ -16,7 +17,8 @@ pub(crate) trait Printed: NativeType {
     fn push_if(self, out: &mut Vec<u8>, form: &IntegerForm, is_valid: bool) -> Appended
         ensures ok { OnOk result ((t : TheDataType) → IsPlain Self.PRIMITIVE t → IsForm form.now t
             → out.new.items
-            ≡ out.old.items ++ (if is_valid then text t (Self.native_slot self) else null)) };
+            ≡ out.old.items ++ (if is_valid then text t (Self.native_slot self) else null)) }
+        ensures kept { StartsWith out.new.items out.old.items };
 }
 
 impl Printed for i8 {

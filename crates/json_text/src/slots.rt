@@ -1,5 +1,6 @@
 //! The text of slots of an array.
 ghost use Rattle.std.specs.Prelude.{◌≡◌, ◌+◌, ◌-◌, ◌<◌, ◌≤◌, ◌++◌, length, map, take, drop, OnOk, if◌then◌else◌};
+ghost use Rattle.std.specs.Io.{StartsWith};
 ghost use Rattle.arrow_types.specs.declared.types.DataType.TheVariants.{Struct as StructType};
 ghost use Rattle.arrow_array.specs.Arrays.{array_type, array_slots};
 ghost use Rattle.arrow_array.specs.Kinds.{IsStructType};
@@ -28,12 +29,14 @@ use arrow_types::{DataType, Field};
 /// and timestamps outside the years 0 to 9999; integers of any other type are decimal, a decimal's
 /// without its point; and a zone that is no offset counts as none.
 ///
-/// `AllocError` where there is no memory.
+/// `AllocError` where there is no memory. What stood in `out` stays: on `Ok` the text follows it, on
+/// an error a part of the text.
 pub fn push_slot(out: &mut Vec<u8>, array: &Array, i: usize) -> Appended
     requires { i < length (array_slots array.now) }
     ensures ok { OnOk result
         (out.new.items
         ≡ out.old.items ++ text (array_type array.now) (slot_at (array_slots array.now) i)) }
+    ensures kept { StartsWith out.new.items out.old.items }
 {
     let columns = columns_within(*out.allocator(), array.data_type())?;
     let form = integer_form(array.data_type());
@@ -42,11 +45,13 @@ pub fn push_slot(out: &mut Vec<u8>, array: &Array, i: usize) -> Appended
 
 /// Appends the texts of all slots of the array, with commas between them.
 ///
-/// `AllocError` where there is no memory.
+/// `AllocError` where there is no memory. What stood in `out` stays: on `Ok` the text follows it, on
+/// an error a part of the text.
 pub fn push_slots(out: &mut Vec<u8>, array: &Array) -> Appended
     ensures ok { OnOk result
         (out.new.items
         ≡ out.old.items ++ joined (map (text (array_type array.now)) (array_slots array.now))) }
+    ensures kept { StartsWith out.new.items out.old.items }
 {
     let columns = columns_within(*out.allocator(), array.data_type())?;
     let form = integer_form(array.data_type());
@@ -56,7 +61,8 @@ pub fn push_slots(out: &mut Vec<u8>, array: &Array) -> Appended
 /// Appends the text of slot `i` of the array, as `push_slot` does, where the form of its integers and
 /// the columns within it have been made before, by `integer_form` and `columns_within`.
 ///
-/// `AllocError` where there is no memory.
+/// `AllocError` where there is no memory. What stood in `out` stays: on `Ok` the text follows it, on
+/// an error a part of the text.
 #[cycle(slots)]
 pub fn push_value(
     out: &mut Vec<u8>,
@@ -71,6 +77,7 @@ pub fn push_value(
     ensures ok { OnOk result
         (out.new.items
         ≡ out.old.items ++ text (array_type array.now) (slot_at (array_slots array.now) i)) }
+    ensures kept { StartsWith out.new.items out.old.items }
 {
     match array {
         Array::Null(array) => {
@@ -172,6 +179,7 @@ fn push_list(
     requires columns { AreWithin array.now.data_type columns.now }
     ensures ok { OnOk result
         (out.new.items ≡ out.old.items ++ text array.now.data_type (slot_at array.now.slots i)) }
+    ensures kept { StartsWith out.new.items out.old.items }
 {
     push_part(out, array.is_valid(i), &array.value(i), form, columns)
 }
@@ -191,6 +199,7 @@ fn push_large_list(
     requires columns { AreWithin array.now.data_type columns.now }
     ensures ok { OnOk result
         (out.new.items ≡ out.old.items ++ text array.now.data_type (slot_at array.now.slots i)) }
+    ensures kept { StartsWith out.new.items out.old.items }
 {
     push_part(out, array.is_valid(i), &array.value(i), form, columns)
 }
@@ -210,6 +219,7 @@ fn push_fixed_size_list(
     requires columns { AreWithin array.now.data_type columns.now }
     ensures ok { OnOk result
         (out.new.items ≡ out.old.items ++ text array.now.data_type (slot_at array.now.slots i)) }
+    ensures kept { StartsWith out.new.items out.old.items }
 {
     push_part(out, array.is_valid(i), &array.value(i), form, columns)
 }
@@ -229,6 +239,7 @@ fn push_dictionary(
     requires columns { AreWithin array.now.data_type columns.now }
     ensures ok { OnOk result
         (out.new.items ≡ out.old.items ++ text array.now.data_type (slot_at array.now.slots i)) }
+    ensures kept { StartsWith out.new.items out.old.items }
 {
     match array.keys().index(i) {
         Some(index) => push_value(out, array.values(), index, form, columns),
@@ -243,6 +254,7 @@ fn push_struct(out: &mut Vec<u8>, array: &StructArray, i: usize, columns: &[Colu
     requires columns { AreWithin array.now.data_type columns.now }
     ensures ok { OnOk result
         (out.new.items ≡ out.old.items ++ text array.now.data_type (slot_at array.now.slots i)) }
+    ensures kept { StartsWith out.new.items out.old.items }
 {
     if !array.is_valid(i) {
         return push_null(out);
@@ -268,6 +280,7 @@ fn push_part(
         ≡ out.old.items
         ++ (if is_valid then array (map (text (array_type part.now.array.now))
         (part_slots part.now)) else null)) }
+    ensures kept { StartsWith out.new.items out.old.items }
 {
     if !is_valid {
         return push_null(out);
@@ -301,6 +314,7 @@ fn push_items(
         ≡ out.old.items
         ++ joined (map (text (array_type array.now))
         (take (end - start) (drop start (array_slots array.now))))) }
+    ensures kept { StartsWith out.new.items out.old.items }
 {
     match array {
         Array::Null(array) => push_nulls(out, array, start, end),
@@ -347,6 +361,7 @@ fn push_lists(
         ≡ out.old.items
         ++ joined (map (text array.now.data_type)
         (take (end - start) (drop start array.now.slots)))) }
+    ensures kept { StartsWith out.new.items out.old.items }
 {
     for k in 0..end - start {
         push_comma(out, k)?;
@@ -374,6 +389,7 @@ fn push_large_lists(
         ≡ out.old.items
         ++ joined (map (text array.now.data_type)
         (take (end - start) (drop start array.now.slots)))) }
+    ensures kept { StartsWith out.new.items out.old.items }
 {
     for k in 0..end - start {
         push_comma(out, k)?;
@@ -401,6 +417,7 @@ fn push_fixed_size_lists(
         ≡ out.old.items
         ++ joined (map (text array.now.data_type)
         (take (end - start) (drop start array.now.slots)))) }
+    ensures kept { StartsWith out.new.items out.old.items }
 {
     for k in 0..end - start {
         push_comma(out, k)?;
@@ -428,6 +445,7 @@ fn push_dictionaries(
         ≡ out.old.items
         ++ joined (map (text array.now.data_type)
         (take (end - start) (drop start array.now.slots)))) }
+    ensures kept { StartsWith out.new.items out.old.items }
 {
     for k in 0..end - start {
         push_comma(out, k)?;
@@ -453,6 +471,7 @@ fn push_structs(
         ≡ out.old.items
         ++ joined (map (text array.now.data_type)
         (take (end - start) (drop start array.now.slots)))) }
+    ensures kept { StartsWith out.new.items out.old.items }
 {
     for k in 0..end - start {
         push_comma(out, k)?;
@@ -463,13 +482,15 @@ fn push_structs(
 
 /// Appends the object of the arrays' slots at index `i`, a member for each of these columns.
 ///
-/// `AllocError` where there is no memory.
+/// `AllocError` where there is no memory. What stood in `out` stays: on `Ok` the text follows it, on
+/// an error a part of the text.
 #[cycle(slots)]
 pub fn push_object(out: &mut Vec<u8>, arrays: &[Array], i: usize, columns: &[Column]) -> Appended
     requires slots { HaveSlots (i + 1) arrays.now }
     requires columns { AreColumns arrays.now columns.now }
     ensures ok { OnOk result
         (out.new.items ≡ out.old.items ++ columns_object arrays.now columns.now i) }
+    ensures kept { StartsWith out.new.items out.old.items }
 {
     if arrays.is_empty() {
         return push(out, b"{}");

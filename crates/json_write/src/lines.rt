@@ -1,5 +1,6 @@
 //! Rows as JSON lines: one JSON object after another, each with a line feed (RFC 8259, section 4).
 ghost use Rattle.std.specs.Prelude.{◌≡◌, ◌++◌, ◌⊎◌, IsSome, None, Some, codes, flat_map, IfOk, OnOk, IfErr};
+ghost use Rattle.std.specs.Io.{StartsWith};
 ghost use Rattle.arrow_core.specs.Errors.{OnlyOutOfMemory};
 ghost use Rattle.arrow_core.specs.declared.error.Error.TheVariants.{OutOfMemory};
 ghost use Rattle.arrow_array.specs.Structs.{HaveSlots};
@@ -22,7 +23,7 @@ pub struct LineEncoder {
 
 /// Appends the object of each of the first `count` rows, and a line feed after each.
 ///
-/// `AllocError` where there is no memory.
+/// `AllocError` where there is no memory. What stood in `out` stays.
 fn push_rows(out: &mut Vec<u8>, arrays: &[Array], count: usize, columns: &[Column]) -> Appended
     requires slots { HaveSlots count arrays.now }
     requires columns { AreColumns arrays.now columns.now }
@@ -30,6 +31,7 @@ fn push_rows(out: &mut Vec<u8>, arrays: &[Array], count: usize, columns: &[Colum
         (out.new.items
         ≡ out.old.items
         ++ flat_map (λ row. row ++ codes "\n") (column_rows arrays.now columns.now 0 count)) }
+    ensures kept { StartsWith out.new.items out.old.items }
 {
     for i in 0..count {
         push_object(out, arrays, i, columns)?;
@@ -57,13 +59,16 @@ impl LineEncoder {
     /// each array in order: `NotYetImplemented(NoJsonText)` where its type has no JSON text,
     /// `InvalidArgumentError(ZoneOffset)` where the zone of a timestamp, at any depth, is no
     /// offset, and `InvalidArgumentError(DateRange)` where it shows a date or a timestamp whose
-    /// year isn't one of 0 to 9999. After any of these `out` is as it was. `OutOfMemory`, and then
-    /// part of the lines may have been appended.
+    /// year isn't one of 0 to 9999. After any of these `out` is as it was. `OutOfMemory`.
+    ///
+    /// What stood in `out` stays: on `Ok` the lines follow it, after `OutOfMemory` a part of the
+    /// lines.
     pub fn push(&self, out: &mut Vec<u8>, chunk: &Chunk) -> Result<()>
         ensures ok { OnOk result
             (out.new.items
             ≡ out.old.items
             ++ flat_map (λ row. row ++ codes "\n") (objects (names_of self.now.fields) chunk.now)) }
+        ensures kept { StartsWith out.new.items out.old.items }
         ensures accepted { OnOk result (chunk_refusal self.now.fields chunk.now ≡ None) }
         ensures err { IfErr result
             (λ e. (e ≡ OutOfMemory) ⊎ (chunk_refusal self.now.fields chunk.now ≡ Some e)) }

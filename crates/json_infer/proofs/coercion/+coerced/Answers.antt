@@ -20,15 +20,15 @@ coerced_columns-loop-index-preserved t c =
     column_more c.args.columns.now c.loop-index.index (c.at.result.0.now, c.at.result.1.now) c.loop-index.fields.items c.push.new.self.items c.in_ok-field.field
     c.at.ensures c.loop-index.invariant c.in_ok-field.ensures.field (search rules)
 
-pub coerced_distinct-coerced-requires : goal.coerced_distinct-coerced-requires
-coerced_distinct-coerced-requires t c =
+pub coerced_distinct-coerced-data_type-requires : goal.coerced_distinct-coerced-data_type-requires
+coerced_distinct-coerced-data_type-requires t c =
     let e : seen_size c.in_ok-seen.seen ≡ seen_size (seen_after seen.Nothing c.args.types.now) = ap seen_size c.in_ok-seen.ensures.kept in
     let fits = seen_fits c.args.types.now in
     (omega (arith, e, fits), tt)
 
 pub coerced_distinct-returns-clause-coerced : goal.coerced_distinct-returns-clause-coerced
 coerced_distinct-returns-clause-coerced t c =
-    IfOk-weaker c.coerced.result _ _ (λ v h. h ∙ ap result_of c.in_ok-seen.ensures.kept ∙ sym (one_at_a_time c.args.types.now)) c.coerced.ensures.coerced
+    IfOk-weaker c.coerced-data_type.result _ _ (λ v h. h ∙ ap result_of c.in_ok-seen.ensures.kept ∙ sym (one_at_a_time c.args.types.now)) c.coerced-data_type.ensures.coerced
 
 pub coerced_field-returns-clause-field : goal.coerced_field-returns-clause-field
 coerced_field-returns-clause-field t c =
@@ -36,15 +36,15 @@ coerced_field-returns-clause-field t c =
     let n : c.in_ok-name.name ≡ c.args.name.now = c.in_ok-name.ensures.copy in
     c.new.ensures ∙ λ i. nullable (n i) (d i)
 
-pub coerced_both-coerced-requires : goal.coerced_both-coerced-requires
-coerced_both-coerced-requires t c =
+pub coerced_both-coerced-data_type-requires : goal.coerced_both-coerced-data_type-requires
+coerced_both-coerced-data_type-requires t c =
     let e : seen_size c.in_ok-seen.seen ≡ seen_size (seen_after seen.Nothing (c.args.one.now ∷ c.args.other.now ∷ [])) = ap seen_size c.in_ok-seen.ensures.kept in
     let fits = seen_fits (c.args.one.now ∷ c.args.other.now ∷ []) in
     (omega (arith, e, fits), tt)
 
 pub coerced_both-returns-clause-coerced : goal.coerced_both-returns-clause-coerced
 coerced_both-returns-clause-coerced t c =
-    IfOk-weaker c.coerced.result _ _ (λ v h. h ∙ ap result_of c.in_ok-seen.ensures.kept ∙ sym (coerced_both c.args.one.now c.args.other.now)) c.coerced.ensures.coerced
+    IfOk-weaker c.coerced-data_type.result _ _ (λ v h. h ∙ ap result_of c.in_ok-seen.ensures.kept ∙ sym (coerced_both c.args.one.now c.args.other.now)) c.coerced-data_type.ensures.coerced
 
 pub coerced_pair-coerced_both-requires : goal.coerced_pair-coerced_both-requires
 coerced_pair-coerced_both-requires t c =

@@ -1,5 +1,6 @@
--- What has been added of items or members, and how deep the types beneath are.
+-- What has been added of items or members, that what stood before stays, and how deep the types beneath are.
 use Rattle.std.proofs.Common.{◌≡◌, ◌+◌, ◌-◌, ◌*◌, ◌++◌, map, take, drop}
+use Rattle.std.specs.Io.{StartsWith}
 use Rattle.arrow_types.specs.declared.types.DataType.{size-DataType}
 use Rattle.arrow_array.specs.Arrays.{array_type}
 use Rattle.arrow_array.specs.Depths.{children_depth}
@@ -8,24 +9,40 @@ use Rattle.json_text.specs.JsonText.{text, joined}
 use Rattle.json_text.proofs.slots.+slots.Given as goal
 
 abbrev pub invariant-push_lists-loop-k : goal.invariant-push_lists-loop-k
-invariant-push_lists-loop-k l = l.out.items ≡ l.fn.out.items ++ joined (take l.k (map (text l.array.data_type) (take (l.end - l.start) (drop l.start l.array.slots))))
+invariant-push_lists-loop-k l = record {
+  text : l.out.items ≡ l.fn.out.items ++ joined (take l.k (map (text l.array.data_type) (take (l.end - l.start) (drop l.start l.array.slots))));
+  kept : StartsWith l.out.items l.fn.out.items;
+}
 
 abbrev pub invariant-push_large_lists-loop-k : goal.invariant-push_large_lists-loop-k
-invariant-push_large_lists-loop-k l = l.out.items ≡ l.fn.out.items ++ joined (take l.k (map (text l.array.data_type) (take (l.end - l.start) (drop l.start l.array.slots))))
+invariant-push_large_lists-loop-k l = record {
+  text : l.out.items ≡ l.fn.out.items ++ joined (take l.k (map (text l.array.data_type) (take (l.end - l.start) (drop l.start l.array.slots))));
+  kept : StartsWith l.out.items l.fn.out.items;
+}
 
 abbrev pub invariant-push_fixed_size_lists-loop-k : goal.invariant-push_fixed_size_lists-loop-k
-invariant-push_fixed_size_lists-loop-k l = l.out.items ≡ l.fn.out.items ++ joined (take l.k (map (text l.array.data_type) (take (l.end - l.start) (drop l.start l.array.slots))))
+invariant-push_fixed_size_lists-loop-k l = record {
+  text : l.out.items ≡ l.fn.out.items ++ joined (take l.k (map (text l.array.data_type) (take (l.end - l.start) (drop l.start l.array.slots))));
+  kept : StartsWith l.out.items l.fn.out.items;
+}
 
 abbrev pub invariant-push_dictionaries-loop-k : goal.invariant-push_dictionaries-loop-k
-invariant-push_dictionaries-loop-k l = l.out.items ≡ l.fn.out.items ++ joined (take l.k (map (text l.array.data_type) (take (l.end - l.start) (drop l.start l.array.slots))))
+invariant-push_dictionaries-loop-k l = record {
+  text : l.out.items ≡ l.fn.out.items ++ joined (take l.k (map (text l.array.data_type) (take (l.end - l.start) (drop l.start l.array.slots))));
+  kept : StartsWith l.out.items l.fn.out.items;
+}
 
 abbrev pub invariant-push_structs-loop-k : goal.invariant-push_structs-loop-k
-invariant-push_structs-loop-k l = l.out.items ≡ l.fn.out.items ++ joined (take l.k (map (text l.array.data_type) (take (l.end - l.start) (drop l.start l.array.slots))))
+invariant-push_structs-loop-k l = record {
+  text : l.out.items ≡ l.fn.out.items ++ joined (take l.k (map (text l.array.data_type) (take (l.end - l.start) (drop l.start l.array.slots))));
+  kept : StartsWith l.out.items l.fn.out.items;
+}
 
 abbrev pub invariant-push_object-loop-array : goal.invariant-push_object-loop-array
 invariant-push_object-loop-array l = record {
   columns : AreColumns (drop l.array-index l.arrays) l.rest;
   text : l.out.items ++ columns_text (drop l.array-index l.arrays) l.rest l.i ≡ l.fn.out.items ++ columns_text l.arrays l.columns l.i;
+  kept : StartsWith l.out.items l.fn.out.items;
 }
 
 abbrev pub decreases-push_value : goal.decreases-push_value
