@@ -121,7 +121,7 @@ pub fn deserialize(alloc: Global, rows: &[Text], data_type: DataType) -> Result<
 /// of each dictionary too. The column of no rows is empty. The iterator has to end.
 ///
 /// The refusals are those of `deserialize` but the first. Where a row is no JSON text, none after it
-/// is asked for.
+/// is asked for; no clause says so, since nothing is left of the iterator after the call.
 pub fn deserialize_iter<'a, I: Iterator<Item = &'a str> + Drop>(
     alloc: Global,
     rows: I,

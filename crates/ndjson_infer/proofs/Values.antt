@@ -53,8 +53,22 @@ value_of (first ∷ rows) (x ∷ values) row value p (inl same) is =
     inl (one_value row x value (as_text x row (subst (IsJson x) same p.0)) (as_text value row is))
 value_of (first ∷ rows) (x ∷ values) row value p (inr later) is = inr (value_of rows values row value p.1 later is)
 
+value_at : (rows : List (List ℕ)) (values : List Value) (row : List ℕ) → StandFor rows values → Among row rows → (value : Value) × IsJson value row
+value_at [] values row p h = absurd h
+value_at (first ∷ rows) [] row p h = absurd p
+value_at (first ∷ rows) (value ∷ values) row p (inl is) = (value, subst (IsJson value) is p.0)
+value_at (first ∷ rows) (value ∷ values) row p (inr later) = value_at rows values row p.1 later
+
 pub same_members : (rows others : List (List ℕ)) (values more : List Value) → StandFor rows values → StandFor others more → SameMembers rows others → SameMembers values more
 same_members rows others values more p q same value = (
   λ h. let r = row_of rows values value p h in value_of others more r.0 value q ((same r.0).0 r.1) r.2,
   λ h. let r = row_of others more value q h in value_of rows values r.0 value p ((same r.0).1 r.1) r.2,
 )
+
+-- rows that are all among such rows stand for values
+pub all_stand : (others rows : List (List ℕ)) (values : List Value) → StandFor rows values → ((row : List ℕ) → Among row others → Among row rows) → (more : List Value) × StandFor others more
+all_stand [] rows values p among = ([], tt)
+all_stand (row ∷ others) rows values p among =
+    let first = value_at rows values row p (among row (inl refl)) in
+    let more = all_stand others rows values p (λ other h. among other (inr h)) in
+    (first.0 ∷ more.0, (first.1, more.1))

@@ -45,3 +45,7 @@ module _ {I : Type 0} (next_gives : I → Option (Bor (List ℕ)) → I → Type
   -- why there is no type
   abbrev pub FailsAt : Error → Type 0
   FailsAt e = FailsAtRow e ⊎ (e ≡ OutOfMemory)
+
+  -- each row that the iterator may give stands for a value
+  abbrev pub GivesValues : Type 0
+  GivesValues = (given : List (Bor (List ℕ))) (after : I) → Yields next_gives rows given after → (values : List Value) × StandFor (texts_of given) values

@@ -17,6 +17,11 @@ LinesInAnyOrder =
     (rows others : List (List ℕ)) (values other_values : List Value) → StandFor rows values → StandFor others other_values → SameMembers rows others
     → SameUpToOrder (type_of_rows values) (type_of_rows other_values)
 
+-- Where rows stand for values, so do the same rows in another order, however often each stands.
+abbrev pub ValuesInAnyOrder : Type 0
+ValuesInAnyOrder =
+    (rows others : List (List ℕ)) (values : List Value) → StandFor rows values → SameMembers rows others → (other_values : List Value) × StandFor others other_values
+
 -- the source told these bytes, and didn't fail in the call
 pub record IsTold (bytes : List ℕ) (old new : Told) : Type 0 where
   pub told : old.left ≡ Some bytes

@@ -5,7 +5,8 @@ ghost use Rattle.json_tree.specs.Meaning.{IsJson};
 ghost use Rattle.json_infer.specs.RowsSeen.{StandsFor};
 ghost use Rattle.std.specs.Iterator.{IsFinite};
 ghost use Rattle.ndjson_infer.specs.Inference.{NoValue};
-ghost use Rattle.ndjson_infer.specs.GivenRows.{InfersAll, StandsForAll, FailsAt};
+ghost use Rattle.arrow_core.specs.declared.error.Error.TheVariants.{OutOfMemory};
+ghost use Rattle.ndjson_infer.specs.GivenRows.{InfersAll, StandsForAll, FailsAt, GivesValues};
 
 use crate::repeated::adds_nothing;
 use arrow_base::{DataType, Error, Result};
@@ -78,7 +79,8 @@ fn infer_into<'a, I: Iterator<Item = &'a str> + Drop>(
 /// kept of a row but its type.
 ///
 /// The first row that is no such text decides: `LimitExceeded` where it has more than 128 brackets
-/// open at once, else `ExternalFormat(Json)`; no row after it is asked for. `OutOfMemory`.
+/// open at once, else `ExternalFormat(Json)`; where there is none, `OutOfMemory` alone. No row after
+/// it is asked for; no clause says so, since nothing is left of the iterator after the call.
 pub fn infer_iter<'a, I: Iterator<Item = &'a str> + Drop>(
     alloc: Global,
     rows: I,
@@ -87,6 +89,7 @@ pub fn infer_iter<'a, I: Iterator<Item = &'a str> + Drop>(
     requires ends { IsFinite (I.remaining rows) }
     ensures ok { IfOk result (InfersAll I.next_gives rows) }
     ensures err { IfErr result (FailsAt I.next_gives rows) }
+    ensures complete { GivesValues I.next_gives rows → IfErr result (λ e. e ≡ OutOfMemory) }
 {
     let mut types = RowTypes::new(alloc);
     infer_into(alloc, &mut types, rows)
