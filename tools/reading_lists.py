@@ -33,7 +33,7 @@ LISTS = [
     ("`Reader`", "avro_read", ["Reader::new", "Reader::next", "narrower_reads"], [0]),
     ("`avro_to_ndjson`", "avro_ndjson", ["avro_to_ndjson", "conversion_answers"], [0]),
     ("`avro_rewrite`", "avro_canonical", ["avro_rewrite", "rewriting_answers"], [0, 3]),
-    ("`ndjson_to_avro`", "ndjson_avro", ["ndjson_to_avro", "conversion_answers"], [0, 3, 4]),
+    ("`ndjson_to_avro`", "ndjson_avro", ["ndjson_to_avro", "lines_answers"], [0, 3, 4]),
     ("The laws of two calls", "arrow_convert",
      ["canonical_forms", "lines_and_back", "rewritten_file", "rewritten_twice", "rewriting_error"], [0, 3, 4, 5]),
     ("The program's `run`", "avrocat", ["run", "one_error_is_due", "no_error_is_due_to_what_can_be_done"], [0, 3, 4, 5]),

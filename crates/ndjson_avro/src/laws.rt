@@ -3,7 +3,7 @@ ghost use Rattle.ndjson_avro.specs.Answers.{FieldsAreRefused, LinesAreWritten, R
 
 /// Lines of rows that can be written are written; where rows of the fields can't be, the error says
 /// so.
-pub fn conversion_answers()
+pub fn lines_answers()
     ensures written { LinesAreWritten }
     ensures refused { FieldsAreRefused }
     ensures not_converted { RefusedIsNotConverted }

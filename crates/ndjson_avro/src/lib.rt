@@ -11,5 +11,5 @@ mod rows;
 mod sizes;
 mod target;
 
-pub use laws::conversion_answers;
+pub use laws::lines_answers;
 pub use ndjson::ndjson_to_avro;

@@ -1,6 +1,6 @@
 use Rattle.ndjson_avro.proofs.Complete.{lines_are_written}
 use Rattle.ndjson_avro.proofs.Refused.{refused_as_due, refused_is_not_converted}
-use Rattle.ndjson_avro.proofs.laws.conversion_answers.Goals as goal
+use Rattle.ndjson_avro.proofs.laws.lines_answers.Goals as goal
 
 pub returns-clause-written : goal.returns-clause-written
 returns-clause-written c = lines_are_written
