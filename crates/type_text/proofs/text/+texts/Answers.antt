@@ -5,7 +5,7 @@ use Rattle.arrow_types.specs.declared.types.Field.{Field}
 use Rattle.arrow_base.specs.Joined.{joined}
 use Rattle.type_text.specs.Texts.{type_text}
 use Rattle.type_text.proofs.FieldTexts.{field_text, list_text, struct_text, same_part}
-use Rattle.type_text.proofs.Joins.{led_joined}
+use Rattle.arrow_base.proofs.Joins.{led_joined}
 use Rattle.type_text.proofs.text.+texts.Goals as goal
 
 pub append_type_text-returns-in-List-clause-appended : goal.append_type_text-returns-in-List-clause-appended
