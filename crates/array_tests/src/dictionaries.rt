@@ -1,10 +1,9 @@
 //! Arrays that are encoded as dictionaries. What is expected was worked by hand.
 
 use arrow_array::{Keys, PrimitiveArray, Utf8Array};
-use arrow_core::{Error, Result};
+use arrow_core::{Error, IntegerType, Offset, Result};
 use arrow_dictionaries::{encode_primitives, encode_strings};
 use arrow_flat::{Container, MutablePrimitiveArray, MutableUtf8Array};
-use arrow_types::{IntegerType, Offset};
 use std::alloc::Global;
 use std::process::Abort;
 

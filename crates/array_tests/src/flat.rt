@@ -2,8 +2,7 @@
 
 use crate::samples::{copied, integers, is_refused, numbers};
 use arrow_columns::{Array, Bitmap, BooleanArray, Chunk, PrimitiveArray, Utf8Array};
-use arrow_core::{Reason, Result};
-use arrow_types::{DataType, IntervalUnit, MonthsDaysNs, NativeType};
+use arrow_core::{DataType, IntervalUnit, MonthsDaysNs, NativeType, Reason, Result};
 use std::alloc::Global;
 use std::process::Abort;
 

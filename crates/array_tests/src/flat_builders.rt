@@ -7,7 +7,7 @@ use arrow_builders::{
     Container, FixedItemsUtf8Dictionary, MutableArray, MutableBinaryArray, MutableBooleanArray,
     MutableFixedSizeBinaryArray, MutableNullArray, MutablePrimitiveArray, MutableUtf8Array,
 };
-use arrow_types::{DataType, MonthsDaysNs, NativeType};
+use arrow_core::{DataType, MonthsDaysNs, NativeType};
 use std::alloc::Global;
 use std::process::Abort;
 

@@ -8,8 +8,7 @@ use arrow_builders::{
     Container, DynMutableLargeListArray, DynMutableListArray, DynMutableStructArray, MutableArray,
     MutableFixedSizeListArray, MutablePrimitiveArray,
 };
-use arrow_core::{Box, Items, Result, Text};
-use arrow_types::{DataType, Field};
+use arrow_core::{Box, DataType, Field, Items, Result, Text};
 use std::alloc::Global;
 use std::process::Abort;
 

@@ -5,8 +5,9 @@ use arrow_columns::{
     FixedSizeListArray, Keys, LargeListArray, ListArray, NullArray, PrimitiveArray, StructArray,
     Utf8Array, equal,
 };
-use arrow_core::{Box, Error, Items, Reason, Result, Text};
-use arrow_types::{DataType, Field, IntegerType, NativeType};
+use arrow_core::{
+    Box, DataType, Error, Field, IntegerType, Items, NativeType, Reason, Result, Text,
+};
 use std::alloc::Global;
 use std::process::Abort;
 

@@ -4,11 +4,11 @@ use Rattle.std.proofs.lemmas.List.{drop-take, take-map, drop-map}
 use Rattle.std.proofs.lemmas.Nat.{mod-mul-add, mul-le, row_fits}
 use Rattle.std.proofs.Math.Nat.{div-mul-le_self, mul-div_cancel, add-mul}
 use Rattle.std.specs.Str.{IsUtf8}
-use Rattle.arrow_types.specs.declared.slot.Slot.{Slot}
-use Rattle.arrow_types.specs.declared.types.DataType.{DataType}
-use Rattle.arrow_types.specs.declared.slot.Slot.TheVariants as slot
-use Rattle.arrow_bitmap.specs.Bits.{Packed}
-use Rattle.arrow_bitmap.proofs.Cuts.{cut_made, made_alike}
+use Rattle.arrow_core.specs.declared.slot.Slot.{Slot}
+use Rattle.arrow_core.specs.declared.types.DataType.{DataType}
+use Rattle.arrow_core.specs.declared.slot.Slot.TheVariants as slot
+use Rattle.arrow_array.specs.Bits.{Packed}
+use Rattle.arrow_array.proofs.BitCuts.{cut_made, made_alike}
 use Rattle.arrow_array.specs.Offsets.{offset_at, part, IsOffsets, AreUtf8}
 use Rattle.arrow_array.specs.Parts.{IsValidityOf, IsCutOf, Utf8Fits, BinaryFits, FixedSizeBinaryFits, byte_width}
 use Rattle.arrow_array.specs.Slots.{shown, slots_of, boolean_at, native_at, utf8_at, binary_at, fixed_at}

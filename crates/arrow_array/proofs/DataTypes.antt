@@ -1,9 +1,9 @@
 -- The data types of arrays of each kind.
 use Rattle.std.proofs.Common.{◌≡◌, sym, ◌∙◌, ap, refl, arith, ℕ, ◌<◌, List, Option}
-use Rattle.arrow_types.specs.declared.types.DataType.{DataType, FixedSizeBinary}
-use Rattle.arrow_types.specs.declared.types.DataType.TheVariants as types
-use Rattle.arrow_types.specs.declared.types.IntegerType.{IntegerType}
-use Rattle.arrow_bitmap.specs.Bits.{Packed}
+use Rattle.arrow_core.specs.declared.types.DataType.{DataType, FixedSizeBinary}
+use Rattle.arrow_core.specs.declared.types.DataType.TheVariants as types
+use Rattle.arrow_core.specs.declared.types.IntegerType.{IntegerType}
+use Rattle.arrow_array.specs.Bits.{Packed}
 use Rattle.arrow_array.specs.declared.array.Array.{Array}
 use Rattle.arrow_array.specs.Dictionaries.{IsDictionaryOf}
 use Rattle.arrow_array.specs.FixedLists.{FixedListFits}

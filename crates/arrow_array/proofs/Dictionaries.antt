@@ -1,8 +1,8 @@
 -- The slots of a dictionary, its keys, and cuts of them.
 use Rattle.std.proofs.Common.{◌≡◌, sym, ◌∙◌, ap, arith, ℕ, ◌+◌, ◌<◌, ◌≤◌, List, map, length, take, drop, subst}
 use Rattle.std.proofs.lemmas.List.{length-map}
-use Rattle.arrow_types.specs.declared.slot.Slot.{Slot, Null}
-use Rattle.arrow_types.specs.declared.slot.Slot.TheVariants as slot
+use Rattle.arrow_core.specs.declared.slot.Slot.{Slot, Null}
+use Rattle.arrow_core.specs.declared.slot.Slot.TheVariants as slot
 use Rattle.arrow_array.specs.Dictionaries.{DictionaryColumn, IsKeyInto, looked_up}
 use Rattle.arrow_array.specs.Slots.{slot_at}
 use Rattle.arrow_array.proofs.Cuts.{at_cut, length_cut, map_cut}

@@ -1,9 +1,9 @@
 -- The slots of parts that fit together are counted from index 0 on.
 use Rattle.std.proofs.Common.{arith, ℕ, ◌-◌, ◌/◌, Bool, List, length, Option, None, ℤ}
-use Rattle.arrow_types.specs.declared.physical.PrimitiveType.{PrimitiveType}
-use Rattle.arrow_types.specs.declared.slot.Slot.{Slot}
-use Rattle.arrow_types.specs.declared.types.DataType.{DataType}
-use Rattle.arrow_bitmap.specs.Bits.{Packed}
+use Rattle.arrow_core.specs.declared.physical.PrimitiveType.{PrimitiveType}
+use Rattle.arrow_core.specs.declared.slot.Slot.{Slot}
+use Rattle.arrow_core.specs.declared.types.DataType.{DataType}
+use Rattle.arrow_array.specs.Bits.{Packed}
 use Rattle.arrow_array.specs.Parts.{BooleanFits, PrimitiveFits, Utf8Fits, BinaryFits, FixedSizeBinaryFits, byte_width}
 use Rattle.arrow_array.specs.Slots.{null_at, boolean_at, native_at, utf8_at, binary_at, fixed_at}
 use Rattle.arrow_array.proofs.Windows.{Window}

@@ -3,14 +3,14 @@ use Rattle.std.proofs.Common.{◌≡◌, sym, ◌∙◌, ap, refl, arith, ℕ, �
 use Rattle.std.proofs.lemmas.Nat.{mod-mul-add, row_fits}
 use Rattle.std.proofs.Math.Nat.{mul-div_cancel, add-mul, mod-eq-sub-div-mul, div-mul-le_self}
 use Rattle.std.specs.Bool.{Decides}
-use Rattle.arrow_types.specs.declared.slot.Slot.{Slot}
-use Rattle.arrow_types.specs.declared.slot.Slot.TheVariants as slot
-use Rattle.arrow_types.specs.declared.types.DataType.{DataType, out-DataType}
-use Rattle.arrow_types.specs.declared.types.DataType.TheOpen as open_type
-use Rattle.arrow_types.specs.declared.types.DataType.TheVariants as types
-use Rattle.arrow_types.specs.declared.types.DataType.TheViews.{outs-FixedSizeList}
-use Rattle.arrow_types.specs.declared.types.Field.{Field}
-use Rattle.arrow_bitmap.specs.Bits.{Packed}
+use Rattle.arrow_core.specs.declared.slot.Slot.{Slot}
+use Rattle.arrow_core.specs.declared.slot.Slot.TheVariants as slot
+use Rattle.arrow_core.specs.declared.types.DataType.{DataType, out-DataType}
+use Rattle.arrow_core.specs.declared.types.DataType.TheOpen as open_type
+use Rattle.arrow_core.specs.declared.types.DataType.TheVariants as types
+use Rattle.arrow_core.specs.declared.types.DataType.TheViews.{outs-FixedSizeList}
+use Rattle.arrow_core.specs.declared.types.Field.{Field}
+use Rattle.arrow_array.specs.Bits.{Packed}
 use Rattle.arrow_array.specs.FixedLists.{fixed_list_at, list_size, IsFixedListOf, FixedListParts}
 use Rattle.arrow_array.specs.Parts.{IsCutOf}
 use Rattle.arrow_array.specs.Slots.{slot_at, is_held, valid_at, TellsHeld, slots_of}

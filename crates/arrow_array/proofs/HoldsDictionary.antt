@@ -2,11 +2,11 @@
 use Rattle.std.proofs.Common.{◌≡◌, ◌∙◌, sym, ap, refl, ℕ, Bool, true, false, ◌||◌, List, [], ◌∷◌}
 use Rattle.std.specs.List.{All}
 use Rattle.std.proofs.lemmas.List.Elements.{All-head, All-tail}
-use Rattle.arrow_types.specs.declared.types.DataType.{DataType}
-use Rattle.arrow_types.specs.declared.types.DataType.TheBlock.{shape-the_row-Field-0, hidden-the_row-Field-0, shape-the_row-Field-1, hidden-the_row-Field-1, hidden-the_row-DataType-2}
-use Rattle.arrow_types.specs.declared.types.DataType.TheVariants as types
-use Rattle.arrow_types.specs.declared.types.Field.{Field}
-use Rattle.arrow_types.specs.declared.types.IntegerType.{IntegerType}
+use Rattle.arrow_core.specs.declared.types.DataType.{DataType}
+use Rattle.arrow_core.specs.declared.types.DataType.TheBlock.{shape-the_row-Field-0, hidden-the_row-Field-0, shape-the_row-Field-1, hidden-the_row-Field-1, hidden-the_row-DataType-2}
+use Rattle.arrow_core.specs.declared.types.DataType.TheVariants as types
+use Rattle.arrow_core.specs.declared.types.Field.{Field}
+use Rattle.arrow_core.specs.declared.types.IntegerType.{IntegerType}
 use Rattle.arrow_array.specs.declared.array.Array.{Array}
 use Rattle.arrow_array.specs.Arrays.{all_dictionaries, dictionaries_of}
 use Rattle.arrow_array.specs.Dictionaries.{IsDictionaryOf}

@@ -1,4 +1,7 @@
+pub mod BitCuts
+pub mod Bits
 pub mod Boundaries
+pub mod Counts
 pub mod Cuts
 pub mod DataTypes
 pub mod Dictionaries

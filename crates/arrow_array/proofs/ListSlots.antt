@@ -1,13 +1,13 @@
 -- The slots of lists, and of a cut of them.
 use Rattle.std.proofs.Common.{◌≡◌, sym, ◌∙◌, ap, refl, arith, ℕ, ◌+◌, ◌-◌, ◌<◌, Bool, true, false, List, [], ◌∷◌, ℤ, IsTrue, Option, length, take, drop, zero-add}
 use Rattle.std.specs.Bool.{Decides}
-use Rattle.arrow_types.specs.declared.slot.Slot.{Slot}
-use Rattle.arrow_types.specs.declared.slot.Slot.TheVariants as slot
-use Rattle.arrow_types.specs.declared.types.DataType.{DataType, out-DataType}
-use Rattle.arrow_types.specs.declared.types.DataType.TheOpen as open_type
-use Rattle.arrow_types.specs.declared.types.DataType.TheViews.{outs-List, outs-LargeList}
-use Rattle.arrow_types.specs.declared.types.Field.{Field}
-use Rattle.arrow_bitmap.specs.Bits.{Packed}
+use Rattle.arrow_core.specs.declared.slot.Slot.{Slot}
+use Rattle.arrow_core.specs.declared.slot.Slot.TheVariants as slot
+use Rattle.arrow_core.specs.declared.types.DataType.{DataType, out-DataType}
+use Rattle.arrow_core.specs.declared.types.DataType.TheOpen as open_type
+use Rattle.arrow_core.specs.declared.types.DataType.TheViews.{outs-List, outs-LargeList}
+use Rattle.arrow_core.specs.declared.types.Field.{Field}
+use Rattle.arrow_array.specs.Bits.{Packed}
 use Rattle.arrow_array.specs.Offsets.{IsOffsets}
 use Rattle.arrow_array.specs.Parts.{IsValidityOf, IsCutOf}
 use Rattle.arrow_array.specs.Slots.{slot_at, is_held, valid_at, TellsHeld, slots_of}

@@ -1,14 +1,14 @@
 -- The slots of structs, their children, and cuts of them.
 use Rattle.std.proofs.Common.{◌≡◌, sym, ◌∙◌, ap, refl, arith, ℕ, zero, suc, ◌+◌, ◌<◌, ◌≤◌, Bool, List, [], ◌∷◌, ◌++◌, map, length, take, drop, slice_index_or, IsTrue, Option, zero-add, subst}
 use Rattle.std.specs.Bool.{Decides}
-use Rattle.arrow_types.specs.declared.slot.Slot.{Slot}
-use Rattle.arrow_types.specs.declared.slot.Slot.TheVariants as slot
-use Rattle.arrow_types.specs.declared.types.DataType.{DataType, out-DataType}
-use Rattle.arrow_types.specs.declared.types.DataType.TheOpen as open_type
-use Rattle.arrow_types.specs.declared.types.DataType.TheVariants as types
-use Rattle.arrow_types.specs.declared.types.DataType.TheViews.{outs-Struct}
-use Rattle.arrow_types.specs.declared.types.Field.{Field}
-use Rattle.arrow_bitmap.specs.Bits.{Packed}
+use Rattle.arrow_core.specs.declared.slot.Slot.{Slot}
+use Rattle.arrow_core.specs.declared.slot.Slot.TheVariants as slot
+use Rattle.arrow_core.specs.declared.types.DataType.{DataType, out-DataType}
+use Rattle.arrow_core.specs.declared.types.DataType.TheOpen as open_type
+use Rattle.arrow_core.specs.declared.types.DataType.TheVariants as types
+use Rattle.arrow_core.specs.declared.types.DataType.TheViews.{outs-Struct}
+use Rattle.arrow_core.specs.declared.types.Field.{Field}
+use Rattle.arrow_array.specs.Bits.{Packed}
 use Rattle.arrow_array.specs.declared.array.Array.{Array}
 use Rattle.arrow_array.specs.Arrays.{array_type, array_slots}
 use Rattle.arrow_array.specs.Parts.{IsCutOf}

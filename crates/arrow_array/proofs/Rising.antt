@@ -2,7 +2,7 @@
 use Rattle.std.proofs.Common.{◌≡◌, arith, ℕ, ◌+◌, ◌-◌, ◌<◌, ◌≤◌, inl, inr, ℤ, pos, negsuc, List, length}
 use mathlib.Core.Path.{subst}
 use Rattle.std.proofs.lemmas.Bool.{cases_lt}
-use Rattle.arrow_types.specs.Numbers.{IsIndex}
+use Rattle.arrow_core.specs.Numbers.{IsIndex}
 use Rattle.arrow_array.specs.Offsets.{offset_at, IsWithin, IsNotAbove, IsOffsets}
 
 -- the offsets below i fit, and before is the last of them

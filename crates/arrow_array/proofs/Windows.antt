@@ -3,10 +3,10 @@ use Rattle.std.proofs.Common.{◌≡◌, zero, suc, [], ◌∷◌, sym, ◌∙�
 use Rattle.std.specs.List.{All}
 use Rattle.std.proofs.lemmas.List.{get_or-map}
 use Rattle.std.proofs.lemmas.List.FromFn.{length-map-range_with_len, get_or-map-range_with_len}
-use Rattle.arrow_types.specs.declared.slot.Slot.{Slot}
-use Rattle.arrow_types.specs.declared.slot.Slot.TheVariants as slot
-use Rattle.arrow_types.specs.Numbers.{slot_of_numbers}
-use Rattle.arrow_bitmap.specs.Bits.{Packed}
+use Rattle.arrow_core.specs.declared.slot.Slot.{Slot}
+use Rattle.arrow_core.specs.declared.slot.Slot.TheVariants as slot
+use Rattle.arrow_core.specs.Numbers.{slot_of_numbers}
+use Rattle.arrow_array.specs.Bits.{Packed}
 use Rattle.arrow_array.specs.Columns.{Column, ContentColumn, NestedColumn}
 use Rattle.arrow_array.specs.Offsets.{offset_at, part}
 use Rattle.arrow_array.specs.Parts.{IsValidityOf}

@@ -1,10 +1,10 @@
 -- What contracts see of an array and of a chunk.
 use Rattle.std.specs.Prelude.{ℕ, ℤ, List, refl}
 use Rattle.std.specs.Coded.{Coded, code_by, coded×, coded_list, coded_ℕ, coded_ℤ}
-use Rattle.arrow_types.specs.declared.slot.Slot.{Slot}
-use Rattle.arrow_types.specs.declared.types.DataType.{DataType}
-use Rattle.arrow_types.specs.contracts.types.DataType as the_types
-use Rattle.arrow_types.specs.contracts.slot.Slot as the_slots
+use Rattle.arrow_core.specs.declared.slot.Slot.{Slot}
+use Rattle.arrow_core.specs.declared.types.DataType.{DataType}
+use Rattle.arrow_core.specs.contracts.types.DataType as the_types
+use Rattle.arrow_core.specs.contracts.slot.Slot as the_slots
 
 -- an array: its data type and its slots
 pub record Column : Type 0 where

@@ -1,7 +1,7 @@
 -- How deep the types of arrays are.
 use Rattle.std.specs.Prelude.{ℕ, ◌+◌, List}
 use denote.Param.Weighed.{most}
-use Rattle.arrow_types.specs.declared.types.DataType.{size-DataType}
+use Rattle.arrow_core.specs.declared.types.DataType.{size-DataType}
 use Rattle.arrow_array.specs.declared.array.Array.{Array}
 use Rattle.arrow_array.specs.Arrays.{array_type}
 

@@ -3,11 +3,11 @@
 use Rattle.std.specs.Prelude.{◌≡◌, ℕ, ◌≤◌, ◌+◌, ◌*◌, Bool, true, false, List, [], ◌∷◌, max}
 use Rattle.std.proofs.Common.{arith, refl, ap}
 use denote.Param.Weighed.{most}
-use Rattle.arrow_types.specs.declared.types.DataType.{DataType, size-DataType}
-use Rattle.arrow_types.specs.declared.types.DataType.TheViews.{sized-List, sized-LargeList, sized-FixedSizeList, sized-Struct, sized-Dictionary}
-use Rattle.arrow_types.specs.declared.types.DataType.TheVariants as types
-use Rattle.arrow_types.specs.declared.types.IntegerType.{IntegerType}
-use Rattle.arrow_types.specs.declared.types.Field.{Field, size-Field, size_is-Field}
+use Rattle.arrow_core.specs.declared.types.DataType.{DataType, size-DataType}
+use Rattle.arrow_core.specs.declared.types.DataType.TheViews.{sized-List, sized-LargeList, sized-FixedSizeList, sized-Struct, sized-Dictionary}
+use Rattle.arrow_core.specs.declared.types.DataType.TheVariants as types
+use Rattle.arrow_core.specs.declared.types.IntegerType.{IntegerType}
+use Rattle.arrow_core.specs.declared.types.Field.{Field, size-Field, size_is-Field}
 use Rattle.arrow_array.specs.declared.array.Array.{Array}
 use Rattle.arrow_array.specs.declared.array.Array.TheVariants.{Null, Boolean, Int8, Int16, Int32, Int64, UInt8, UInt16, UInt32, UInt64, Int128, MonthDayNano, Utf8, LargeUtf8, Binary, LargeBinary, FixedSizeBinary, List as ListOf, LargeList, FixedSizeList, Struct, Dictionary}
 use Rattle.arrow_array.specs.declared.dictionary.DictionaryArray.TheDeep.{deep-Array, size-Array}

@@ -1,8 +1,8 @@
 -- Which data types are those of dictionaries, or have one beneath them.
 use Rattle.std.specs.Prelude.{◌≡◌, Bool, true, false, ◌||◌, List, []}
 use Rattle.std.specs.List.{list_any}
-use Rattle.arrow_types.specs.declared.types.DataType.{DataType, List', LargeList', FixedSizeList', Struct', Dictionary', Row_of-Field, end_of-Field, more_of-Field}
-use Rattle.arrow_types.specs.declared.types.Field.{Field}
+use Rattle.arrow_core.specs.declared.types.DataType.{DataType, List', LargeList', FixedSizeList', Struct', Dictionary', Row_of-Field, end_of-Field, more_of-Field}
+use Rattle.arrow_core.specs.declared.types.Field.{Field}
 use Rattle.arrow_array.specs.declared.array.Array.{Array}
 use Rattle.arrow_array.specs.Arrays.{array_type, dictionaries_of}
 

@@ -1,13 +1,13 @@
 -- Which data type an array of each kind has (Arrow columnar format, "Physical Memory Layout").
 use Rattle.std.specs.Prelude.{◌≡◌, ◌<◌, Bool, List, length}
-use Rattle.arrow_types.specs.declared.physical.PhysicalType.{PhysicalType}
-use Rattle.arrow_types.specs.declared.physical.PhysicalType.TheVariants as physical
-use Rattle.arrow_types.specs.declared.physical.PrimitiveType.TheVariants as primitive
-use Rattle.arrow_types.specs.declared.types.DataType.{DataType, Dictionary'}
-use Rattle.arrow_types.specs.declared.types.DataType.TheVariants as types
-use Rattle.arrow_types.specs.declared.types.Field.{Field}
-use Rattle.arrow_types.specs.declared.types.IntegerType.{IntegerType}
-use Rattle.arrow_types.specs.declared.types.IntegerType.TheVariants as integer
+use Rattle.arrow_core.specs.declared.physical.PhysicalType.{PhysicalType}
+use Rattle.arrow_core.specs.declared.physical.PhysicalType.TheVariants as physical
+use Rattle.arrow_core.specs.declared.physical.PrimitiveType.TheVariants as primitive
+use Rattle.arrow_core.specs.declared.types.DataType.{DataType, Dictionary'}
+use Rattle.arrow_core.specs.declared.types.DataType.TheVariants as types
+use Rattle.arrow_core.specs.declared.types.Field.{Field}
+use Rattle.arrow_core.specs.declared.types.IntegerType.{IntegerType}
+use Rattle.arrow_core.specs.declared.types.IntegerType.TheVariants as integer
 use Rattle.arrow_array.specs.declared.array.Array.{Array}
 use Rattle.arrow_array.specs.declared.array.Array.TheVariants.{Null, Boolean, Int8, Int16, Int32, Int64, UInt8, UInt16, UInt32, UInt64, Int128, MonthDayNano, Utf8, LargeUtf8, Binary, LargeBinary, FixedSizeBinary, List as ListOf, LargeList, FixedSizeList, Struct, Dictionary}
 use Rattle.arrow_array.specs.FixedLists.{list_size}

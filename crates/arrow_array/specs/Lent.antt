@@ -1,6 +1,6 @@
 -- The slots that a part of an array lends.
 use Rattle.std.specs.Prelude.{◌≤◌, List, length, pos}
-use Rattle.arrow_types.specs.declared.slot.Slot.{Slot}
+use Rattle.arrow_core.specs.declared.slot.Slot.{Slot}
 use Rattle.arrow_array.specs.declared.part.Part.{Part}
 use Rattle.arrow_array.specs.Arrays.{array_slots}
 use Rattle.arrow_array.specs.Offsets.{between}

@@ -1,4 +1,5 @@
 pub mod Arrays
+pub mod Bits
 pub mod Chunks
 pub mod Columns
 pub mod Depths

@@ -1,14 +1,14 @@
 -- Lists of neighbouring slots of a child (Arrow columnar format, "Variable-size List Layout").
 use Rattle.std.specs.Prelude.{◌≡◌, ℕ, ◌-◌, ℤ, Bool, true, false, List, length, Option, refl}
 use Rattle.std.specs.Coded.{Coded, code_by, coded×, coded_list, coded_ℤ}
-use Rattle.arrow_types.specs.declared.slot.Slot.{Slot}
-use Rattle.arrow_types.specs.declared.slot.Slot.TheVariants as slot
-use Rattle.arrow_types.specs.declared.types.DataType.{DataType}
-use Rattle.arrow_types.specs.declared.types.DataType.TheVariants as types
-use Rattle.arrow_types.specs.declared.types.Field.{Field}
-use Rattle.arrow_types.specs.contracts.types.DataType as the_types
-use Rattle.arrow_types.specs.contracts.slot.Slot as the_slots
-use Rattle.arrow_bitmap.specs.Bits.{Packed}
+use Rattle.arrow_core.specs.declared.slot.Slot.{Slot}
+use Rattle.arrow_core.specs.declared.slot.Slot.TheVariants as slot
+use Rattle.arrow_core.specs.declared.types.DataType.{DataType}
+use Rattle.arrow_core.specs.declared.types.DataType.TheVariants as types
+use Rattle.arrow_core.specs.declared.types.Field.{Field}
+use Rattle.arrow_core.specs.contracts.types.DataType as the_types
+use Rattle.arrow_core.specs.contracts.slot.Slot as the_slots
+use Rattle.arrow_array.specs.Bits.{Packed}
 use Rattle.arrow_array.specs.Columns.{dictionaries_code}
 use Rattle.arrow_array.specs.Offsets.{part, IsOffsets}
 use Rattle.arrow_array.specs.Parts.{IsValidityOf}

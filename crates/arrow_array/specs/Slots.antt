@@ -1,9 +1,9 @@
 -- The slots that buffers and a validity stand for (Arrow columnar format, "Physical Memory Layout").
 use Rattle.std.specs.Prelude.{◌≡◌, ℕ, ◌+◌, ◌*◌, Bool, true, false, cond, ℤ, List, map, take, drop, slice_index_or, Option, Some, None, IsTrue, All}
 use Rattle.std.specs.List.{range_with_len}
-use Rattle.arrow_types.specs.declared.slot.Slot.{Slot}
-use Rattle.arrow_types.specs.declared.slot.Slot.TheVariants as slot
-use Rattle.arrow_bitmap.specs.Bits.{Packed}
+use Rattle.arrow_core.specs.declared.slot.Slot.{Slot}
+use Rattle.arrow_core.specs.declared.slot.Slot.TheVariants as slot
+use Rattle.arrow_array.specs.Bits.{Packed}
 use Rattle.arrow_array.specs.Offsets.{part}
 
 -- slot i of a list of slots

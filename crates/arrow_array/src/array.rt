@@ -10,6 +10,7 @@ ghost use Rattle.arrow_array.specs.Parts.{IsOfKind};
 ghost use Rattle.arrow_array.specs.SlotTypes.{SlotOf};
 ghost use Rattle.arrow_array.specs.Slots.{is_held, slot_at};
 
+use crate::Bitmap;
 use crate::binary::BinaryArray;
 use crate::boolean::BooleanArray;
 use crate::dictionary::DictionaryArray;
@@ -20,9 +21,7 @@ use crate::null::NullArray;
 use crate::primitive::PrimitiveArray;
 use crate::structs::StructArray;
 use crate::utf8::Utf8Array;
-use arrow_bitmap::Bitmap;
-use arrow_core::Result;
-use arrow_types::{DataType, MonthsDaysNs};
+use arrow_core::{DataType, MonthsDaysNs, Result};
 use std::alloc::Global;
 
 /// An array of any kind, over shared buffers. The kind is how slots lie in memory, and not their

@@ -3,20 +3,19 @@ ghost use Rattle.std.specs.Prelude.{◌≡◌, ℕ, ◌+◌, ◌-◌, ◌<◌, �
 ghost use Rattle.std.specs.Option.{option_copied};
 ghost use Rattle.arrow_core.specs.Errors.{OnlyOutOfMemory};
 ghost use Rattle.arrow_core.specs.declared.error.Error.TheVariants.{OutOfMemory};
-ghost use Rattle.arrow_types.specs.declared.slot.Slot.TheVariants.{Binary as BinarySlot};
+ghost use Rattle.arrow_core.specs.declared.slot.Slot.TheVariants.{Binary as BinarySlot};
 ghost use Rattle.arrow_array.specs.Offsets.{IsOffsets};
 ghost use Rattle.arrow_array.specs.SlotTypes.{SlotOf};
 ghost use Rattle.arrow_array.specs.Slots.{TellsHeld, is_held, slot_at, slots_of, binary_at};
 ghost use Rattle.arrow_array.specs.Parts.{BinaryFits, IsRefusalOf, binary_type};
 
+use crate::Bitmap;
 use crate::buffer::Buffer;
 use crate::drops::{beside, both, let_go};
 use crate::offsets::{are_offsets, part_of};
 use crate::ranges::{RangedOffset, tell_offset_ranges};
 use crate::validity::{self, slice_with_type};
-use arrow_bitmap::Bitmap;
-use arrow_core::{Error, Reason, Result};
-use arrow_types::{DataType, Offset};
+use arrow_core::{DataType, Error, Offset, Reason, Result};
 use std::alloc::Global;
 use std::marker::Model;
 

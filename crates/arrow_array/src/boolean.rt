@@ -3,17 +3,16 @@ ghost use Rattle.std.specs.Prelude.{◌≡◌, ℕ, ◌+◌, ◌<◌, ◌≤◌,
 ghost use Rattle.std.specs.Option.{option_copied};
 ghost use Rattle.arrow_core.specs.Errors.{OnlyOutOfMemory};
 ghost use Rattle.arrow_core.specs.declared.error.Error.TheVariants.{OutOfMemory};
-ghost use Rattle.arrow_types.specs.declared.slot.Slot.TheVariants.{Boolean as BooleanSlot};
-ghost use Rattle.arrow_types.specs.declared.types.DataType.TheVariants.{Boolean as BooleanType};
+ghost use Rattle.arrow_core.specs.declared.slot.Slot.TheVariants.{Boolean as BooleanSlot};
+ghost use Rattle.arrow_core.specs.declared.types.DataType.TheVariants.{Boolean as BooleanType};
 ghost use Rattle.arrow_array.specs.SlotTypes.{SlotOf};
 ghost use Rattle.arrow_array.specs.Slots.{TellsHeld, is_held, slot_at, slots_of, boolean_at};
 ghost use Rattle.arrow_array.specs.Parts.{BooleanFits, IsRefusalOf};
 
+use crate::Bitmap;
 use crate::drops::{beside, both, let_go};
 use crate::validity::{self, slice_with_type};
-use arrow_bitmap::Bitmap;
-use arrow_core::{Error, Reason, Result};
-use arrow_types::DataType;
+use arrow_core::{DataType, Error, Reason, Result};
 use std::alloc::Global;
 use std::marker::Model;
 

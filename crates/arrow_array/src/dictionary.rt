@@ -11,12 +11,11 @@ ghost use Rattle.arrow_array.specs.SlotTypes.{SlotOf};
 ghost use Rattle.arrow_array.specs.Slots.{TellsHeld, is_held, slot_at};
 ghost use Rattle.arrow_array.specs.Parts.{IsRefusalOf};
 
+use crate::Bitmap;
 use crate::array::Array;
 use crate::drops::{beside, both, boxed, let_go};
 use crate::keys::Keys;
-use arrow_bitmap::Bitmap;
-use arrow_core::{Box, Error, Reason, Result};
-use arrow_types::{DataType, IntegerType};
+use arrow_core::{Box, DataType, Error, IntegerType, Reason, Result};
 use std::alloc::Global;
 use std::marker::Model;
 
@@ -32,7 +31,7 @@ pub struct DictionaryArray {
 
 impl Model for DictionaryArray {
     ghost use Rattle.std.specs.Prelude.{length, map};
-    ghost use Rattle.arrow_types.specs.declared.types.DataType.{size-DataType};
+    ghost use Rattle.arrow_core.specs.declared.types.DataType.{size-DataType};
     ghost use Rattle.arrow_array.specs.Dictionaries.{DictionaryColumn, DictionaryFits, dictionary_column_code, keys_slots, keys_type, looked_up};
 
     ghost Value = { DictionaryColumn };

@@ -3,18 +3,17 @@ ghost use Rattle.std.specs.Prelude.{◌≡◌, ℕ, ◌+◌, ◌*◌, ◌/◌, �
 ghost use Rattle.std.specs.Option.{option_copied};
 ghost use Rattle.arrow_core.specs.Errors.{OnlyOutOfMemory};
 ghost use Rattle.arrow_core.specs.declared.error.Error.TheVariants.{OutOfMemory};
-ghost use Rattle.arrow_types.specs.declared.slot.Slot.TheVariants.{Binary as BinarySlot};
+ghost use Rattle.arrow_core.specs.declared.slot.Slot.TheVariants.{Binary as BinarySlot};
 ghost use Rattle.arrow_array.specs.Kinds.{IsFixedBinaryType};
 ghost use Rattle.arrow_array.specs.SlotTypes.{SlotOf};
 ghost use Rattle.arrow_array.specs.Slots.{TellsHeld, is_held, slot_at, slots_of, fixed_at};
 ghost use Rattle.arrow_array.specs.Parts.{FixedSizeBinaryFits, IsRefusalOf, byte_width};
 
+use crate::Bitmap;
 use crate::buffer::{Buffer, run_of};
 use crate::drops::{beside, both, let_go};
 use crate::validity::{self, slice_with_type};
-use arrow_bitmap::Bitmap;
-use arrow_core::{Error, Reason, Result};
-use arrow_types::DataType;
+use arrow_core::{DataType, Error, Reason, Result};
 use std::alloc::Global;
 use std::marker::Model;
 

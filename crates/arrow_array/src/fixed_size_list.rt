@@ -3,7 +3,7 @@ ghost use Rattle.std.specs.Prelude.{◌≡◌, ◌+◌, ◌*◌, ◌/◌, ◌<�
 ghost use Rattle.std.specs.Option.{option_copied};
 ghost use Rattle.arrow_core.specs.Errors.{OnlyOutOfMemory};
 ghost use Rattle.arrow_core.specs.declared.error.Error.TheVariants.{OutOfMemory};
-ghost use Rattle.arrow_types.specs.declared.slot.Slot.TheVariants.{List as ListSlot};
+ghost use Rattle.arrow_core.specs.declared.slot.Slot.TheVariants.{List as ListSlot};
 ghost use Rattle.arrow_array.specs.Arrays.{array_type, array_slots, dictionaries_of};
 ghost use Rattle.arrow_array.specs.FixedLists.{FixedListFits, IsFixedListOf, fixed_list_at, list_size};
 ghost use Rattle.arrow_array.specs.HoldsDictionary.{holds_dictionary};
@@ -13,13 +13,12 @@ ghost use Rattle.arrow_array.specs.SlotTypes.{SlotOf};
 ghost use Rattle.arrow_array.specs.Slots.{TellsHeld, is_held, slot_at, slots_of};
 ghost use Rattle.arrow_array.specs.Parts.{IsRefusalOf};
 
+use crate::Bitmap;
 use crate::array::Array;
 use crate::drops::{beside, both, boxed, let_go};
 use crate::part::Part;
 use crate::validity::{self, slice_with_type};
-use arrow_bitmap::Bitmap;
-use arrow_core::{Box, Error, Reason, Result};
-use arrow_types::DataType;
+use arrow_core::{Box, DataType, Error, Reason, Result};
 use std::alloc::Global;
 use std::marker::Model;
 
@@ -37,7 +36,7 @@ pub struct FixedSizeListArray {
 
 impl Model for FixedSizeListArray {
     ghost use Rattle.std.specs.Prelude.{◌/◌, length};
-    ghost use Rattle.arrow_types.specs.declared.types.DataType.{size-DataType};
+    ghost use Rattle.arrow_core.specs.declared.types.DataType.{size-DataType};
     ghost use Rattle.arrow_array.specs.Columns.{NestedColumn, nested_column_code};
     ghost use Rattle.arrow_array.specs.FixedLists.{FixedListParts, fixed_list_at, list_size};
     ghost use Rattle.arrow_array.specs.Slots.{slots_of};

@@ -2,7 +2,7 @@
 ghost use Rattle.std.specs.Prelude.{◌≡◌};
 ghost use Rattle.arrow_array.specs.HoldsDictionary.{any_holds_dictionary as any_holds_dictionary_of, holds_dictionary as holds_dictionary_of};
 
-use arrow_types::{DataType, Field};
+use arrow_core::{DataType, Field};
 
 /// Whether this is the type of a dictionary, or one beneath it is, through lists and structs; false
 /// of a Map, a Union and an Extension, which no array is of. It takes no memory.

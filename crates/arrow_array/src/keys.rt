@@ -3,15 +3,14 @@ ghost use Rattle.std.specs.Prelude.{◌≡◌, ◌+◌, ◌<◌, ◌≤◌, IfOk
 ghost use Rattle.std.specs.Option.{option_copied};
 ghost use Rattle.arrow_core.specs.Errors.{OnlyOutOfMemory};
 ghost use Rattle.arrow_core.specs.declared.error.Error.TheVariants.{OutOfMemory};
-ghost use Rattle.arrow_types.specs.declared.slot.Slot.TheVariants.{Integer as IntegerSlot};
-ghost use Rattle.arrow_types.specs.Numbers.{IsNegative};
+ghost use Rattle.arrow_core.specs.declared.slot.Slot.TheVariants.{Integer as IntegerSlot};
+ghost use Rattle.arrow_core.specs.Numbers.{IsNegative};
 ghost use Rattle.arrow_array.specs.Dictionaries.{IsNoIndex, keys_slots, keys_type};
 ghost use Rattle.arrow_array.specs.Slots.{TellsHeld, is_held, slot_at};
 
+use crate::Bitmap;
 use crate::primitive::PrimitiveArray;
-use arrow_bitmap::Bitmap;
-use arrow_core::Result;
-use arrow_types::IntegerType;
+use arrow_core::{IntegerType, Result};
 use std::alloc::Global;
 
 /// The keys of a dictionary, of any integer type.

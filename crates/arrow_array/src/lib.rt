@@ -1,10 +1,12 @@
-//! Columns over shared buffers, in the layout of the Arrow columnar format, and chunks of them.
+//! Columns over shared buffers, in the layout of the Arrow columnar format, and chunks of them;
+//! bitmaps, which keep booleans and validity in packed words.
 //!
 //! Contracts see an array as its data type and its slots, whatever the buffers are.
 #![tactic(auto)]
 
 mod array;
 mod binary;
+mod bitmap;
 mod boolean;
 mod buffer;
 mod chunk;
@@ -25,8 +27,8 @@ mod utf8;
 mod validity;
 
 pub use array::Array;
-pub use arrow_bitmap::Bitmap;
 pub use binary::BinaryArray;
+pub use bitmap::Bitmap;
 pub use boolean::BooleanArray;
 pub use chunk::Chunk;
 pub use dictionary::DictionaryArray;

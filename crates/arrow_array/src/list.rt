@@ -3,7 +3,7 @@ ghost use Rattle.std.specs.Prelude.{◌≡◌, ℕ, ◌+◌, ◌-◌, ◌<◌, �
 ghost use Rattle.std.specs.Option.{option_copied};
 ghost use Rattle.arrow_core.specs.Errors.{OnlyOutOfMemory};
 ghost use Rattle.arrow_core.specs.declared.error.Error.TheVariants.{OutOfMemory};
-ghost use Rattle.arrow_types.specs.declared.slot.Slot.TheVariants.{List as ListSlot};
+ghost use Rattle.arrow_core.specs.declared.slot.Slot.TheVariants.{List as ListSlot};
 ghost use Rattle.arrow_array.specs.Arrays.{array_type, array_slots, dictionaries_of};
 ghost use Rattle.arrow_array.specs.HoldsDictionary.{holds_dictionary};
 ghost use Rattle.arrow_array.specs.Kinds.{IsListType};
@@ -14,6 +14,7 @@ ghost use Rattle.arrow_array.specs.SlotTypes.{SlotOf};
 ghost use Rattle.arrow_array.specs.Slots.{TellsHeld, is_held, slot_at, slots_of};
 ghost use Rattle.arrow_array.specs.Parts.{IsRefusalOf};
 
+use crate::Bitmap;
 use crate::array::Array;
 use crate::buffer::Buffer;
 use crate::drops::{beside, both, boxed, let_go};
@@ -21,9 +22,7 @@ use crate::offsets::{are_rising, end_within, part_bounds};
 use crate::part::Part;
 use crate::ranges::tell_offset_ranges;
 use crate::validity::{self, slice_with_type};
-use arrow_bitmap::Bitmap;
-use arrow_core::{Box, Error, Reason, Result};
-use arrow_types::{DataType, Offset};
+use arrow_core::{Box, DataType, Error, Offset, Reason, Result};
 use std::alloc::Global;
 use std::marker::Model;
 
@@ -40,7 +39,7 @@ pub struct ListArray {
 
 impl Model for ListArray {
     ghost use Rattle.std.specs.Prelude.{false, ◌-◌, length};
-    ghost use Rattle.arrow_types.specs.declared.types.DataType.{size-DataType};
+    ghost use Rattle.arrow_core.specs.declared.types.DataType.{size-DataType};
     ghost use Rattle.arrow_array.specs.Lists.{ListColumn, list_column_code, list_at, ListFits};
     ghost use Rattle.arrow_array.specs.Slots.{slots_of};
 
@@ -82,7 +81,7 @@ pub struct LargeListArray {
 
 impl Model for LargeListArray {
     ghost use Rattle.std.specs.Prelude.{true, ◌-◌, length};
-    ghost use Rattle.arrow_types.specs.declared.types.DataType.{size-DataType};
+    ghost use Rattle.arrow_core.specs.declared.types.DataType.{size-DataType};
     ghost use Rattle.arrow_array.specs.Lists.{ListColumn, list_column_code, list_at, ListFits};
     ghost use Rattle.arrow_array.specs.Slots.{slots_of};
 

@@ -3,15 +3,14 @@ ghost use Rattle.std.specs.Prelude.{◌≡◌, false, ◌+◌, ◌<◌, ◌≤�
 ghost use Rattle.std.specs.Option.{option_copied};
 ghost use Rattle.arrow_core.specs.Errors.{OnlyOutOfMemory};
 ghost use Rattle.arrow_core.specs.declared.error.Error.TheVariants.{OutOfMemory};
-ghost use Rattle.arrow_types.specs.declared.types.DataType.TheVariants.{Null};
+ghost use Rattle.arrow_core.specs.declared.types.DataType.TheVariants.{Null};
 ghost use Rattle.arrow_array.specs.SlotTypes.{SlotOf};
 ghost use Rattle.arrow_array.specs.Slots.{is_held, slot_at, slots_of, null_at};
 ghost use Rattle.arrow_array.specs.Parts.{IsRefusalOf};
 
+use crate::Bitmap;
 use crate::drops::let_go;
-use arrow_bitmap::Bitmap;
-use arrow_core::{Error, Reason, Result};
-use arrow_types::DataType;
+use arrow_core::{DataType, Error, Reason, Result};
 use std::alloc::Global;
 use std::marker::Model;
 
@@ -24,7 +23,7 @@ pub struct NullArray {
 
 impl Model for NullArray {
     ghost use Rattle.std.specs.Prelude.{◌≡◌, None};
-    ghost use Rattle.arrow_types.specs.declared.types.DataType.TheVariants.{Null};
+    ghost use Rattle.arrow_core.specs.declared.types.DataType.TheVariants.{Null};
     ghost use Rattle.arrow_array.specs.Columns.{Column, column_code};
     ghost use Rattle.arrow_array.specs.Slots.{slots_of, null_at};
 

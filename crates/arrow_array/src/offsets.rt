@@ -1,9 +1,9 @@
 //! Offsets, which cut a buffer into parts (Arrow columnar format, "Variable-size Binary Layout").
 ghost use Rattle.std.specs.Prelude.{◌≡◌, ◌+◌, ◌-◌, ◌<◌, ◌≤◌, ◌↔◌, IsTrue, MatchOption, pos, length, map};
-ghost use Rattle.arrow_types.specs.Numbers.{IsNegative, IsIndex};
+ghost use Rattle.arrow_core.specs.Numbers.{IsNegative, IsIndex};
 ghost use Rattle.arrow_array.specs.Offsets.{AreRising, IsOffsets, offset_at, part};
 
-use arrow_types::Offset;
+use arrow_core::Offset;
 
 /// Offset `k`, or `None` where it is negative.
 fn checked_offset<O: Offset>(offsets: &[O], k: usize) -> Option<usize>

@@ -7,13 +7,12 @@ ghost use Rattle.arrow_array.specs.SlotTypes.{SlotOf};
 ghost use Rattle.arrow_array.specs.Slots.{TellsHeld, is_held, native_at, slot_at, slots_of};
 ghost use Rattle.arrow_array.specs.Parts.{IsPlain, IsRefusalOf, PrimitiveFits, is_extension};
 
+use crate::Bitmap;
 use crate::buffer::Buffer;
 use crate::drops::{beside, both, let_go};
 use crate::ranges::{Ranged, tell_ranges};
 use crate::validity::{self, slice_with_type};
-use arrow_bitmap::Bitmap;
-use arrow_core::{Error, Reason, Result};
-use arrow_types::{DataType, NativeType, PhysicalType};
+use arrow_core::{DataType, Error, NativeType, PhysicalType, Reason, Result};
 use std::alloc::Global;
 use std::marker::Model;
 

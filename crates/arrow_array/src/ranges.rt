@@ -1,9 +1,9 @@
 //! What the types of numbers say of their ranges, told of the numbers of a buffer.
 ghost use Rattle.std.specs.Prelude.{◌≡◌, ℕ, ◌≤◌, pos, All};
-ghost use Rattle.arrow_types.specs.Numbers.{greatest_offset};
+ghost use Rattle.arrow_core.specs.Numbers.{greatest_offset};
 ghost use Rattle.arrow_array.specs.SlotTypes.{IsPrimitive};
 
-use arrow_types::{MonthsDaysNs, NativeType, Offset};
+use arrow_core::{MonthsDaysNs, NativeType, Offset};
 
 /// A number that lies in the range of its type.
 pub(crate) trait Ranged: NativeType {

@@ -11,12 +11,11 @@ ghost use Rattle.arrow_array.specs.Slots.{TellsHeld, is_held, slot_at, slots_of}
 ghost use Rattle.arrow_array.specs.Structs.{AreChildren, AreCuts, HaveSlots, IsStructOf, StructFits, first_len, record_at};
 ghost use Rattle.arrow_array.specs.Parts.{IsRefusalOf};
 
+use crate::Bitmap;
 use crate::array::Array;
 use crate::drops::{both, let_go};
 use crate::validity::{self, slice_with_type};
-use arrow_bitmap::Bitmap;
-use arrow_core::{Error, Reason, Result};
-use arrow_types::{DataType, Field};
+use arrow_core::{DataType, Error, Field, Reason, Result};
 use std::alloc::Global;
 use std::marker::Model;
 
@@ -33,7 +32,7 @@ pub struct StructArray {
 
 impl Model for StructArray {
     ghost use Rattle.std.specs.Prelude.{map};
-    ghost use Rattle.arrow_types.specs.declared.types.DataType.{size-DataType};
+    ghost use Rattle.arrow_core.specs.declared.types.DataType.{size-DataType};
     ghost use Rattle.arrow_array.specs.Columns.{NestedColumn, nested_column_code};
     ghost use Rattle.arrow_array.specs.Slots.{slots_of};
 

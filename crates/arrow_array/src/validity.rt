@@ -5,10 +5,9 @@ ghost use Rattle.arrow_core.specs.declared.error.Error.TheVariants.{OutOfMemory}
 ghost use Rattle.arrow_array.specs.Parts.{IsCutOf, IsValidityOf};
 ghost use Rattle.arrow_array.specs.Slots.{valid_at};
 
+use crate::Bitmap;
 use crate::drops::both;
-use arrow_bitmap::Bitmap;
-use arrow_core::Result;
-use arrow_types::DataType;
+use arrow_core::{DataType, Result};
 use std::alloc::Global;
 
 /// Whether a validity that is given has this length.

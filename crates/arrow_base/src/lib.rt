@@ -15,10 +15,10 @@ mod steady_source;
 pub mod utf8;
 mod vec_sink;
 
-pub use arrow_core::{Box, Bytes, Error, Items, Metadata, Reason, Result, Text};
-pub use arrow_types::{
-    DataType, Field, IntegerType, IntervalUnit, MonthsDaysNs, NativeType, Offset, PhysicalType,
-    PrimitiveType, Schema, Slot, TimeUnit, UnionMode,
+pub use arrow_core::{
+    Box, Bytes, DataType, Error, Field, IntegerType, IntervalUnit, Items, Metadata, MonthsDaysNs,
+    NativeType, Offset, PhysicalType, PrimitiveType, Reason, Result, Schema, Slot, Text, TimeUnit,
+    UnionMode,
 };
 pub use faults::Failed;
 pub use memory_sink::MemorySink;

@@ -7,9 +7,9 @@ use Rattle.std.proofs.Math.ListN.{drop_of_length-le}
 use Rattle.std.proofs.Math.Nat.{mul-div_cancel}
 use Rattle.std.proofs.lemmas.List.{map-append, append-nil}
 use Rattle.arrow_core.specs.declared.error.Error.{Error}
-use Rattle.arrow_types.specs.declared.slot.Slot.{Slot}
-use Rattle.arrow_types.specs.declared.types.DataType.{DataType}
-use Rattle.arrow_bitmap.specs.Bits.{Packed}
+use Rattle.arrow_core.specs.declared.slot.Slot.{Slot}
+use Rattle.arrow_core.specs.declared.types.DataType.{DataType}
+use Rattle.arrow_array.specs.Bits.{Packed}
 use Rattle.arrow_array.specs.FixedLists.{FixedListFits, fixed_list_at, list_size}
 use Rattle.arrow_array.specs.Lists.{ListFits, list_at}
 use Rattle.arrow_array.specs.Offsets.{offset_at}

@@ -6,11 +6,11 @@ use Rattle.std.proofs.lemmas.List.{length_push}
 use Rattle.std.proofs.lemmas.List.Elements.{All-nil, All-cons}
 use Rattle.arrow_core.specs.declared.error.Error.{Error}
 use Rattle.arrow_core.specs.declared.error.Error.TheVariants.{OutOfMemory}
-use Rattle.arrow_types.specs.declared.slot.Slot.{Slot}
-use Rattle.arrow_types.specs.declared.slot.Slot.TheVariants as slot
-use Rattle.arrow_types.specs.declared.types.DataType.{DataType}
-use Rattle.arrow_types.specs.declared.physical.PhysicalType.TheVariants as physical
-use Rattle.arrow_types.specs.declared.physical.PrimitiveType.TheVariants as primitive
+use Rattle.arrow_core.specs.declared.slot.Slot.{Slot}
+use Rattle.arrow_core.specs.declared.slot.Slot.TheVariants as slot
+use Rattle.arrow_core.specs.declared.types.DataType.{DataType}
+use Rattle.arrow_core.specs.declared.physical.PhysicalType.TheVariants as physical
+use Rattle.arrow_core.specs.declared.physical.PrimitiveType.TheVariants as primitive
 use Rattle.arrow_array.specs.Arrays.{array_type, array_slots, dictionaries_of}
 use Rattle.arrow_array.specs.Parts.{byte_width}
 use Rattle.arrow_array.specs.declared.array.Array.{Array}

@@ -2,9 +2,9 @@
 use Rattle.std.proofs.Common.{◌≡◌, ap, Bool, ℕ, ◌≤◌, ℤ, pos, List, map, length, Option, Some, arith, subst}
 use Rattle.std.specs.Option.{is_some}
 use Rattle.std.proofs.lemmas.List.{length-map}
-use Rattle.arrow_types.specs.declared.slot.Slot.{Slot}
-use Rattle.arrow_types.specs.declared.types.DataType.{DataType}
-use Rattle.arrow_bitmap.specs.Bits.{Packed}
+use Rattle.arrow_core.specs.declared.slot.Slot.{Slot}
+use Rattle.arrow_core.specs.declared.types.DataType.{DataType}
+use Rattle.arrow_array.specs.Bits.{Packed}
 use Rattle.arrow_array.specs.Lists.{ListFits}
 use Rattle.arrow_array.specs.Offsets.{IsWithin, IsOffsets}
 use Rattle.arrow_builders.specs.Fits.{ListsFit}

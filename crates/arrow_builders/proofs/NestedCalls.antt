@@ -5,10 +5,10 @@ use Rattle.std.specs.Result.{IsErrAnd}
 use Rattle.std.proofs.lemmas.List.Elements.{All-cons}
 use Rattle.arrow_core.specs.declared.error.Error.{Error}
 use Rattle.arrow_core.specs.declared.error.Error.TheVariants.{OutOfMemory}
-use Rattle.arrow_types.specs.declared.slot.Slot.{Slot}
-use Rattle.arrow_types.specs.declared.slot.Slot.TheVariants as slot
-use Rattle.arrow_types.specs.declared.types.DataType.{DataType}
-use Rattle.arrow_types.specs.declared.physical.PhysicalType.{PhysicalType}
+use Rattle.arrow_core.specs.declared.slot.Slot.{Slot}
+use Rattle.arrow_core.specs.declared.slot.Slot.TheVariants as slot
+use Rattle.arrow_core.specs.declared.types.DataType.{DataType}
+use Rattle.arrow_core.specs.declared.physical.PhysicalType.{PhysicalType}
 use Rattle.arrow_array.specs.Arrays.{all_dictionaries, dictionaries_of}
 use Rattle.arrow_array.specs.FixedLists.{list_size}
 use Rattle.arrow_array.specs.Parts.{IsRefusalOf}

@@ -4,9 +4,9 @@ use Rattle.std.proofs.Common.{◌≡◌, ap, ◌∙◌, sym, Bool, true, false, 
 use Rattle.std.specs.Option.{is_some}
 use Rattle.std.specs.List.{range_with_len}
 use Rattle.std.proofs.lemmas.List.{length_push, take_all, length-drop}
-use Rattle.arrow_types.specs.declared.slot.Slot.{Slot}
-use Rattle.arrow_types.specs.declared.slot.Slot.TheVariants as slot
-use Rattle.arrow_bitmap.specs.Bits.{Packed}
+use Rattle.arrow_core.specs.declared.slot.Slot.{Slot}
+use Rattle.arrow_core.specs.declared.slot.Slot.TheVariants as slot
+use Rattle.arrow_array.specs.Bits.{Packed}
 use Rattle.arrow_array.specs.FixedLists.{fixed_list_at}
 use Rattle.arrow_array.specs.Lists.{list_at}
 use Rattle.arrow_array.specs.Slots.{slot_at, slots_of}

@@ -1,7 +1,7 @@
 -- The nulls that come after the slots at each node of a builder.
 use Rattle.std.proofs.Common.{◌≡◌, ap, ◌∙◌, sym, subst, ℕ, ◌+◌, ◌*◌, List, [], ◌∷◌, ◌++◌, arith, Result, OnOk}
 use Rattle.std.proofs.lemmas.List.{append-nil}
-use Rattle.arrow_types.specs.declared.slot.Slot.{Slot}
+use Rattle.arrow_core.specs.declared.slot.Slot.{Slot}
 use Rattle.arrow_array.specs.FixedLists.{list_size}
 use Rattle.arrow_builders.specs.MutableArrays.{builder_slots, slots_at, slots_at_below}
 use Rattle.arrow_flat.specs.Nested.{null_slots}

@@ -5,11 +5,11 @@ use Rattle.std.proofs.lemmas.List.FromFn.{length-range_with_len}
 use Rattle.std.specs.Prelude.{OnOk}
 use Rattle.std.specs.List.{range_with_len}
 use Rattle.std.proofs.lemmas.List.{length-append, length-map}
-use Rattle.arrow_types.specs.declared.slot.Slot.{Slot, out-Slot}
-use Rattle.arrow_types.specs.declared.slot.Slot.TheOpen as open_slot
-use Rattle.arrow_types.specs.declared.slot.Slot.TheVariants as slot
-use Rattle.arrow_types.specs.declared.slot.Slot.TheViews.{outs-List}
-use Rattle.arrow_types.specs.declared.types.DataType.{DataType}
+use Rattle.arrow_core.specs.declared.slot.Slot.{Slot, out-Slot}
+use Rattle.arrow_core.specs.declared.slot.Slot.TheOpen as open_slot
+use Rattle.arrow_core.specs.declared.slot.Slot.TheVariants as slot
+use Rattle.arrow_core.specs.declared.slot.Slot.TheViews.{outs-List}
+use Rattle.arrow_core.specs.declared.types.DataType.{DataType}
 use Rattle.arrow_array.specs.FixedLists.{list_size}
 use Rattle.arrow_array.specs.Slots.{slot_at}
 use Rattle.arrow_array.specs.Structs.{record_at}

@@ -3,10 +3,10 @@ use Rattle.std.proofs.Common.{◌≡◌, ap, ◌∙◌, sym, ℕ, ◌+◌, ◌*�
 use Rattle.std.proofs.Math.Nat.{mul-mod_left, mul-div_cancel, div-add-mod, mul_comm}
 use Rattle.std.proofs.lemmas.List.{length-map}
 use Rattle.std.proofs.lemmas.List.Elements.{All-nil, All-cons, All-head, All-tail}
-use Rattle.arrow_types.specs.declared.slot.Slot.{Slot}
-use Rattle.arrow_types.specs.declared.types.DataType.{DataType}
-use Rattle.arrow_types.specs.declared.types.Field.{Field}
-use Rattle.arrow_bitmap.specs.Bits.{Packed}
+use Rattle.arrow_core.specs.declared.slot.Slot.{Slot}
+use Rattle.arrow_core.specs.declared.types.DataType.{DataType}
+use Rattle.arrow_core.specs.declared.types.Field.{Field}
+use Rattle.arrow_array.specs.Bits.{Packed}
 use Rattle.arrow_array.specs.declared.array.Array.{Array}
 use Rattle.arrow_array.specs.Arrays.{array_type, array_slots}
 use Rattle.arrow_array.specs.FixedLists.{FixedListFits, list_size}

@@ -3,8 +3,8 @@ use Rattle.std.proofs.Common.{◌≡◌, ap, ◌∙◌, sym, subst, arith, ℕ, 
 use Rattle.std.specs.Vec.{with_items}
 use Rattle.std.proofs.lemmas.List.{length-map, with_items_is}
 use mathlib.Core.Former.{Count}
-use Rattle.arrow_types.specs.declared.slot.Slot.{Slot}
-use Rattle.arrow_types.specs.declared.types.DataType.{DataType}
+use Rattle.arrow_core.specs.declared.slot.Slot.{Slot}
+use Rattle.arrow_core.specs.declared.types.DataType.{DataType}
 use Rattle.arrow_array.specs.Structs.{record_at}
 use Rattle.arrow_flat.specs.Builders.{slots_where}
 use Rattle.arrow_builders.specs.Children.{all_nodes, all_slots, builders_dictionaries, fields_of, AllFit}

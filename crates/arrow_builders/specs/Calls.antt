@@ -4,7 +4,7 @@ use Rattle.std.specs.Prelude.{◌≡◌, ℕ, ◌++◌, ◌∷◌, [], List, map
 use Rattle.std.specs.List.{AllZip}
 use Rattle.arrow_core.specs.declared.error.Error.{Error}
 use Rattle.arrow_core.specs.Errors.{OnlyOutOfMemory}
-use Rattle.arrow_types.specs.declared.slot.Slot.TheVariants as slot
+use Rattle.arrow_core.specs.declared.slot.Slot.TheVariants as slot
 use Rattle.arrow_array.specs.Arrays.{array_type, array_slots, dictionaries_of}
 use Rattle.arrow_array.specs.Parts.{IsRefusalOf}
 use Rattle.arrow_array.specs.declared.array.Array.{Array}

@@ -1,6 +1,6 @@
 -- Several builders side by side, as the children of a builder of structs.
 use Rattle.std.specs.Prelude.{ℕ, List, [], ◌∷◌, ◌++◌, map}
-use Rattle.arrow_types.specs.declared.slot.Slot.{Slot}
+use Rattle.arrow_core.specs.declared.slot.Slot.{Slot}
 use Rattle.arrow_builders.specs.Fits.{ChildrenFit}
 use Rattle.arrow_builders.specs.MutableArrays.{builder_dictionaries, nodes, slots_at}
 use Rattle.arrow_flat.specs.Nodes.{Node}

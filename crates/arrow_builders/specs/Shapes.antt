@@ -1,11 +1,11 @@
 -- What a builder of any kind keeps at every call, and what nulls add to its nodes.
 use Rattle.std.specs.Prelude.{◌≡◌, ℕ, ◌+◌, ◌*◌, ◌≤◌, List, [], ◌∷◌, ◌++◌}
-use Rattle.arrow_types.specs.declared.slot.Slot.{Slot}
-use Rattle.arrow_types.specs.declared.types.DataType.{DataType}
-use Rattle.arrow_types.specs.declared.types.DataType.TheVariants as types
-use Rattle.arrow_types.specs.declared.types.IntegerType.TheVariants as integer
-use Rattle.arrow_types.specs.declared.physical.PhysicalType.{PhysicalType}
-use Rattle.arrow_types.specs.declared.physical.PhysicalType.TheVariants as physical
+use Rattle.arrow_core.specs.declared.slot.Slot.{Slot}
+use Rattle.arrow_core.specs.declared.types.DataType.{DataType}
+use Rattle.arrow_core.specs.declared.types.DataType.TheVariants as types
+use Rattle.arrow_core.specs.declared.types.IntegerType.TheVariants as integer
+use Rattle.arrow_core.specs.declared.physical.PhysicalType.{PhysicalType}
+use Rattle.arrow_core.specs.declared.physical.PhysicalType.TheVariants as physical
 use Rattle.arrow_array.specs.FixedLists.{list_size}
 use Rattle.arrow_array.specs.Parts.{byte_width}
 use Rattle.arrow_flat.specs.Nested.{null_slots}

@@ -4,8 +4,8 @@ ghost use Rattle.std.specs.Prelude.{◌≡◌, false, ◌≤◌, ◌++◌, ◌�
 ghost use Rattle.std.specs.List.{All, AllZip};
 ghost use Rattle.arrow_core.specs.Errors.{OnlyOutOfMemory};
 ghost use Rattle.arrow_core.specs.declared.error.Error.TheVariants.{OutOfMemory};
-ghost use Rattle.arrow_types.specs.Layouts.{physical_type};
-ghost use Rattle.arrow_types.specs.declared.slot.Slot.TheVariants.{Null as NullSlot};
+ghost use Rattle.arrow_core.specs.Layouts.{physical_type};
+ghost use Rattle.arrow_core.specs.declared.slot.Slot.TheVariants.{Null as NullSlot};
 ghost use Rattle.arrow_array.specs.Arrays.{array_type, array_slots, dictionaries_of};
 ghost use Rattle.arrow_array.specs.Parts.{IsRefusalOf, is_extension};
 ghost use Rattle.arrow_flat.specs.Nodes.{NoLessSpare, Emptied, HasSpare, IsEmpty};
@@ -22,12 +22,11 @@ use crate::large_list::DynMutableLargeListArray;
 use crate::list::DynMutableListArray;
 use crate::structs::DynMutableStructArray;
 use arrow_array::Array;
-use arrow_core::Result;
+use arrow_core::{DataType, MonthsDaysNs, Result};
 use arrow_flat::{
     FixedItemsUtf8Dictionary, MutableBinaryArray, MutableBooleanArray, MutableFixedSizeBinaryArray,
     MutableNullArray, MutablePrimitiveArray, MutableUtf8Array, NodeLengths,
 };
-use arrow_types::{DataType, MonthsDaysNs};
 
 /// A builder of any kind: it takes slots one after the other and hands out the array of them.
 #[cycle(builders)]

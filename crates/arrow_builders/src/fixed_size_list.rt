@@ -4,7 +4,7 @@ ghost use Rattle.std.specs.Prelude.{◌≡◌, ◌+◌, ◌*◌, ◌≤◌, ◌+
 ghost use Rattle.std.specs.Borrow.{sem};
 ghost use Rattle.arrow_core.specs.Errors.{OnlyOutOfMemory};
 ghost use Rattle.arrow_core.specs.declared.error.Error.TheVariants.{OutOfMemory};
-ghost use Rattle.arrow_types.specs.declared.slot.Slot.TheVariants.{List as ListSlot};
+ghost use Rattle.arrow_core.specs.declared.slot.Slot.TheVariants.{List as ListSlot};
 ghost use Rattle.arrow_array.specs.FixedLists.{list_size};
 ghost use Rattle.arrow_array.specs.declared.array.Array.TheVariants.{FixedSizeList as ArrayOf};
 ghost use Rattle.arrow_builders.specs.Calls.{Boxes, Clears, PushesNulls, Reserves};
@@ -20,9 +20,8 @@ ghost use Rattle.arrow_builders.specs.declared.array.MutableArray.{FixedSizeList
 use crate::array::MutableArray;
 use crate::find::here_or;
 use arrow_array::FixedSizeListArray;
-use arrow_core::Result;
+use arrow_core::{DataType, Result};
 use arrow_flat::{MutableMarks, NodeLengths};
-use arrow_types::DataType;
 use std::alloc::Global;
 
 /// A builder of fixed-size lists: the items of each are as many slots of its child, one list

@@ -4,8 +4,8 @@ ghost use Rattle.std.specs.Prelude.{◌≡◌, ◌<◌, ◌≤◌, ◌++◌, ◌
 ghost use Rattle.std.specs.Borrow.{sem};
 ghost use Rattle.arrow_core.specs.Errors.{OnlyOutOfMemory};
 ghost use Rattle.arrow_core.specs.declared.error.Error.TheVariants.{OutOfMemory, Overflow};
-ghost use Rattle.arrow_types.specs.Numbers.{greatest_offset};
-ghost use Rattle.arrow_types.specs.declared.slot.Slot.TheVariants.{List as ListSlot};
+ghost use Rattle.arrow_core.specs.Numbers.{greatest_offset};
+ghost use Rattle.arrow_core.specs.declared.slot.Slot.TheVariants.{List as ListSlot};
 ghost use Rattle.arrow_array.specs.declared.array.Array.TheVariants.{LargeList as ArrayOf};
 ghost use Rattle.arrow_builders.specs.Calls.{Boxes, Clears, PushesNulls, Reserves};
 ghost use Rattle.arrow_builders.specs.FixedContent.{HasFixedContent};
@@ -20,9 +20,8 @@ ghost use Rattle.arrow_builders.specs.declared.array.MutableArray.{LargeList};
 use crate::array::MutableArray;
 use crate::find::here_or;
 use arrow_array::LargeListArray;
-use arrow_core::Result;
+use arrow_core::{DataType, Result};
 use arrow_flat::{MutableLists, NodeLengths};
-use arrow_types::DataType;
 use std::alloc::Global;
 
 /// A builder of lists: the items of each are the slots that its child took since the last one

@@ -20,9 +20,8 @@ ghost use Rattle.arrow_builders.specs.declared.array.MutableArray.{Struct};
 use crate::array::MutableArray;
 use crate::find::here_or;
 use arrow_array::{Array, StructArray};
-use arrow_core::Result;
+use arrow_core::{DataType, Result};
 use arrow_flat::{MutableMarks, NodeLengths};
-use arrow_types::DataType;
 use std::alloc::Global;
 
 /// A builder of structs: the fields of each are the slots of its children at its index

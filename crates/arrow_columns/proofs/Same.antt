@@ -3,12 +3,12 @@ use mir.Syntax.{w32, w64, w128}
 use mir.Val.{SFits, of_z, to_z}
 use Rattle.std.proofs.lemmas.Int.{ints}
 use Rattle.std.proofs.Common.{ℤ, ◌≡◌, refl, sym, ap, ◌∙◌, arith, ℕ, zero, suc, ◌+◌, ◌-◌, ◌<◌, ◌≤◌, Bool, false, List, [], ◌∷◌, map, length, take, drop, slice_index_or, length-take, length-drop}
-use Rattle.arrow_types.specs.declared.months_days_ns.MonthsDaysNs.{MonthsDaysNs}
-use Rattle.arrow_types.specs.declared.slot.Slot.{Slot, out-Slot, Null, Boolean as BooleanSlot, Integer as IntegerSlot, String as StringSlot, Binary as BinarySlot, List' as ListSlot', Struct' as StructSlot'}
-use Rattle.arrow_types.specs.declared.slot.Slot.TheOpen as open_slot
-use Rattle.arrow_types.specs.declared.slot.Slot.TheVariants as slot
-use Rattle.arrow_types.specs.declared.slot.Slot.TheViews.{outs-List, outs-Struct}
-use Rattle.arrow_types.specs.declared.types.DataType.{DataType}
+use Rattle.arrow_core.specs.declared.months_days_ns.MonthsDaysNs.{MonthsDaysNs}
+use Rattle.arrow_core.specs.declared.slot.Slot.{Slot, out-Slot, Null, Boolean as BooleanSlot, Integer as IntegerSlot, String as StringSlot, Binary as BinarySlot, List' as ListSlot', Struct' as StructSlot'}
+use Rattle.arrow_core.specs.declared.slot.Slot.TheOpen as open_slot
+use Rattle.arrow_core.specs.declared.slot.Slot.TheVariants as slot
+use Rattle.arrow_core.specs.declared.slot.Slot.TheViews.{outs-List, outs-Struct}
+use Rattle.arrow_core.specs.declared.types.DataType.{DataType}
 use Rattle.arrow_array.specs.declared.array.Array.{Array}
 use Rattle.arrow_array.specs.Arrays.{array_type, array_slots}
 use Rattle.arrow_array.specs.Slots.{slot_at, is_held}

@@ -1,9 +1,9 @@
 -- Which slot a cell holds, and how deep the types beneath it are.
 use Rattle.std.specs.Prelude.{ℕ, ◌+◌, [], ◌∷◌, map}
-use Rattle.arrow_types.specs.declared.months_days_ns.MonthsDaysNs.{MonthsDaysNs}
-use Rattle.arrow_types.specs.declared.slot.Slot.{Slot}
-use Rattle.arrow_types.specs.declared.slot.Slot.TheVariants as slot
-use Rattle.arrow_types.specs.declared.types.DataType.{size-DataType}
+use Rattle.arrow_core.specs.declared.months_days_ns.MonthsDaysNs.{MonthsDaysNs}
+use Rattle.arrow_core.specs.declared.slot.Slot.{Slot}
+use Rattle.arrow_core.specs.declared.slot.Slot.TheVariants as slot
+use Rattle.arrow_core.specs.declared.types.DataType.{size-DataType}
 use Rattle.arrow_array.specs.Arrays.{array_type, array_slots}
 use Rattle.arrow_array.specs.Depths.{children_depth}
 use Rattle.arrow_array.specs.Lent.{IsPart, part_slots}

@@ -1,12 +1,12 @@
 //! What a slot of an array holds.
 ghost use Rattle.std.specs.Prelude.{◌≡◌, ◌<◌, ◌≤◌, length};
-ghost use Rattle.arrow_types.specs.declared.types.DataType.{size-DataType};
+ghost use Rattle.arrow_core.specs.declared.types.DataType.{size-DataType};
 ghost use Rattle.arrow_array.specs.Arrays.{array_type, array_slots};
 ghost use Rattle.arrow_array.specs.Slots.{slot_at};
 ghost use Rattle.arrow_columns.specs.Cells.{cell_slot, CellFits, cell_depth};
 
 use arrow_array::{Array, Part};
-use arrow_types::MonthsDaysNs;
+use arrow_core::MonthsDaysNs;
 
 /// What a slot of an array holds, lent by the array.
 #[derive(Drop)]

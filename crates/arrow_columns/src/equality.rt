@@ -1,6 +1,6 @@
 //! Whether two arrays are equal.
 ghost use Rattle.std.specs.Prelude.{◌≡◌, ◌+◌, ◌<◌, ◌↔◌, IsTrue, length, map};
-ghost use Rattle.arrow_types.specs.declared.slot.Slot.TheVariants.{Integer as IntegerSlot};
+ghost use Rattle.arrow_core.specs.declared.slot.Slot.TheVariants.{Integer as IntegerSlot};
 ghost use Rattle.arrow_array.specs.Arrays.{array_type, array_slots};
 ghost use Rattle.arrow_array.specs.Lent.{IsPart, part_slots};
 ghost use Rattle.arrow_array.specs.Slots.{slot_at};
@@ -9,7 +9,7 @@ ghost use Rattle.arrow_columns.specs.Cells.{cell_slot, interval_slot, CellFits};
 
 use crate::cell::{Cell, cell_at};
 use arrow_array::{Array, Part};
-use arrow_types::MonthsDaysNs;
+use arrow_core::MonthsDaysNs;
 
 /// Whether slot `i` of the array is the integer.
 fn is_integer(array: &Array, i: usize, number: i128) -> bool

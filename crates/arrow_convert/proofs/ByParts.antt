@@ -1,13 +1,13 @@
 -- What holds of every type, by the fields that it is made of.
 use Rattle.std.proofs.Common.{◌≡◌, ◌∙◌, List, [], ◌∷◌, refl, sym, ap, subst}
 use Rattle.std.specs.List.{AllByRecursion}
-use Rattle.arrow_types.specs.declared.types.DataType.{DataType, List', LargeList', Struct', Row_of-Field, end_of-Field, more_of-Field, items-the_row-Field, items_hidden-the_row-Field-1, out-DataType, roll-DataType, roll-out-DataType}
-use Rattle.arrow_types.specs.declared.types.DataType.TheBlock.{shape-the_row-Field-0, hidden-the_row-Field-0}
-use Rattle.arrow_types.specs.declared.types.DataType.TheOpen as layer
-use Rattle.arrow_types.specs.declared.types.DataType.TheVariants as types
-use Rattle.arrow_types.specs.declared.types.DataType.TheViews.{rolls-List, rolls-LargeList, rolls-Struct}
-use Rattle.arrow_types.specs.declared.types.Field.{Field}
-use Rattle.avro_record.specs.Listed.{HasNoFields}
+use Rattle.arrow_core.specs.declared.types.DataType.{DataType, List', LargeList', Struct', Row_of-Field, end_of-Field, more_of-Field, items-the_row-Field, items_hidden-the_row-Field-1, out-DataType, roll-DataType, roll-out-DataType}
+use Rattle.arrow_core.specs.declared.types.DataType.TheBlock.{shape-the_row-Field-0, hidden-the_row-Field-0}
+use Rattle.arrow_core.specs.declared.types.DataType.TheOpen as layer
+use Rattle.arrow_core.specs.declared.types.DataType.TheVariants as types
+use Rattle.arrow_core.specs.declared.types.DataType.TheViews.{rolls-List, rolls-LargeList, rolls-Struct}
+use Rattle.arrow_core.specs.declared.types.Field.{Field}
+use Rattle.avro_types.specs.Listed.{HasNoFields}
 
 abbrev fields_of : DataType → List Field
 fields_of (List' shape row) = items-the_row-Field _ row

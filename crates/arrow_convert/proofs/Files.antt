@@ -10,9 +10,9 @@ use Rattle.avro_container.specs.Canonical.{canonical_blocks, canonical_block, ca
 use Rattle.avro_container.specs.File.{FileBlock, magic}
 use Rattle.avro_container.specs.Laws.{AllSmall}
 use Rattle.avro_container.specs.Shortest.{shortest}
-use Rattle.avro_blocks.specs.Changes.{Change}
-use Rattle.avro_blocks.proofs.Reading.{consumed_some}
-use Rattle.avro_text.specs.Writing.{schema_text_of}
+use Rattle.avro_container.specs.Changes.{Change}
+use Rattle.avro_container.proofs.Reading.{consumed_some}
+use Rattle.avro_file.specs.Writing.{schema_text_of}
 use Rattle.avro_file.specs.File.{AvroFile, canonical_file}
 use Rattle.avro_file.proofs.Roots.{canonical}
 use Rattle.arrow_convert.specs.ReadAgain.{CanBeRead, Got}

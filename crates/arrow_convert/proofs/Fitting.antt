@@ -2,11 +2,11 @@
 -- have.
 use Rattle.std.proofs.Common.{◌≡◌, ◌∙◌, ℕ, ◌+◌, Bool, true, false, ◌&&◌, nat_le, List, [], ◌∷◌, map, Option, Some, None, refl, sym, ap, subst}
 use Rattle.std.proofs.lemmas.Option.{none-some, same_Some}
-use Rattle.arrow_types.specs.declared.types.DataType.{DataType}
-use Rattle.arrow_types.specs.declared.types.DataType as types
-use Rattle.arrow_types.specs.declared.types.Field.{Field}
-use Rattle.arrow_types.specs.declared.types.IntervalUnit.TheVariants as interval
-use Rattle.arrow_types.specs.declared.types.TimeUnit.TheVariants as unit
+use Rattle.arrow_core.specs.declared.types.DataType.{DataType}
+use Rattle.arrow_core.specs.declared.types.DataType as types
+use Rattle.arrow_core.specs.declared.types.Field.{Field}
+use Rattle.arrow_core.specs.declared.types.IntervalUnit.TheVariants as interval
+use Rattle.arrow_core.specs.declared.types.TimeUnit.TheVariants as unit
 use Rattle.avro_schema.specs.declared.schema.AvroField.{AvroField, fold-AvroField, fold-roll-AvroField, out-AvroField, roll-out-AvroField}
 use Rattle.avro_schema.specs.declared.schema.BytesLogical.TheVariants as bytes
 use Rattle.avro_schema.specs.declared.schema.Fixed.{Fixed}
@@ -16,14 +16,14 @@ use Rattle.avro_schema.specs.declared.schema.Record.{Record as TheRecord, Record
 use Rattle.avro_schema.specs.declared.schema.Schema.{Schema, Null, Long, Record, Array, Union, fold-roll-Schema}
 use Rattle.avro_schema.specs.declared.schema.Schema.TheOpen as layer
 use Rattle.avro_schema.specs.declared.schema.Schema.TheVariants as variant
-use Rattle.avro_grammar.specs.AndThen.{◌>>=◌}
-use Rattle.avro_grammar.proofs.Basics.{bind_some}
-use Rattle.avro_text.specs.Writable.{all_fit, field_fits_step, fits_step, is_decimal, logical_fits, numbers_fit, record_fits_step}
-use Rattle.avro_record.specs.Listed.{HasNoFields, array_schema, named_all}
-use Rattle.avro_record.specs.Named.{named, named_record, named_root, nameless_in}
-use Rattle.avro_record.specs.Schemas.{column_schema, columns_fields, optional, plain_field, plain_record, record_name, record_of, schema_of, structs_in, timestamp}
-use Rattle.avro_record.proofs.ByFields.{struct_schema_is}
-use Rattle.avro_record.proofs.Renamed.{array_named, record_named, union_named}
+use Rattle.avro_schema.specs.AndThen.{◌>>=◌}
+use Rattle.avro_schema.proofs.Basics.{bind_some}
+use Rattle.avro_file.specs.Writable.{all_fit, field_fits_step, fits_step, is_decimal, logical_fits, numbers_fit, record_fits_step}
+use Rattle.avro_types.specs.Listed.{HasNoFields, array_schema, named_all}
+use Rattle.avro_types.specs.Named.{named, named_record, named_root, nameless_in}
+use Rattle.avro_types.specs.Schemas.{column_schema, columns_fields, optional, plain_field, plain_record, record_name, record_of, schema_of, structs_in, timestamp}
+use Rattle.avro_types.proofs.ByFields.{struct_schema_is}
+use Rattle.avro_types.proofs.Renamed.{array_named, record_named, union_named}
 use Rattle.arrow_convert.proofs.ByParts.{EachType}
 
 -- ---- what the definition says of each schema

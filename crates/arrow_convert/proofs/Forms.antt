@@ -3,23 +3,23 @@ use Rattle.std.proofs.Common.{◌≡◌, ◌∙◌, ℕ, true, List, [], ◌∷�
 use Rattle.std.proofs.lemmas.Option.{same_Some}
 use Rattle.std.specs.Prelude.{◌^◌, ◌<◌, sum_by}
 use Rattle.std.specs.List.{AllByRecursion, AllZip}
-use Rattle.arrow_types.specs.declared.slot.Slot.{Slot}
-use Rattle.arrow_types.specs.declared.types.Field.{Field}
+use Rattle.arrow_core.specs.declared.slot.Slot.{Slot}
+use Rattle.arrow_core.specs.declared.types.Field.{Field}
 use Rattle.avro_schema.specs.declared.schema.AvroField.{AvroField}
 use Rattle.avro_schema.specs.declared.schema.Schema as schema
 use Rattle.avro_schema.specs.declared.schema.Record.{Record, out-Record}
-use Rattle.avro_grammar.specs.Inferred.{inferred_columns}
-use Rattle.avro_grammar.proofs.RowLaws.{same_table}
+use Rattle.avro_schema.specs.Inferred.{inferred_columns}
+use Rattle.avro_schema.proofs.RowLaws.{same_table}
 use Rattle.avro_container.specs.Canonical as container
 use Rattle.avro_container.specs.File.{FileBlock, FileOf, the_block}
 use Rattle.avro_container.specs.Laws.{AllSmall, IsItself}
 use Rattle.avro_container.proofs.OneFile.{one_file, canonical_is_file}
-use Rattle.avro_text.specs.Writing.{schema_text_of}
+use Rattle.avro_file.specs.Writing.{schema_text_of}
 use Rattle.avro_file.specs.File.{StandsFor, canonical_file}
 use Rattle.avro_file.proofs.Roots.{one_root}
-use Rattle.avro_decode.specs.Decoder.{Projected, projected, HasTable}
-use Rattle.avro_record.specs.Named.{named_root}
-use Rattle.avro_record.specs.Schemas.{record_of}
+use Rattle.avro_schema.specs.Projected.{Projected, projected, HasTable}
+use Rattle.avro_types.specs.Named.{named_root}
+use Rattle.avro_types.specs.Schemas.{record_of}
 use Rattle.avro_write.specs.Laws.{all_kept, plain_table}
 use Rattle.avro_write.proofs.TableLaw.{table_tells}
 use Rattle.avro_canonical.specs.Canonical.{HasEncodings}

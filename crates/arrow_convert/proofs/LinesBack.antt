@@ -10,25 +10,25 @@ use Rattle.std.proofs.lemmas.List.Elements.{recursion_from_All}
 use Rattle.std.proofs.lemmas.List.Folds.{list_all-append}
 use Rattle.std.proofs.lemmas.List.Sums.{sum_by-cons}
 use Rattle.std.proofs.lemmas.Option.{none-some, same_Some}
-use Rattle.arrow_types.specs.declared.slot.Slot.{Slot}
-use Rattle.arrow_types.specs.declared.types.DataType as types
-use Rattle.arrow_types.specs.declared.types.DataType.{DataType}
-use Rattle.arrow_types.specs.declared.types.Field.{Field}
+use Rattle.arrow_core.specs.declared.slot.Slot.{Slot}
+use Rattle.arrow_core.specs.declared.types.DataType as types
+use Rattle.arrow_core.specs.declared.types.DataType.{DataType}
+use Rattle.arrow_core.specs.declared.types.Field.{Field}
 use Rattle.avro_schema.specs.declared.schema.AvroField.{AvroField}
 use Rattle.avro_schema.specs.declared.schema.Record.{Record, out-Record}
 use Rattle.avro_schema.specs.declared.schema.Schema as schema
 use Rattle.avro_schema.specs.declared.schema.Schema.{Schema}
-use Rattle.avro_grammar.specs.Inferred.{inferred_columns}
-use Rattle.avro_grammar.specs.Rows.{Rows}
-use Rattle.avro_grammar.specs.ValidBlock.{EnumsFit, HasFloat, kept, small_limit}
-use Rattle.avro_grammar.proofs.RowLaws.{rows_have, same_table}
+use Rattle.avro_schema.specs.Inferred.{inferred_columns}
+use Rattle.avro_schema.specs.Rows.{Rows}
+use Rattle.avro_schema.specs.ValidBlock.{EnumsFit, HasFloat, kept, small_limit}
+use Rattle.avro_schema.proofs.RowLaws.{rows_have, same_table}
 use Rattle.avro_container.specs.File.{FileBlock}
 use Rattle.avro_container.proofs.OneFile.{one_file}
 use Rattle.avro_file.specs.File.{AvroFile, StandsFor}
 use Rattle.avro_file.proofs.Roots.{one_root}
-use Rattle.avro_decode.specs.Columns.{kept_types}
-use Rattle.avro_decode.specs.Decoder.{Projected}
-use Rattle.avro_record.specs.Back.{small_field}
+use Rattle.avro_schema.specs.Columns.{kept_types}
+use Rattle.avro_schema.specs.Projected.{Projected}
+use Rattle.avro_types.specs.Back.{small_field}
 use Rattle.avro_encode.specs.Listed.{PairsFieldsOf}
 use Rattle.avro_encode.specs.Pairs.{Pairs}
 use Rattle.avro_encode.specs.Plain.{parts_of, plain}

@@ -2,11 +2,11 @@
 -- but gives it back otherwise.
 use Rattle.std.proofs.Common.{◌≡◌, ◌∙◌, true, not, eqb, List, [], ◌∷◌, length, refl, sym}
 use Rattle.std.proofs.lemmas.Bool.{and_parts, false≢true}
-use Rattle.arrow_types.specs.declared.types.DataType.{DataType}
-use Rattle.arrow_types.specs.declared.types.DataType as types
-use Rattle.arrow_types.specs.declared.types.Field.{Field}
-use Rattle.avro_record.specs.Listed.{HasNoFields}
-use Rattle.avro_record.proofs.ByFields.{large_list_schema, list_schema}
+use Rattle.arrow_core.specs.declared.types.DataType.{DataType}
+use Rattle.arrow_core.specs.declared.types.DataType as types
+use Rattle.arrow_core.specs.declared.types.Field.{Field}
+use Rattle.avro_types.specs.Listed.{HasNoFields}
+use Rattle.avro_types.proofs.ByFields.{large_list_schema, list_schema}
 use Rattle.json_columns.specs.Gathered.{all_have_reading}
 use Rattle.json_flat.specs.Reading.{has_reading}
 use Rattle.json_columns.proofs.ByFields.{large_list_readable, list_readable, struct_readable}

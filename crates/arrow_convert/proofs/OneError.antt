@@ -4,26 +4,26 @@ use Rattle.std.proofs.lemmas.Option.{same_Some}
 use Rattle.arrow_base.specs.Outside.{RoseOrFull}
 use Rattle.arrow_core.specs.declared.error.Error.{Error}
 use Rattle.arrow_core.specs.declared.error.Error.TheVariants.{WriteFault, OutOfMemory}
-use Rattle.arrow_types.specs.declared.types.Field.{Field}
+use Rattle.arrow_core.specs.declared.types.Field.{Field}
 use Rattle.avro_schema.specs.declared.schema.Record.{Record, out-Record}
-use Rattle.avro_grammar.specs.Inferred.{inferred_columns}
-use Rattle.avro_grammar.specs.ValidBlock.{ValidBlock}
+use Rattle.avro_schema.specs.Inferred.{inferred_columns}
+use Rattle.avro_schema.specs.ValidBlock.{ValidBlock}
 use Rattle.avro_container.specs.File.{FileBlock}
 use Rattle.avro_container.specs.Laws.{told}
 use Rattle.avro_container.specs.Taking.{State, state}
-use Rattle.avro_blocks.specs.Changes.{Change, change_of, CameFromOutside}
-use Rattle.avro_blocks.specs.Written.{StopsAtBlock, WithAllRows}
-use Rattle.avro_blocks.proofs.OneBlock.{AreOne, AreOneOr, or_outside, one_stop}
-use Rattle.avro_blocks.proofs.Reading.{IsGood, consumed_some}
-use Rattle.avro_blocks.proofs.Results.{memory_or_not}
-use Rattle.avro_blocks.proofs.Steps.{rose_from}
+use Rattle.avro_container.specs.Changes.{Change, change_of, CameFromOutside}
+use Rattle.avro_container.specs.Written.{StopsAtBlock, WithAllRows}
+use Rattle.avro_container.proofs.OneBlock.{AreOne, AreOneOr, or_outside, one_stop}
+use Rattle.avro_container.proofs.Reading.{IsGood, consumed_some}
+use Rattle.avro_container.proofs.Results.{memory_or_not}
+use Rattle.avro_container.proofs.Steps.{rose_from}
 use Rattle.avro_file.specs.Laws.{IsMetadata}
 use Rattle.avro_file.specs.Metadata.{MetadataFails, ReadsMetadata, WriteFails}
 use Rattle.avro_file.proofs.Complete.{metadata_is_read, metadata_is_right}
-use Rattle.avro_decode.specs.Decoder.{CanBeDecoded}
+use Rattle.avro_schema.specs.Projected.{CanBeDecoded}
 use Rattle.avro_decode.proofs.Valid.{valid_blocks}
-use Rattle.avro_record.specs.Named.{named_root}
-use Rattle.avro_record.specs.Schemas.{record_of}
+use Rattle.avro_types.specs.Named.{named_root}
+use Rattle.avro_types.specs.Schemas.{record_of}
 use Rattle.avro_ndjson.proofs.OneBlock.{one_wrong}
 use Rattle.avro_ndjson.proofs.OneMetadata.{one_metadata, reading_of}
 use Rattle.avro_canonical.specs.Canonical.{BlockIsRefused, CanBeRewritten, CannotBeRewritten, RewritesBlock, Rewriting}

@@ -8,10 +8,10 @@ use Rattle.std.specs.Str.{bytes_eq}
 use Rattle.std.specs.Str.Parse.{digits_value}
 use Rattle.std.proofs.lemmas.Bool.{and_parts}
 use Rattle.std.proofs.lemmas.Option.{none-some, same_Some}
-use Rattle.arrow_types.specs.declared.types.DataType.{DataType}
-use Rattle.arrow_types.specs.declared.types.DataType as types
-use Rattle.arrow_types.specs.declared.types.Field.{Field}
-use Rattle.arrow_types.specs.declared.types.IntervalUnit.TheVariants as interval
+use Rattle.arrow_core.specs.declared.types.DataType.{DataType}
+use Rattle.arrow_core.specs.declared.types.DataType as types
+use Rattle.arrow_core.specs.declared.types.Field.{Field}
+use Rattle.arrow_core.specs.declared.types.IntervalUnit.TheVariants as interval
 use Rattle.json_tree.specs.Tree.{Json}
 use Rattle.json_tree.specs.Keys.{value_of}
 use Rattle.json_tree.specs.declared.value.Number.{Number}
@@ -32,20 +32,20 @@ use Rattle.avro_schema.specs.declared.schema.LongLogical.TheVariants as long
 use Rattle.avro_schema.specs.declared.schema.Record.{Record as TheRecord, Record-F, out-Record, out-roll-Record, roll-Record}
 use Rattle.avro_schema.specs.declared.schema.Schema.{Schema, Null, Boolean, Int, Long, Float, Double, Bytes, String, Record, Enum, Array, Map, Union, Fixed}
 use Rattle.avro_schema.specs.declared.schema.StringLogical.{StringLogical}
-use Rattle.avro_grammar.specs.AndThen.{◌>>=◌}
-use Rattle.avro_grammar.specs.Encodes.{is_null}
-use Rattle.avro_grammar.specs.Inferred.{column_field, columns_of, inferred, inferred_columns, is_item, item_name, own_doc}
-use Rattle.avro_grammar.specs.TypeLaws.{inferred_member_of}
-use Rattle.avro_grammar.specs.Types.{fixed_type, int_type, long_type, symbol_type}
-use Rattle.avro_grammar.proofs.Basics.{bind_some}
-use Rattle.avro_grammar.proofs.InferredLemmas.{inferred_composites}
-use Rattle.avro_text.specs.Attributes.{attribute, attributes_of, count_at, count_in, count_of, digits_count, items_at, number_count, string_at}
-use Rattle.avro_text.specs.Outcome.{Outcome, each, found, need, one_more, reference, then_for, wrong}
-use Rattle.avro_text.specs.Reading.{IsSchemaText, enum_of, field, fixed_of, inner_at, named, named_by, of_layer, of_object, of_type, one_schema, reading, record_of, strings, typed, typed_as}
-use Rattle.avro_text.specs.Types.{bytes_logical, decimal_of, digits_of, duration_of, fixed_logical, int_logical, logical_name, long_logical, primitives, scale_of, string_logical}
-use Rattle.avro_text.specs.Writable.{is_decimal, logical_fits}
-use Rattle.avro_record.specs.Listed.{HasNoFields}
-use Rattle.avro_record.proofs.ByFields.{list_schema}
+use Rattle.avro_schema.specs.AndThen.{◌>>=◌}
+use Rattle.avro_schema.specs.Encodes.{is_null}
+use Rattle.avro_schema.specs.Inferred.{column_field, columns_of, inferred, inferred_columns, is_item, item_name, own_doc}
+use Rattle.avro_schema.specs.TypeLaws.{inferred_member_of}
+use Rattle.avro_schema.specs.Types.{fixed_type, int_type, long_type, symbol_type}
+use Rattle.avro_schema.proofs.Basics.{bind_some}
+use Rattle.avro_schema.proofs.InferredLemmas.{inferred_composites}
+use Rattle.avro_file.specs.Attributes.{attribute, attributes_of, count_at, count_in, count_of, digits_count, items_at, number_count, string_at}
+use Rattle.avro_file.specs.Outcome.{Outcome, each, found, need, one_more, reference, then_for, wrong}
+use Rattle.avro_file.specs.Reading.{IsSchemaText, enum_of, field, fixed_of, inner_at, named, named_by, of_layer, of_object, of_type, one_schema, reading, record_of, strings, typed, typed_as}
+use Rattle.avro_file.specs.Types.{bytes_logical, decimal_of, digits_of, duration_of, fixed_logical, int_logical, logical_name, long_logical, primitives, scale_of, string_logical}
+use Rattle.avro_file.specs.Writable.{is_decimal, logical_fits}
+use Rattle.avro_types.specs.Listed.{HasNoFields}
+use Rattle.avro_types.proofs.ByFields.{list_schema}
 use Rattle.arrow_convert.specs.ReadAgain.{RewrittenIsWritable}
 use Rattle.arrow_convert.proofs.ByParts.{EachType}
 use Rattle.arrow_convert.proofs.Fitting.{Fits, flat_fits, listed_fits, struct_fits, target_fits, type_fits}

@@ -3,19 +3,19 @@ use Rattle.std.proofs.Common.{◌≡◌, ◌∙◌, ℕ, ◌+◌, Bool, true, fa
 use Rattle.std.specs.Option.{is_some}
 use Rattle.std.proofs.lemmas.Bool.{and_parts, false≢true}
 use Rattle.std.proofs.lemmas.Option.{none-some}
-use Rattle.arrow_types.specs.declared.types.DataType.{DataType}
-use Rattle.arrow_types.specs.declared.types.DataType as types
-use Rattle.arrow_types.specs.declared.types.Field.{Field}
-use Rattle.arrow_types.specs.declared.types.IntervalUnit.TheVariants as interval
-use Rattle.arrow_types.specs.declared.types.TimeUnit.TheVariants as unit
+use Rattle.arrow_core.specs.declared.types.DataType.{DataType}
+use Rattle.arrow_core.specs.declared.types.DataType as types
+use Rattle.arrow_core.specs.declared.types.Field.{Field}
+use Rattle.arrow_core.specs.declared.types.IntervalUnit.TheVariants as interval
+use Rattle.arrow_core.specs.declared.types.TimeUnit.TheVariants as unit
 use Rattle.avro_schema.specs.declared.schema.AvroField.{AvroField}
 use Rattle.avro_schema.specs.declared.schema.Record.{Record as TheRecord}
 use Rattle.avro_schema.specs.declared.schema.Schema.{Schema, Array, Long, Record}
-use Rattle.avro_grammar.specs.AndThen.{◌>>=◌}
-use Rattle.avro_grammar.proofs.Basics.{bind_some}
-use Rattle.avro_record.specs.Listed.{HasNoFields, array_schema, can_serialize_all}
-use Rattle.avro_record.specs.Schemas.{can_serialize, column_schema, columns_fields, optional, plain_field, plain_record, record_name, schema_of, structs_in, timestamp}
-use Rattle.avro_record.proofs.ByFields.{large_list_schema, large_list_serializable, list_schema, list_serializable, struct_schema_is, struct_serializable}
+use Rattle.avro_schema.specs.AndThen.{◌>>=◌}
+use Rattle.avro_schema.proofs.Basics.{bind_some}
+use Rattle.avro_types.specs.Listed.{HasNoFields, array_schema, can_serialize_all}
+use Rattle.avro_types.specs.Schemas.{can_serialize, column_schema, columns_fields, optional, plain_field, plain_record, record_name, schema_of, structs_in, timestamp}
+use Rattle.avro_types.proofs.ByFields.{large_list_schema, large_list_serializable, list_schema, list_serializable, struct_schema_is, struct_serializable}
 use Rattle.json_columns.specs.Gathered.{all_have_reading}
 use Rattle.json_flat.specs.Reading.{has_reading}
 use Rattle.json_columns.proofs.ByFields.{large_list_readable, list_readable, struct_readable}

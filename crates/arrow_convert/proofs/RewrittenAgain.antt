@@ -6,23 +6,23 @@ use Rattle.std.specs.Io.KnownBytes.{Appends}
 use Rattle.std.proofs.lemmas.List.Elements.{All-tail}
 use Rattle.std.proofs.lemmas.List.Sums.{sum_by-cons}
 use Rattle.std.proofs.lemmas.Option.{same_Some}
-use Rattle.arrow_types.specs.declared.slot.Slot.{Slot}
-use Rattle.arrow_types.specs.declared.types.Field.{Field}
+use Rattle.arrow_core.specs.declared.slot.Slot.{Slot}
+use Rattle.arrow_core.specs.declared.types.Field.{Field}
 use Rattle.avro_schema.specs.declared.schema.AvroField.{AvroField}
 use Rattle.avro_schema.specs.declared.schema.Record.{out-Record}
-use Rattle.avro_grammar.specs.AndThen.{◌>>=◌}
-use Rattle.avro_grammar.specs.Carried.{Carried, CarriedList}
-use Rattle.avro_grammar.specs.Inferred.{column_field, columns_of, inferred, own_doc}
-use Rattle.avro_grammar.specs.Rows.{Rows}
-use Rattle.avro_grammar.specs.ValidBlock.{EnumsFit, HasFloat, KeepNoFloat}
-use Rattle.avro_grammar.proofs.Basics.{bind_some}
-use Rattle.avro_grammar.proofs.RowLaws.{rows_have}
+use Rattle.avro_schema.specs.AndThen.{◌>>=◌}
+use Rattle.avro_schema.specs.Carried.{Carried, CarriedList}
+use Rattle.avro_schema.specs.Inferred.{column_field, columns_of, inferred, own_doc}
+use Rattle.avro_schema.specs.Rows.{Rows}
+use Rattle.avro_schema.specs.ValidBlock.{EnumsFit, HasFloat, KeepNoFloat}
+use Rattle.avro_schema.proofs.Basics.{bind_some}
+use Rattle.avro_schema.proofs.RowLaws.{rows_have}
 use Rattle.avro_container.specs.File.{FileBlock, the_block}
 use Rattle.avro_file.specs.File.{AvroFile, canonical_file}
-use Rattle.avro_decode.specs.Decoder.{Projected, projected, HasTable}
-use Rattle.avro_record.specs.Back.{small_field}
-use Rattle.avro_record.specs.Listed.{can_serialize_all}
-use Rattle.avro_record.specs.Schemas.{can_serialize, column_schema, columns_fields, optional, plain_field, plain_record, schema_of, structs_in}
+use Rattle.avro_schema.specs.Projected.{Projected, projected, HasTable}
+use Rattle.avro_types.specs.Back.{small_field}
+use Rattle.avro_types.specs.Listed.{can_serialize_all}
+use Rattle.avro_types.specs.Schemas.{can_serialize, column_schema, columns_fields, optional, plain_field, plain_record, schema_of, structs_in}
 use Rattle.avro_write.specs.Laws.{all_kept, plain_table}
 use Rattle.avro_write.proofs.TableLaw.{table_encodes}
 use Rattle.avro_canonical.specs.Canonical.{CanBeRewritten, HasEncodings}

@@ -1,17 +1,17 @@
 -- The schema of a type is that of its small form.
 use Rattle.std.proofs.Common.{◌≡◌, ◌∙◌, ℕ, ◌+◌, Bool, List, [], ◌∷◌, map, Option, Some, refl, sym, ap}
-use Rattle.arrow_types.specs.declared.types.DataType.{DataType, LargeUtf8, LargeBinary, List', LargeList', Struct'}
-use Rattle.arrow_types.specs.declared.types.DataType.TheBlock.{shape-the_row-Field-0, hidden-the_row-Field-0, shape-the_row-Field-1, hidden-the_row-Field-1}
-use Rattle.arrow_types.specs.declared.types.DataType.TheVariants as types
-use Rattle.arrow_types.specs.declared.types.Field.{Field}
+use Rattle.arrow_core.specs.declared.types.DataType.{DataType, LargeUtf8, LargeBinary, List', LargeList', Struct'}
+use Rattle.arrow_core.specs.declared.types.DataType.TheBlock.{shape-the_row-Field-0, hidden-the_row-Field-0, shape-the_row-Field-1, hidden-the_row-Field-1}
+use Rattle.arrow_core.specs.declared.types.DataType.TheVariants as types
+use Rattle.arrow_core.specs.declared.types.Field.{Field}
 use Rattle.avro_schema.specs.declared.schema.AvroField.{AvroField}
 use Rattle.avro_schema.specs.declared.schema.Schema.{Schema, Array, Record}
-use Rattle.avro_grammar.specs.AndThen.{◌>>=◌}
-use Rattle.avro_grammar.specs.Inferred.{item_name}
-use Rattle.avro_record.specs.Back.{small, small_field, small_row}
-use Rattle.avro_record.specs.Listed.{HasNoFields, array_schema, structs_in_all}
-use Rattle.avro_record.specs.Schemas.{column_schema, columns_fields, optional, plain_field, plain_record, record_name, record_of, schema_of, structs_in}
-use Rattle.avro_record.proofs.ByFields.{large_list_schema, large_list_structs, list_schema, list_structs, struct_schema_is, struct_structs}
+use Rattle.avro_schema.specs.AndThen.{◌>>=◌}
+use Rattle.avro_schema.specs.Inferred.{item_name}
+use Rattle.avro_types.specs.Back.{small, small_field, small_row}
+use Rattle.avro_types.specs.Listed.{HasNoFields, array_schema, structs_in_all}
+use Rattle.avro_types.specs.Schemas.{column_schema, columns_fields, optional, plain_field, plain_record, record_name, record_of, schema_of, structs_in}
+use Rattle.avro_types.proofs.ByFields.{large_list_schema, large_list_structs, list_schema, list_structs, struct_schema_is, struct_structs}
 use Rattle.arrow_convert.proofs.ByParts.{EachType, each_by_parts}
 
 -- ---- small forms, by the fields of a type

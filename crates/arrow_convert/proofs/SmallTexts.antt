@@ -2,13 +2,13 @@
 use Rattle.std.proofs.Common.{◌≡◌, ◌∙◌, ℕ, ◌++◌, true, ◌&&◌, List, [], ◌∷◌, map, codes, All, refl, sym, ap}
 use Rattle.std.specs.List.{AllByRecursion, flat_map, list_all}
 use Rattle.std.proofs.lemmas.List.Elements.{All-from_recursion, recursion_from_All}
-use Rattle.arrow_types.specs.declared.slot.Slot.{Slot}
-use Rattle.arrow_types.specs.declared.types.DataType.{DataType, LargeUtf8, LargeBinary, List', LargeList', Struct'}
-use Rattle.arrow_types.specs.declared.types.DataType.TheBlock.{shape-the_row-Field-0, hidden-the_row-Field-0, shape-the_row-Field-1, hidden-the_row-Field-1}
-use Rattle.arrow_types.specs.declared.types.DataType.TheVariants as types
-use Rattle.arrow_types.specs.declared.types.Field.{Field}
-use Rattle.avro_record.specs.Back.{small, small_field}
-use Rattle.avro_record.specs.Listed.{HasNoFields}
+use Rattle.arrow_core.specs.declared.slot.Slot.{Slot}
+use Rattle.arrow_core.specs.declared.types.DataType.{DataType, LargeUtf8, LargeBinary, List', LargeList', Struct'}
+use Rattle.arrow_core.specs.declared.types.DataType.TheBlock.{shape-the_row-Field-0, hidden-the_row-Field-0, shape-the_row-Field-1, hidden-the_row-Field-1}
+use Rattle.arrow_core.specs.declared.types.DataType.TheVariants as types
+use Rattle.arrow_core.specs.declared.types.Field.{Field}
+use Rattle.avro_types.specs.Back.{small, small_field}
+use Rattle.avro_types.specs.Listed.{HasNoFields}
 use Rattle.json_text.specs.JsonText.{Form, field_members, form, member, member_texts, object, of_lists, of_structs, slot_text, text}
 use Rattle.json_text.specs.Refusals.{Range, all_in_range, fields_in_range, has_text, in_range, lists_in, range_of, slot_in_range, structs_in}
 use Rattle.json_text.proofs.Beneath.{large_list_text, list_text, struct_text}

@@ -7,32 +7,32 @@ use Rattle.std.proofs.lemmas.Bool.{and_parts, false≢true}
 use Rattle.std.proofs.lemmas.List.Elements.{All-from_recursion}
 use Rattle.std.proofs.lemmas.Option.{none-some, same_Some}
 use Rattle.std.proofs.lemmas.Slice.Eq.{bytes_eq-Decides}
-use Rattle.arrow_types.specs.declared.types.DataType.{DataType}
-use Rattle.arrow_types.specs.declared.types.DataType as types
-use Rattle.arrow_types.specs.declared.types.Field.{Field}
-use Rattle.arrow_types.specs.declared.types.IntervalUnit.TheVariants as interval
-use Rattle.arrow_types.specs.declared.types.TimeUnit.{TimeUnit}
-use Rattle.arrow_types.specs.declared.types.TimeUnit.TheVariants as unit
+use Rattle.arrow_core.specs.declared.types.DataType.{DataType}
+use Rattle.arrow_core.specs.declared.types.DataType as types
+use Rattle.arrow_core.specs.declared.types.Field.{Field}
+use Rattle.arrow_core.specs.declared.types.IntervalUnit.TheVariants as interval
+use Rattle.arrow_core.specs.declared.types.TimeUnit.{TimeUnit}
+use Rattle.arrow_core.specs.declared.types.TimeUnit.TheVariants as unit
 use Rattle.avro_schema.specs.declared.schema.AvroField.{AvroField}
 use Rattle.avro_schema.specs.declared.schema.LongLogical.{LongLogical}
 use Rattle.avro_schema.specs.declared.schema.Record.{Record as TheRecord, out-Record, out-roll-Record}
 use Rattle.avro_schema.specs.declared.schema.Schema.{Schema, Null, Long, Record, Array, Union'}
-use Rattle.avro_grammar.specs.AndThen.{◌>>=◌}
-use Rattle.avro_grammar.specs.Carried.{Carried, CarriedList, IsNoUnion}
-use Rattle.avro_grammar.specs.Encodes.{is_null}
-use Rattle.avro_grammar.specs.Inferred.{column_field, columns_of, inferred, inferred_columns, is_item, item_name, own_doc}
-use Rattle.avro_grammar.specs.Types.{is_union, long_type}
-use Rattle.avro_grammar.specs.ValidBlock.{EnumsFit, HasFloat}
-use Rattle.avro_grammar.proofs.Basics.{bind_some}
-use Rattle.avro_grammar.proofs.ByLists.{carried_array, carried_record, carried_union, moved}
-use Rattle.avro_grammar.proofs.InferredLemmas.{inferred_composites}
-use Rattle.avro_grammar.proofs.TypeLemmas.{enum_composites, float_composites}
-use Rattle.avro_record.specs.Back.{small, small_field}
-use Rattle.avro_record.specs.Listed.{HasNoFields, array_schema, can_serialize_all, named_all}
-use Rattle.avro_record.specs.Named.{named, named_record, named_root, nameless_in}
-use Rattle.avro_record.specs.Schemas.{can_serialize, column_schema, columns_fields, instants, optional, plain_field, plain_record, readings, record_name, record_of, schema_of, structs_in, timestamp}
-use Rattle.avro_record.proofs.ByFields.{large_list_schema, large_list_serializable, list_schema, list_serializable, struct_schema_is, struct_serializable}
-use Rattle.avro_record.proofs.Renamed.{array_named, record_named, union_named}
+use Rattle.avro_schema.specs.AndThen.{◌>>=◌}
+use Rattle.avro_schema.specs.Carried.{Carried, CarriedList, IsNoUnion}
+use Rattle.avro_schema.specs.Encodes.{is_null}
+use Rattle.avro_schema.specs.Inferred.{column_field, columns_of, inferred, inferred_columns, is_item, item_name, own_doc}
+use Rattle.avro_schema.specs.Types.{is_union, long_type}
+use Rattle.avro_schema.specs.ValidBlock.{EnumsFit, HasFloat}
+use Rattle.avro_schema.proofs.Basics.{bind_some}
+use Rattle.avro_schema.proofs.ByLists.{carried_array, carried_record, carried_union, moved}
+use Rattle.avro_schema.proofs.InferredLemmas.{inferred_composites}
+use Rattle.avro_schema.proofs.TypeLemmas.{enum_composites, float_composites}
+use Rattle.avro_types.specs.Back.{small, small_field}
+use Rattle.avro_types.specs.Listed.{HasNoFields, array_schema, can_serialize_all, named_all}
+use Rattle.avro_types.specs.Named.{named, named_record, named_root, nameless_in}
+use Rattle.avro_types.specs.Schemas.{can_serialize, column_schema, columns_fields, instants, optional, plain_field, plain_record, readings, record_name, record_of, schema_of, structs_in, timestamp}
+use Rattle.avro_types.proofs.ByFields.{large_list_schema, large_list_serializable, list_schema, list_serializable, struct_schema_is, struct_serializable}
+use Rattle.avro_types.proofs.Renamed.{array_named, record_named, union_named}
 use Rattle.arrow_convert.proofs.ByParts.{EachType, each_by_parts}
 use Rattle.arrow_convert.proofs.SmallForms.{small_item, small_large, small_list, small_struct}
 

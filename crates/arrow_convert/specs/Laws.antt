@@ -1,12 +1,12 @@
 -- What two rewritings tell of each other.
 use Rattle.std.specs.Prelude.{◌≡◌, ◌⊎◌, ℕ, ◌^◌, ◌<◌, List, [], ◌∷◌, length, Some}
 use Rattle.arrow_core.specs.declared.error.Error.{Error}
-use Rattle.arrow_types.specs.declared.slot.Slot.{Slot}
+use Rattle.arrow_core.specs.declared.slot.Slot.{Slot}
 use Rattle.avro_schema.specs.declared.schema.Schema as schema
 use Rattle.avro_schema.specs.declared.schema.Record.{Record, out-Record}
-use Rattle.avro_blocks.specs.Changes.{CameFromOutside, Change, Failed}
+use Rattle.avro_container.specs.Changes.{CameFromOutside, Change, Failed}
 use Rattle.avro_container.specs.Laws.{AllSmall}
-use Rattle.avro_text.specs.Writing.{schema_text_of}
+use Rattle.avro_file.specs.Writing.{schema_text_of}
 use Rattle.avro_canonical.specs.Rewritten.{RewritesFile, RewritingFails, table_blocks}
 
 -- a file has one canonical form under a name and a marker, and one number of rows

@@ -4,15 +4,15 @@ use Rattle.std.specs.List.{AllByRecursion, list_all}
 use Rattle.std.specs.Io.KnownBytes.{Appends}
 use Rattle.std.specs.Str.{IsUtf8}
 use Rattle.arrow_core.specs.declared.error.Error.{Error}
-use Rattle.arrow_types.specs.declared.slot.Slot.{Slot}
-use Rattle.arrow_types.specs.declared.types.Field.{Field}
+use Rattle.arrow_core.specs.declared.slot.Slot.{Slot}
+use Rattle.arrow_core.specs.declared.types.Field.{Field}
 use Rattle.avro_schema.specs.declared.schema.Schema as schema
 use Rattle.avro_schema.specs.declared.schema.Record.{Record, out-Record}
-use Rattle.avro_grammar.specs.ValidBlock.{small_limit}
+use Rattle.avro_schema.specs.ValidBlock.{small_limit}
 use Rattle.avro_container.specs.File.{FileBlock}
-use Rattle.avro_blocks.specs.Changes.{Change, CameFromOutside, IsTold}
-use Rattle.avro_text.specs.Writable.{IsWritable}
-use Rattle.avro_text.specs.Writing.{schema_text_of}
+use Rattle.avro_container.specs.Changes.{Change, CameFromOutside, IsTold}
+use Rattle.avro_file.specs.Writable.{IsWritable}
+use Rattle.avro_file.specs.Writing.{schema_text_of}
 use Rattle.avro_file.specs.File.{AvroFile}
 use Rattle.avro_encode.specs.Plain.{parts_of}
 use Rattle.json_tree.specs.Meaning.{HoldsTooMany}

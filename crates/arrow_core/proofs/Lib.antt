@@ -1,2 +1,5 @@
+pub mod Beneath
+mod Ends
 pub mod EntryLaws
 pub mod EntryViews
+pub mod EqualTypes

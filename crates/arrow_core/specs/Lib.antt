@@ -1,5 +1,9 @@
 pub mod Entries
 pub mod EntryComparisons
 pub mod Errors
+pub mod Layouts
 pub mod Lent
+pub mod Moments
+pub mod Natives
+pub mod Numbers
 pub mod formers

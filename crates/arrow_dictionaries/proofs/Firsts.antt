@@ -10,9 +10,9 @@ use Rattle.arrow_array.specs.Dictionaries.{IsKeyInto, keys_slots, looked_up}
 use Rattle.arrow_array.specs.declared.keys.Keys.{Keys}
 use Rattle.arrow_array.specs.Slots.{is_held, slot_at}
 use Rattle.arrow_core.specs.declared.error.Error.{Error}
-use Rattle.arrow_types.specs.declared.slot.Slot.{Slot, Null, Boolean, Integer, String, Binary, List', Struct'}
-use Rattle.arrow_types.specs.declared.slot.Slot.TheVariants as slot
-use Rattle.arrow_types.specs.declared.types.IntegerType.{IntegerType}
+use Rattle.arrow_core.specs.declared.slot.Slot.{Slot, Null, Boolean, Integer, String, Binary, List', Struct'}
+use Rattle.arrow_core.specs.declared.slot.Slot.TheVariants as slot
+use Rattle.arrow_core.specs.declared.types.IntegerType.{IntegerType}
 use Rattle.arrow_dictionaries.specs.Encoding.{EncodesSlots, FirstSlots, none, null, again, new, HasTooLongStrings, HasTooManyDistinct, key_count, string_size}
 
 null_is_held : (s : Slot) → is_held s ≡ true → s ≡ slot.Null → ⊥

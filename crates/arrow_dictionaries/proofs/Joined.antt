@@ -5,9 +5,9 @@ use Rattle.arrow_array.specs.Dictionaries.{keys_slots, keys_type}
 use Rattle.arrow_array.specs.declared.keys.Keys.{Keys}
 use Rattle.arrow_core.specs.declared.error.Error.{Error}
 use Rattle.arrow_core.specs.declared.error.Error.TheVariants.{OutOfMemory}
-use Rattle.arrow_types.specs.declared.slot.Slot.{Slot}
-use Rattle.arrow_types.specs.declared.types.DataType.{DataType}
-use Rattle.arrow_types.specs.declared.types.IntegerType.{IntegerType}
+use Rattle.arrow_core.specs.declared.slot.Slot.{Slot}
+use Rattle.arrow_core.specs.declared.types.DataType.{DataType}
+use Rattle.arrow_core.specs.declared.types.IntegerType.{IntegerType}
 use Rattle.arrow_dictionaries.specs.Encoding.{EncodesSlots, HasTooLongStrings, HasTooManyDistinct, IsEncodingFault, string_size}
 use Rattle.arrow_dictionaries.proofs.Faults.{strings_fault, wider_fault}
 use Rattle.arrow_dictionaries.proofs.Firsts.{short_strings}

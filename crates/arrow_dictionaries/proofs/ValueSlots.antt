@@ -11,9 +11,9 @@ use Rattle.std.specs.Str.{bytes_eq}
 use Rattle.arrow_array.specs.Dictionaries.{IsKeyInto}
 use Rattle.arrow_core.specs.declared.error.Error.{Error}
 use Rattle.arrow_core.specs.declared.error.Error.TheVariants.{Overflow}
-use Rattle.arrow_types.specs.Numbers.{slot_of_numbers}
-use Rattle.arrow_types.specs.declared.slot.Slot.{Slot, Struct', items-the_row-Slot, items_hidden-the_row-Slot-0}
-use Rattle.arrow_types.specs.declared.slot.Slot.TheVariants as slot
+use Rattle.arrow_core.specs.Numbers.{slot_of_numbers}
+use Rattle.arrow_core.specs.declared.slot.Slot.{Slot, Struct', items-the_row-Slot, items_hidden-the_row-Slot-0}
+use Rattle.arrow_core.specs.declared.slot.Slot.TheVariants as slot
 use Rattle.arrow_dictionaries.specs.Encoding.{IsEncodingFault, string_size}
 use Rattle.arrow_dictionaries.specs.Indices.{index_key, string_slot}
 

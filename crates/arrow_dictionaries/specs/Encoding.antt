@@ -7,10 +7,10 @@ use Rattle.arrow_array.specs.Dictionaries.{IsKeyInto, looked_up}
 use Rattle.arrow_array.specs.Slots.{is_held}
 use Rattle.arrow_core.specs.declared.error.Error.{Error}
 use Rattle.arrow_core.specs.declared.error.Error.TheVariants.{OutOfMemory, Overflow}
-use Rattle.arrow_types.specs.declared.slot.Slot.{Slot}
-use Rattle.arrow_types.specs.declared.slot.Slot.TheVariants as slot
-use Rattle.arrow_types.specs.declared.types.IntegerType.{IntegerType}
-use Rattle.arrow_types.specs.declared.types.IntegerType.TheVariants as integer
+use Rattle.arrow_core.specs.declared.slot.Slot.{Slot}
+use Rattle.arrow_core.specs.declared.slot.Slot.TheVariants as slot
+use Rattle.arrow_core.specs.declared.types.IntegerType.{IntegerType}
+use Rattle.arrow_core.specs.declared.types.IntegerType.TheVariants as integer
 
 -- The distinct slots that aren't null, in order of first appearance. Of one slot more: a null adds nothing, nor does a slot that is there, and
 -- any other goes last.

@@ -2,7 +2,7 @@
 ghost use Rattle.std.specs.Prelude.{◌≡◌, ◌⊎◌, [], map, Ok, Err, IsOk, IfOk, IfErr, OnOk};
 ghost use Rattle.arrow_array.specs.Dictionaries.{keys_slots, keys_type};
 ghost use Rattle.arrow_array.specs.Parts.{utf8_type};
-ghost use Rattle.arrow_types.specs.Numbers.{greatest_offset};
+ghost use Rattle.arrow_core.specs.Numbers.{greatest_offset};
 ghost use Rattle.arrow_dictionaries.specs.Encoding.{EncodesSlots, HasTooLongStrings, HasTooManyDistinct, IsEncodingFault};
 ghost use Rattle.arrow_dictionaries.specs.Indices.{string_slot};
 
@@ -10,8 +10,7 @@ use crate::indices::{primitive_indices, string_indices};
 use crate::keys::keys_of;
 use crate::values::{primitive_values, string_values};
 use arrow_array::{Keys, PrimitiveArray, Utf8Array};
-use arrow_core::Result;
-use arrow_types::{IntegerType, NativeType, Offset};
+use arrow_core::{IntegerType, NativeType, Offset, Result};
 use first_seen::FirstSeen;
 use std::alloc::Global;
 use std::hash::Hash;

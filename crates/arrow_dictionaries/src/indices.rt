@@ -6,8 +6,7 @@ ghost use Rattle.arrow_dictionaries.specs.Encoding.{EncodesSlots};
 ghost use Rattle.arrow_dictionaries.specs.Indices.{IsStep, index_key, string_slot};
 
 use arrow_array::{PrimitiveArray, Utf8Array};
-use arrow_core::Result;
-use arrow_types::{NativeType, Offset};
+use arrow_core::{NativeType, Offset, Result};
 use first_seen::FirstSeen;
 use std::alloc::Global;
 use std::hash::Hash;

@@ -2,14 +2,13 @@
 ghost use Rattle.std.specs.Prelude.{◌≡◌, ◌<◌, ◌≤◌, ◌++◌, ◌∷◌, [], ℕ, pos, map, MatchOption, IfSome, OnOk, IfOk, IfErr};
 ghost use Rattle.std.specs.List.{All};
 ghost use Rattle.arrow_array.specs.Dictionaries.{IsKeyInto, keys_slots, keys_type};
-ghost use Rattle.arrow_types.specs.declared.slot.Slot.TheVariants.{Integer as IntegerSlot};
+ghost use Rattle.arrow_core.specs.declared.slot.Slot.TheVariants.{Integer as IntegerSlot};
 ghost use Rattle.arrow_dictionaries.specs.Encoding.{IsEncodingFault, key_count};
 ghost use Rattle.arrow_dictionaries.specs.Indices.{IsKeyFault, IsPast, index_key};
 
 use arrow_array::{Keys, PrimitiveArray};
-use arrow_core::{Error, Result};
+use arrow_core::{Error, IntegerType, NativeType, Result};
 use arrow_flat::{Container, MutablePrimitiveArray};
-use arrow_types::{IntegerType, NativeType};
 use std::alloc::Global;
 
 /// A key of a dictionary.

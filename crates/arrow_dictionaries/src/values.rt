@@ -2,15 +2,14 @@
 ghost use Rattle.std.specs.Prelude.{◌≡◌, ◌+◌, ◌<◌, ◌≤◌, ◌++◌, ◌∷◌, [], length, map, sum_by, OnOk, IfOk, IfErr};
 ghost use Rattle.arrow_array.specs.Parts.{IsPlain, utf8_type};
 ghost use Rattle.arrow_core.specs.Errors.{OnlyOutOfMemory};
-ghost use Rattle.arrow_types.specs.Numbers.{greatest_offset};
-ghost use Rattle.arrow_types.specs.declared.slot.Slot.TheVariants.{String as StringSlot};
+ghost use Rattle.arrow_core.specs.Numbers.{greatest_offset};
+ghost use Rattle.arrow_core.specs.declared.slot.Slot.TheVariants.{String as StringSlot};
 ghost use Rattle.arrow_dictionaries.specs.Encoding.{IsEncodingFault, string_size};
 ghost use Rattle.arrow_dictionaries.specs.Indices.{string_slot};
 
 use arrow_array::{PrimitiveArray, Utf8Array};
-use arrow_core::Result;
+use arrow_core::{DataType, NativeType, Offset, Result};
 use arrow_flat::{Container, MutablePrimitiveArray, MutableUtf8Array};
-use arrow_types::{DataType, NativeType, Offset};
 use std::alloc::Global;
 
 /// The array of these values, of this type.

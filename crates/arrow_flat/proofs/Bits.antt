@@ -8,7 +8,7 @@ use Rattle.std.proofs.lemmas.Bool.{cases_eq}
 use Rattle.std.proofs.lemmas.Nat.Bits.{bit_at_set_same, bit_at_set_other}
 use Rattle.std.proofs.lemmas.List.{get_or_read, set-get_or}
 use Rattle.std.proofs.lemmas.List.FromFn.{length-map-range_with_len, map-range_with_len_more}
-use Rattle.arrow_bitmap.specs.Bits.{bit_of, boolean_of, booleans_of}
+use Rattle.arrow_array.specs.Bits.{bit_of, boolean_of, booleans_of}
 use Rattle.arrow_flat.specs.Bits.{HoldBits, CountsDown}
 
 abbrev with_bit : List ℕ → ℕ → ℕ → Bool → List ℕ

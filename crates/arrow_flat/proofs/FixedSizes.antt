@@ -4,9 +4,9 @@ use Rattle.std.proofs.Math.Nat.{mul-mod_left, mul-div_cancel, mul-le-mul_right}
 use Rattle.std.proofs.lemmas.List.{length_push, length-drop, take-append-le, drop-append-le, take_all, drop_at}
 use Rattle.arrow_core.specs.declared.error.Error.{Error}
 use Rattle.arrow_core.specs.declared.error.Error.TheVariants.{OutOfMemory}
-use Rattle.arrow_types.specs.declared.slot.Slot.TheVariants as slot
-use Rattle.arrow_types.specs.declared.types.DataType.TheVariants as types
-use Rattle.arrow_bitmap.specs.Bits.{Packed}
+use Rattle.arrow_core.specs.declared.slot.Slot.TheVariants as slot
+use Rattle.arrow_core.specs.declared.types.DataType.TheVariants as types
+use Rattle.arrow_array.specs.Bits.{Packed}
 use Rattle.arrow_array.specs.Slots.{slots_of, fixed_at}
 use Rattle.arrow_array.specs.Parts.{FixedSizeBinaryFits, IsRefusalOf}
 use Rattle.arrow_flat.specs.Bits.{mask_of}

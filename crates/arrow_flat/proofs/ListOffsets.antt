@@ -3,9 +3,9 @@ use Rattle.std.proofs.Common.{◌≡◌, ap, ◌∙◌, sym, Bool, ℕ, zero, su
 use Rattle.std.specs.Option.{is_some}
 use Rattle.std.proofs.Math.Seq.{drop-cons}
 use Rattle.std.proofs.lemmas.List.{length-map, get_or-map, map-append, length-drop, take_all}
-use Rattle.arrow_types.specs.Numbers.{greatest_offset}
-use Rattle.arrow_types.specs.declared.slot.Slot.{Slot}
-use Rattle.arrow_types.specs.declared.slot.Slot.TheVariants as slot
+use Rattle.arrow_core.specs.Numbers.{greatest_offset}
+use Rattle.arrow_core.specs.declared.slot.Slot.{Slot}
+use Rattle.arrow_core.specs.declared.slot.Slot.TheVariants as slot
 use Rattle.arrow_array.specs.Offsets.{AreRising, IsNotAbove, IsOffsets, IsWithin, offset_at}
 use Rattle.arrow_array.specs.Slots.{slot_at}
 use Rattle.arrow_flat.specs.Nested.{list_len, items_of, slots_from, list_slot, lists_from, ends_from, offsets_of, lens_of, HoldLists}

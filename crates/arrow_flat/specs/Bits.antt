@@ -1,7 +1,7 @@
 -- A bitmap that grows: its words, and how many bits they hold. Of what is here only mask_of has
 -- to be read to believe a public contract; private contracts and models alone cite the rest.
 use Rattle.std.specs.Prelude.{ℕ, ◌*◌, ◌+◌, ◌^◌, ◌<◌, ◌≤◌, ◌≡◌, Bool, true, List, [], length, min, replicate, Option, None, Some}
-use Rattle.arrow_bitmap.specs.Bits.{Packed, bit_of}
+use Rattle.arrow_array.specs.Bits.{Packed, bit_of}
 
 -- The words are as many as n bits take, and no bit past the last is set.
 pub record HoldBits (words : List ℕ) (n : ℕ) : Type 0 where

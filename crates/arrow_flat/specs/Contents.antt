@@ -1,7 +1,7 @@
 -- The buffers of a builder of slots of variable length (Arrow columnar format, "Variable-size Binary Layout"). The model
 -- of such a builder cites them; of what is here only content_len has to be read to believe a public contract.
 use Rattle.std.specs.Prelude.{◌≡◌, ℕ, ◌+◌, ◌<◌, ℤ, pos, Option, None, Some, List, length}
-use Rattle.arrow_types.specs.declared.slot.Slot.{Slot}
+use Rattle.arrow_core.specs.declared.slot.Slot.{Slot}
 use Rattle.arrow_array.specs.Offsets.{offset_at, part, IsOffsets}
 
 -- n slots lie one after another in the bytes: the first offset is 0, the last is the end of the bytes, and each slot has bytes that it may have

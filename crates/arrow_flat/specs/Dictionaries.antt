@@ -1,12 +1,12 @@
 -- What contracts see of a builder of a dictionary (Arrow columnar format, "Dictionary-encoded Layout").
 use Rattle.std.specs.Prelude.{◌≡◌, ℕ, false, List, [], length, refl}
 use Rattle.std.specs.Coded.{Coded, code_by, coded×, coded_list, coded_ℕ}
-use Rattle.arrow_types.specs.declared.slot.Slot.{Slot}
-use Rattle.arrow_types.specs.declared.types.DataType.{DataType}
-use Rattle.arrow_types.specs.declared.types.DataType.TheVariants as types
-use Rattle.arrow_types.specs.declared.types.IntegerType.TheVariants as integer
-use Rattle.arrow_types.specs.contracts.types.DataType as the_types
-use Rattle.arrow_types.specs.contracts.slot.Slot as the_slots
+use Rattle.arrow_core.specs.declared.slot.Slot.{Slot}
+use Rattle.arrow_core.specs.declared.types.DataType.{DataType}
+use Rattle.arrow_core.specs.declared.types.DataType.TheVariants as types
+use Rattle.arrow_core.specs.declared.types.IntegerType.TheVariants as integer
+use Rattle.arrow_core.specs.contracts.types.DataType as the_types
+use Rattle.arrow_core.specs.contracts.slot.Slot as the_slots
 use Rattle.arrow_flat.specs.Builders.{no_limit}
 use Rattle.arrow_flat.specs.Nodes.{Node}
 

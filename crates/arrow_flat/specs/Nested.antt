@@ -2,11 +2,11 @@
 use Rattle.std.specs.Prelude.{◌≡◌, ℕ, zero, suc, ◌+◌, ◌-◌, ◌*◌, ◌≤◌, ℤ, pos, Bool, true, false, Option, Some, None, is_some, List, [], ◌∷◌, length, map, refl}
 use Rattle.std.specs.Coded.{Coded, code_by, coded×, coded_list, coded_ℕ, coded_bool, coded_option}
 use Rattle.std.specs.List.{range_with_len}
-use Rattle.arrow_types.specs.declared.slot.Slot.{Slot}
-use Rattle.arrow_types.specs.declared.slot.Slot.TheVariants as slot
-use Rattle.arrow_types.specs.declared.types.DataType.{DataType}
-use Rattle.arrow_types.specs.contracts.types.DataType as the_types
-use Rattle.arrow_types.specs.Numbers.{greatest_offset}
+use Rattle.arrow_core.specs.declared.slot.Slot.{Slot}
+use Rattle.arrow_core.specs.declared.slot.Slot.TheVariants as slot
+use Rattle.arrow_core.specs.declared.types.DataType.{DataType}
+use Rattle.arrow_core.specs.contracts.types.DataType as the_types
+use Rattle.arrow_core.specs.Numbers.{greatest_offset}
 use Rattle.arrow_array.specs.Slots.{slot_at}
 use Rattle.arrow_flat.specs.Builders.{no_limit}
 use Rattle.arrow_flat.specs.Nodes.{Node}

@@ -5,8 +5,8 @@ ghost use Rattle.std.specs.Prelude.{Err, IsOk, IfOk, IfErr, OnOk, OnErr};
 ghost use Rattle.std.specs.Option.{option_copied};
 ghost use Rattle.arrow_core.specs.Errors.{OnlyOutOfMemory};
 ghost use Rattle.arrow_core.specs.declared.error.Error.TheVariants.{OutOfMemory, Overflow};
-ghost use Rattle.arrow_types.specs.Numbers.{greatest_offset};
-ghost use Rattle.arrow_types.specs.declared.slot.Slot.TheVariants.{Binary as BinarySlot};
+ghost use Rattle.arrow_core.specs.Numbers.{greatest_offset};
+ghost use Rattle.arrow_core.specs.declared.slot.Slot.TheVariants.{Binary as BinarySlot};
 ghost use Rattle.arrow_flat.specs.Builders.{content_node, optional_slot};
 ghost use Rattle.arrow_flat.specs.Contents.{content_len};
 ghost use Rattle.arrow_flat.specs.Nodes.{KeepsCapacity};
@@ -15,8 +15,7 @@ ghost use Rattle.arrow_flat.specs.Normalized.{AreNormalized};
 use crate::bitmap::MutableBitmap;
 use crate::content::{Content, MutableContentArray, first_offset};
 use arrow_array::BinaryArray;
-use arrow_core::Result;
-use arrow_types::{DataType, Offset};
+use arrow_core::{DataType, Offset, Result};
 use std::mem;
 
 /// Binary values: the bytes of each slot are any.
@@ -24,7 +23,7 @@ use std::mem;
 pub struct BinaryValues;
 
 impl Content for BinaryValues {
-    ghost use Rattle.arrow_types.specs.declared.slot.Slot.TheVariants.{Binary as BinarySlot};
+    ghost use Rattle.arrow_core.specs.declared.slot.Slot.TheVariants.{Binary as BinarySlot};
     ghost use Rattle.arrow_array.specs.Parts.{binary_type};
 
     ghost holds = { λ _. Unit {0} };

@@ -1,10 +1,10 @@
 //! A bitmap that grows.
 
 ghost use Rattle.std.specs.Prelude.{◌≡◌, ◌≢◌, ℕ, ◌+◌, ◌*◌, ◌<◌, ◌≤◌, ◌++◌, ◌∷◌, [], length, vec_len, vec_capacity, MatchBool, IsOk, IfOk, OnOk, OnErr};
-ghost use Rattle.arrow_bitmap.specs.Bits.{bit_of, boolean_of};
+ghost use Rattle.arrow_array.specs.Bits.{bit_of, boolean_of};
 ghost use Rattle.arrow_core.specs.Errors.{OnlyOutOfMemory};
 
-use arrow_bitmap::Bitmap;
+use arrow_array::Bitmap;
 use arrow_core::Result;
 use std::alloc::{AllocError, Global};
 use std::marker::Model;
@@ -23,7 +23,7 @@ impl Model for MutableBitmap {
     ghost use Rattle.std.specs.Prelude.{Bool, ◌-◌, vec_capacity};
     ghost use Rattle.std.specs.Coded.{coded_bool};
     ghost use Rattle.arrow_flat.specs.Capacity.{Growing, growing_code};
-    ghost use Rattle.arrow_bitmap.specs.Bits.{booleans_of};
+    ghost use Rattle.arrow_array.specs.Bits.{booleans_of};
     ghost use Rattle.arrow_flat.specs.Bits.{bit_capacity, HoldBits};
 
     ghost Value = { Growing Bool };

@@ -3,8 +3,8 @@
 ghost use Rattle.std.specs.Prelude.{◌≡◌, ◌+◌, ◌≤◌, ◌++◌, ◌∷◌, [], length, if◌then◌else◌, IsOk, IfOk, OnOk, OnErr};
 ghost use Rattle.arrow_core.specs.Errors.{OnlyOutOfMemory};
 ghost use Rattle.arrow_core.specs.declared.error.Error.TheVariants.{OutOfMemory};
-ghost use Rattle.arrow_types.specs.declared.slot.Slot.TheVariants.{Null as NullSlot, Boolean as BooleanSlot};
-ghost use Rattle.arrow_types.specs.declared.types.DataType.TheVariants.{Boolean};
+ghost use Rattle.arrow_core.specs.declared.slot.Slot.TheVariants.{Null as NullSlot, Boolean as BooleanSlot};
+ghost use Rattle.arrow_core.specs.declared.types.DataType.TheVariants.{Boolean};
 ghost use Rattle.arrow_flat.specs.Bits.{Tells};
 ghost use Rattle.arrow_flat.specs.Builders.{plain_node, optional_slot};
 ghost use Rattle.arrow_flat.specs.Nodes.{KeepsCapacity, NoLessSpare, Emptied, HasSpare};
@@ -14,8 +14,7 @@ use crate::container::Container;
 use crate::lengths::NodeLengths;
 use crate::validity::MutableValidity;
 use arrow_array::{Bitmap, BooleanArray};
-use arrow_core::Result;
-use arrow_types::DataType;
+use arrow_core::{DataType, Result};
 use std::alloc::Global;
 use std::marker::Model;
 use std::mem;
@@ -38,7 +37,7 @@ impl Model for MutableBooleanArray {
 
     ghost coded = { plain_builder_code };
 
-    ghost use Rattle.arrow_types.specs.declared.types.DataType.TheVariants.{Boolean};
+    ghost use Rattle.arrow_core.specs.declared.types.DataType.TheVariants.{Boolean};
     ghost use Rattle.arrow_array.specs.Slots.{boolean_at};
 
     ghost view = { λ b. record {
@@ -52,7 +51,7 @@ impl Model for MutableBooleanArray {
 }
 
 impl Container for MutableBooleanArray {
-    ghost use Rattle.arrow_types.specs.declared.types.DataType.TheVariants.{Boolean};
+    ghost use Rattle.arrow_core.specs.declared.types.DataType.TheVariants.{Boolean};
     ghost use Rattle.arrow_flat.specs.Builders.{IsNewPlain};
 
     ghost is_new = { IsNewPlain Boolean };

@@ -4,23 +4,22 @@ ghost use Rattle.std.specs.Prelude.{◌≡◌, ◌+◌, ◌<◌, ◌≤◌, ◌+
 ghost use Rattle.std.specs.Prelude.{length, map, pos, vec_len, vec_capacity, if◌then◌else◌, Err, IsOk, IfOk, IfErr, OnOk, OnErr};
 ghost use Rattle.arrow_core.specs.Errors.{OnlyOutOfMemory};
 ghost use Rattle.arrow_core.specs.declared.error.Error.TheVariants.{OutOfMemory, Overflow};
-ghost use Rattle.arrow_types.specs.Numbers.{greatest_offset};
-ghost use Rattle.arrow_types.specs.declared.slot.Slot.{Slot};
-ghost use Rattle.arrow_types.specs.declared.slot.Slot.TheVariants.{Null as NullSlot};
+ghost use Rattle.arrow_core.specs.Numbers.{greatest_offset};
+ghost use Rattle.arrow_core.specs.declared.slot.Slot.{Slot};
+ghost use Rattle.arrow_core.specs.declared.slot.Slot.TheVariants.{Null as NullSlot};
 ghost use Rattle.arrow_flat.specs.Builders.{content_node};
 ghost use Rattle.arrow_flat.specs.Nodes.{KeepsCapacity, NoLessSpare, Emptied, HasSpare};
 
 use crate::bitmap::MutableBitmap;
 use crate::container::Container;
 use crate::lengths::NodeLengths;
-use arrow_core::{Error, Result};
-use arrow_types::{DataType, Offset};
+use arrow_core::{DataType, Error, Offset, Result};
 use std::alloc::{AllocError, Global};
 use std::marker::{Model, PhantomData};
 
 /// What the slots of a builder of variable length are.
 pub trait Content: Sized {
-    ghost use Rattle.arrow_types.specs.declared.types.DataType.{DataType};
+    ghost use Rattle.arrow_core.specs.declared.types.DataType.{DataType};
 
     // the bytes that a slot may have
     ghost holds: { List ℕ → Type 0 };
@@ -60,7 +59,7 @@ impl<C: Content, O: Offset> Model for MutableContentArray<C, O> {
 
     ghost coded = { content_builder_code };
 
-    ghost use Rattle.arrow_types.specs.Numbers.{greatest_offset};
+    ghost use Rattle.arrow_core.specs.Numbers.{greatest_offset};
     ghost use Rattle.arrow_flat.specs.Contents.{HoldContents, content_at};
 
     ghost view = { λ b. record {

@@ -3,7 +3,7 @@
 ghost use Rattle.std.specs.Prelude.{◌≡◌, ◌≤◌, ◌++◌, ◌∷◌, [], length, IsOk, IfOk, OnOk, OnErr};
 ghost use Rattle.arrow_core.specs.Errors.{OnlyOutOfMemory};
 ghost use Rattle.arrow_core.specs.declared.error.Error.TheVariants.{OutOfMemory};
-ghost use Rattle.arrow_types.specs.declared.slot.Slot.TheVariants.{Null as NullSlot, Integer as IntegerSlot};
+ghost use Rattle.arrow_core.specs.declared.slot.Slot.TheVariants.{Null as NullSlot, Integer as IntegerSlot};
 ghost use Rattle.arrow_array.specs.Dictionaries.{IsKeyInto, looked_up};
 ghost use Rattle.arrow_flat.specs.Dictionaries.{IsNewDictionary, dictionary_node, utf8_dictionary_type};
 ghost use Rattle.arrow_flat.specs.Nodes.{KeepsCapacity, NoLessSpare, Emptied, HasSpare};
@@ -12,8 +12,7 @@ use crate::container::Container;
 use crate::lengths::NodeLengths;
 use crate::primitive::MutablePrimitiveArray;
 use arrow_array::{Array, DictionaryArray, Keys, Utf8Array};
-use arrow_core::{Box, Result};
-use arrow_types::{DataType, IntegerType};
+use arrow_core::{Box, DataType, IntegerType, Result};
 use std::alloc::Global;
 use std::marker::Model;
 
@@ -29,7 +28,7 @@ pub struct FixedItemsUtf8Dictionary {
 
 impl Model for FixedItemsUtf8Dictionary {
     ghost use Rattle.std.specs.Prelude.{◌≡◌, ◌<◌, ℕ, length, map};
-    ghost use Rattle.arrow_types.specs.declared.types.DataType.TheVariants.{Int32 as Int32Type};
+    ghost use Rattle.arrow_core.specs.declared.types.DataType.TheVariants.{Int32 as Int32Type};
     ghost use Rattle.arrow_array.specs.Dictionaries.{IsKeyInto, looked_up};
     ghost use Rattle.arrow_array.specs.Slots.{slot_at};
     ghost use Rattle.arrow_flat.specs.Dictionaries.{DictionaryBuilder, dictionary_builder_code, utf8_dictionary_type};

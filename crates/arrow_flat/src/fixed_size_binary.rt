@@ -4,8 +4,8 @@ ghost use Rattle.std.specs.Prelude.{◌≡◌, ◌+◌, ◌*◌, ◌≤◌, ◌+
 ghost use Rattle.std.specs.Option.{option_copied};
 ghost use Rattle.arrow_core.specs.Errors.{OnlyOutOfMemory};
 ghost use Rattle.arrow_core.specs.declared.error.Error.TheVariants.{OutOfMemory};
-ghost use Rattle.arrow_types.specs.declared.slot.Slot.TheVariants.{Null as NullSlot, Binary as BinarySlot};
-ghost use Rattle.arrow_types.specs.declared.types.DataType.TheVariants.{FixedSizeBinary};
+ghost use Rattle.arrow_core.specs.declared.slot.Slot.TheVariants.{Null as NullSlot, Binary as BinarySlot};
+ghost use Rattle.arrow_core.specs.declared.types.DataType.TheVariants.{FixedSizeBinary};
 ghost use Rattle.arrow_array.specs.Parts.{byte_width};
 ghost use Rattle.arrow_flat.specs.Builders.{IsNewContent, content_node, optional_slot};
 ghost use Rattle.arrow_flat.specs.Nodes.{KeepsCapacity, NoLessSpare, Emptied, HasSpare};
@@ -13,8 +13,7 @@ ghost use Rattle.arrow_flat.specs.Nodes.{KeepsCapacity, NoLessSpare, Emptied, Ha
 use crate::bitmap::MutableBitmap;
 use crate::lengths::NodeLengths;
 use arrow_array::FixedSizeBinaryArray;
-use arrow_core::{Error, Result};
-use arrow_types::DataType;
+use arrow_core::{DataType, Error, Result};
 use std::alloc::Global;
 use std::marker::Model;
 use std::mem;
@@ -34,7 +33,7 @@ pub struct MutableFixedSizeBinaryArray {
 
 impl Model for MutableFixedSizeBinaryArray {
     ghost use Rattle.std.specs.Prelude.{◌≡◌, ◌-◌, ◌*◌, ◌<◌, length, vec_capacity};
-    ghost use Rattle.arrow_types.specs.declared.types.DataType.TheVariants.{FixedSizeBinary};
+    ghost use Rattle.arrow_core.specs.declared.types.DataType.TheVariants.{FixedSizeBinary};
     ghost use Rattle.arrow_array.specs.Slots.{fixed_at};
     ghost use Rattle.arrow_flat.specs.Builders.{ContentBuilder, content_builder_code, slots_where};
 

@@ -3,7 +3,7 @@
 ghost use Rattle.std.specs.Prelude.{◌≡◌, ◌+◌, ◌-◌, ◌<◌, ◌≤◌, ◌⊎◌, ◌↔◌, ◌++◌, ◌∷◌, [], None, Some, is_some, length, map, Err, IsOk, IfOk, IfErr, OnOk, OnErr};
 ghost use Rattle.arrow_core.specs.Errors.{OnlyOutOfMemory};
 ghost use Rattle.arrow_core.specs.declared.error.Error.TheVariants.{OutOfMemory, Overflow};
-ghost use Rattle.arrow_types.specs.Numbers.{greatest_offset};
+ghost use Rattle.arrow_core.specs.Numbers.{greatest_offset};
 ghost use Rattle.arrow_array.specs.Offsets.{AreRising};
 ghost use Rattle.arrow_flat.specs.Nested.{items_of, lists_node, offsets_of};
 ghost use Rattle.arrow_flat.specs.Nodes.{KeepsCapacity, NoLessSpare, Emptied, HasSpare};
@@ -11,9 +11,8 @@ ghost use Rattle.arrow_flat.specs.Nodes.{KeepsCapacity, NoLessSpare, Emptied, Ha
 use crate::content::first_offset;
 use crate::lengths::NodeLengths;
 use crate::marks::MutableMarks;
-use arrow_bitmap::Bitmap;
-use arrow_core::{Error, Result};
-use arrow_types::{DataType, Offset};
+use arrow_array::Bitmap;
+use arrow_core::{DataType, Error, Offset, Result};
 use std::alloc::Global;
 use std::marker::Model;
 use std::mem;

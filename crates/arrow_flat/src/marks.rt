@@ -8,9 +8,8 @@ ghost use Rattle.arrow_flat.specs.Nodes.{KeepsCapacity, NoLessSpare, Emptied, Ha
 
 use crate::bitmap::MutableBitmap;
 use crate::lengths::NodeLengths;
-use arrow_bitmap::Bitmap;
-use arrow_core::Result;
-use arrow_types::DataType;
+use arrow_array::Bitmap;
+use arrow_core::{DataType, Result};
 use std::alloc::Global;
 use std::marker::Model;
 use std::mem;

@@ -3,15 +3,14 @@
 ghost use Rattle.std.specs.Prelude.{◌≡◌, ◌≤◌, ◌++◌, ◌∷◌, [], length, IsOk, IfOk, OnOk, OnErr};
 ghost use Rattle.arrow_core.specs.Errors.{OnlyOutOfMemory};
 ghost use Rattle.arrow_core.specs.declared.error.Error.TheVariants.{OutOfMemory};
-ghost use Rattle.arrow_types.specs.declared.slot.Slot.TheVariants.{Null as NullSlot};
-ghost use Rattle.arrow_types.specs.declared.types.DataType.TheVariants.{Null};
+ghost use Rattle.arrow_core.specs.declared.slot.Slot.TheVariants.{Null as NullSlot};
+ghost use Rattle.arrow_core.specs.declared.types.DataType.TheVariants.{Null};
 ghost use Rattle.arrow_flat.specs.Builders.{IsNewPlain, plain_node};
 ghost use Rattle.arrow_flat.specs.Nodes.{KeepsCapacity, NoLessSpare, Emptied, HasSpare};
 
 use crate::lengths::NodeLengths;
 use arrow_array::NullArray;
-use arrow_core::{Error, Result};
-use arrow_types::DataType;
+use arrow_core::{DataType, Error, Result};
 use std::alloc::Global;
 use std::marker::Model;
 
@@ -27,7 +26,7 @@ pub struct MutableNullArray {
 
 impl Model for MutableNullArray {
     ghost use Rattle.std.specs.Prelude.{◌≡◌, ◌-◌, None};
-    ghost use Rattle.arrow_types.specs.declared.types.DataType.TheVariants.{Null};
+    ghost use Rattle.arrow_core.specs.declared.types.DataType.TheVariants.{Null};
     ghost use Rattle.arrow_array.specs.Slots.{slots_of, null_at};
     ghost use Rattle.arrow_flat.specs.Builders.{PlainBuilder, plain_builder_code};
 

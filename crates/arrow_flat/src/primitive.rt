@@ -3,7 +3,7 @@
 ghost use Rattle.std.specs.Prelude.{◌≡◌, ◌+◌, ◌≤◌, ◌++◌, ◌∷◌, [], length, if◌then◌else◌, IsOk, IfOk, OnOk, OnErr};
 ghost use Rattle.arrow_core.specs.Errors.{OnlyOutOfMemory};
 ghost use Rattle.arrow_core.specs.declared.error.Error.TheVariants.{OutOfMemory};
-ghost use Rattle.arrow_types.specs.declared.slot.Slot.TheVariants.{Null as NullSlot};
+ghost use Rattle.arrow_core.specs.declared.slot.Slot.TheVariants.{Null as NullSlot};
 ghost use Rattle.arrow_array.specs.Parts.{IsPlain};
 ghost use Rattle.arrow_flat.specs.Builders.{plain_node, plain_type, optional_slot};
 ghost use Rattle.arrow_flat.specs.Nodes.{KeepsCapacity, NoLessSpare, Emptied, HasSpare};
@@ -12,8 +12,7 @@ use crate::container::Container;
 use crate::lengths::NodeLengths;
 use crate::validity::MutableValidity;
 use arrow_array::PrimitiveArray;
-use arrow_core::Result;
-use arrow_types::{DataType, IntervalUnit, NativeType, PrimitiveType};
+use arrow_core::{DataType, IntervalUnit, NativeType, PrimitiveType, Result};
 use std::alloc::Global;
 use std::marker::Model;
 use std::mem;

@@ -5,7 +5,7 @@ ghost use Rattle.arrow_flat.specs.Bits.{Tells};
 ghost use Rattle.arrow_core.specs.Errors.{OnlyOutOfMemory};
 
 use crate::bitmap::MutableBitmap;
-use arrow_bitmap::Bitmap;
+use arrow_array::Bitmap;
 use arrow_core::Result;
 use std::alloc::{AllocError, Global};
 use std::marker::Model;

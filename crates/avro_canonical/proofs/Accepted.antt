@@ -3,27 +3,27 @@ use Rattle.std.proofs.Common.{◌≡◌, ◌∙◌, ℕ, zero, suc, ◌+◌, ◌
 use Rattle.std.specs.List.{AllByRecursion, AllZip, list_any, range_with_len}
 use Rattle.std.proofs.lemmas.Option.{same_Some}
 use Rattle.std.proofs.lemmas.List.Elements.{All-tail}
-use Rattle.arrow_types.specs.declared.slot.Slot.{Slot}
-use Rattle.arrow_types.specs.declared.slot.Slot.TheVariants as slot
-use Rattle.arrow_types.specs.declared.types.Field.{Field}
-use Rattle.arrow_types.specs.declared.types.DataType.{DataType}
+use Rattle.arrow_core.specs.declared.slot.Slot.{Slot}
+use Rattle.arrow_core.specs.declared.slot.Slot.TheVariants as slot
+use Rattle.arrow_core.specs.declared.types.Field.{Field}
+use Rattle.arrow_core.specs.declared.types.DataType.{DataType}
 use Rattle.arrow_array.specs.declared.array.Array.{Array}
 use Rattle.arrow_array.specs.Arrays.{array_slots, array_type}
 use Rattle.avro_schema.specs.declared.schema.AvroField.{AvroField}
 use Rattle.avro_schema.specs.declared.schema.Schema.{Schema}
-use Rattle.avro_grammar.specs.AndThen.{◌>>=◌}
-use Rattle.avro_grammar.specs.Carried.{Carried, CarriedList}
-use Rattle.avro_grammar.specs.Encodes.{Encodes}
-use Rattle.avro_grammar.specs.Inferred.{column_field, columns_of, inferred, own_doc}
-use Rattle.avro_grammar.specs.Parts.{Many}
-use Rattle.avro_grammar.specs.Rows.{Pieces, Row, Rows, column}
-use Rattle.avro_grammar.specs.Types.{is_union}
-use Rattle.avro_grammar.specs.ValidBlock.{HasFloat, KeepNoFloat}
-use Rattle.avro_grammar.proofs.Basics.{bind_some}
+use Rattle.avro_schema.specs.AndThen.{◌>>=◌}
+use Rattle.avro_schema.specs.Carried.{Carried, CarriedList}
+use Rattle.avro_schema.specs.Encodes.{Encodes}
+use Rattle.avro_schema.specs.Inferred.{column_field, columns_of, inferred, own_doc}
+use Rattle.avro_schema.specs.Parts.{Many}
+use Rattle.avro_schema.specs.Rows.{Pieces, Row, Rows, column}
+use Rattle.avro_schema.specs.Types.{is_union}
+use Rattle.avro_schema.specs.ValidBlock.{HasFloat, KeepNoFloat}
+use Rattle.avro_schema.proofs.Basics.{bind_some}
 use Rattle.avro_encode.specs.PairTypes.{PairsType}
-use Rattle.avro_record.specs.Listed.{named_all}
-use Rattle.avro_record.specs.Named.{named, nameless_in}
-use Rattle.avro_record.specs.Schemas.{can_serialize, column_schema, columns_fields, optional, plain_field, schema_of, structs_in}
+use Rattle.avro_types.specs.Listed.{named_all}
+use Rattle.avro_types.specs.Named.{named, nameless_in}
+use Rattle.avro_types.specs.Schemas.{can_serialize, column_schema, columns_fields, optional, plain_field, schema_of, structs_in}
 use Rattle.avro_write.specs.declared.flaws.Flaw.{Flaw}
 use Rattle.avro_write.specs.declared.flaws.Flaw.TheVariants as flaw
 use Rattle.avro_write.specs.Flaws.{shows}

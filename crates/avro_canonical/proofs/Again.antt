@@ -7,12 +7,12 @@ use Rattle.std.proofs.lemmas.Bool.{and_parts, false≢true, cases_lt, lt-ltb, le
 use Rattle.std.proofs.lemmas.Bool.Decides.{Decides-int_eq, nat_tests}
 use Rattle.std.proofs.lemmas.Int.{ints}
 use Rattle.std.proofs.lemmas.Option.{none-some, same_Some}
-use Rattle.arrow_types.specs.declared.slot.Slot.{Slot}
-use Rattle.arrow_types.specs.declared.slot.Slot.TheVariants as slot
-use Rattle.arrow_types.specs.declared.types.Field.{Field}
-use Rattle.arrow_types.specs.declared.types.DataType.{DataType}
-use Rattle.arrow_types.specs.declared.types.DataType.TheVariants as types
-use Rattle.arrow_types.specs.declared.types.DataType.TheBlock.{shape-the_row-DataType-2, hidden-the_row-DataType-2}
+use Rattle.arrow_core.specs.declared.slot.Slot.{Slot}
+use Rattle.arrow_core.specs.declared.slot.Slot.TheVariants as slot
+use Rattle.arrow_core.specs.declared.types.Field.{Field}
+use Rattle.arrow_core.specs.declared.types.DataType.{DataType}
+use Rattle.arrow_core.specs.declared.types.DataType.TheVariants as types
+use Rattle.arrow_core.specs.declared.types.DataType.TheBlock.{shape-the_row-DataType-2, hidden-the_row-DataType-2}
 use Rattle.arrow_array.specs.Slots.{is_held}
 use Rattle.avro_schema.specs.declared.schema.AvroField.{AvroField}
 use Rattle.avro_schema.specs.declared.schema.BytesLogical.{BytesLogical}
@@ -25,19 +25,19 @@ use Rattle.avro_schema.specs.declared.schema.LongLogical.{LongLogical}
 use Rattle.avro_schema.specs.declared.schema.LongLogical.TheVariants as long_logical
 use Rattle.avro_schema.specs.declared.schema.Record.{Record as TheRecord, Record', out-Record, out-roll-Record, Row_of-AvroField, end_of-AvroField, more_of-AvroField}
 use Rattle.avro_schema.specs.declared.schema.Schema.{Schema, Null, Boolean, Int, Long, Float, Double, Bytes, String, Record, Enum, Array, Union, Array', Map', Union', Fixed, Row_of-Schema, end_of-Schema, more_of-Schema}
-use Rattle.avro_grammar.specs.AndThen.{◌>>=◌}
-use Rattle.avro_grammar.specs.Carried.{Carried, CarriedFields, CarriedItem, CarriedRecord, CarriedUnion, HasFields, IsFixedSize, IsNoUnion}
-use Rattle.avro_grammar.specs.Encodes.{Encodes, EncodesFields, EncodesFixed, EncodesBytes, EncodesItem, EncodesMember, EncodesRecord, IsInt, IsNull, duration, is_null, little_endian, signed_32}
-use Rattle.avro_grammar.specs.Inferred.{bytes_type, column_field, inferred, inferred_fields, inferred_item, inferred_member, inferred_record, is_item, item_name}
-use Rattle.avro_grammar.specs.Parts.{BlockOf, Blocks, Many, last, block}
-use Rattle.avro_grammar.specs.Types.{fixed_type, int_type, is_union, long_type, symbol_type}
-use Rattle.avro_grammar.specs.ValidBlock.{AnyHasPart, FieldHasPart, HasFloat, IsFloat, RecordHasPart}
-use Rattle.avro_grammar.proofs.Basics.{bind_some, null_is, null_told}
-use Rattle.avro_record.specs.Listed.{can_serialize_all, named_all}
-use Rattle.avro_record.specs.Named.{named, named_record, nameless_in}
-use Rattle.avro_record.specs.Schemas.{can_serialize, column_schema, columns_fields, nameless_fixed, optional, plain_field, plain_record, record_name, schema_of, structs_in}
-use Rattle.avro_record.proofs.ByFields.{list_schema, list_serializable, struct_schema_is, struct_serializable}
-use Rattle.avro_record.proofs.Renamed.{array_named, record_named, union_named}
+use Rattle.avro_schema.specs.AndThen.{◌>>=◌}
+use Rattle.avro_schema.specs.Carried.{Carried, CarriedFields, CarriedItem, CarriedRecord, CarriedUnion, HasFields, IsFixedSize, IsNoUnion}
+use Rattle.avro_schema.specs.Encodes.{Encodes, EncodesFields, EncodesFixed, EncodesBytes, EncodesItem, EncodesMember, EncodesRecord, IsInt, IsNull, duration, is_null, little_endian, signed_32}
+use Rattle.avro_schema.specs.Inferred.{bytes_type, column_field, inferred, inferred_fields, inferred_item, inferred_member, inferred_record, is_item, item_name}
+use Rattle.avro_schema.specs.Parts.{BlockOf, Blocks, Many, last, block}
+use Rattle.avro_schema.specs.Types.{fixed_type, int_type, is_union, long_type, symbol_type}
+use Rattle.avro_schema.specs.ValidBlock.{AnyHasPart, FieldHasPart, HasFloat, IsFloat, RecordHasPart}
+use Rattle.avro_schema.proofs.Basics.{bind_some, null_is, null_told}
+use Rattle.avro_types.specs.Listed.{can_serialize_all, named_all}
+use Rattle.avro_types.specs.Named.{named, named_record, nameless_in}
+use Rattle.avro_types.specs.Schemas.{can_serialize, column_schema, columns_fields, nameless_fixed, optional, plain_field, plain_record, record_name, schema_of, structs_in}
+use Rattle.avro_types.proofs.ByFields.{list_schema, list_serializable, struct_schema_is, struct_serializable}
+use Rattle.avro_types.proofs.Renamed.{array_named, record_named, union_named}
 use Rattle.avro_encode.specs.Plain.{milliseconds, parts_of}
 use Rattle.avro_encode.proofs.Milliseconds.{whole}
 use Rattle.avro_encode.proofs.PlainLaw.{parts_list, parts_struct}

@@ -7,27 +7,27 @@ use Rattle.std.specs.List.{AllZip}
 use Rattle.std.specs.Io.KnownBytes.{Consumes, IsAtEnd}
 use Rattle.arrow_core.specs.declared.error.Error.{Error}
 use Rattle.arrow_core.specs.declared.error.Error.TheVariants.{WriteFault, OutOfMemory}
-use Rattle.arrow_types.specs.declared.slot.Slot.{Slot}
-use Rattle.arrow_types.specs.declared.types.Field.{Field}
+use Rattle.arrow_core.specs.declared.slot.Slot.{Slot}
+use Rattle.arrow_core.specs.declared.types.Field.{Field}
 use Rattle.avro_schema.specs.declared.schema.Record.{Record, out-Record}
-use Rattle.avro_grammar.specs.Inferred.{inferred_columns}
-use Rattle.avro_grammar.specs.ValidBlock.{ValidBlock}
+use Rattle.avro_schema.specs.Inferred.{inferred_columns}
+use Rattle.avro_schema.specs.ValidBlock.{ValidBlock}
 use Rattle.avro_container.specs.File.{FileBlock, HeaderParts, header_parts, schema_entry}
 use Rattle.avro_container.specs.Laws.{told}
 use Rattle.avro_container.specs.Taking.{State, state}
 use Rattle.avro_container.proofs.OneFile.{header_reads}
-use Rattle.avro_blocks.specs.Changes.{Change, change_of, Failed, header_of, IsTold, CameFromOutside}
-use Rattle.avro_blocks.specs.Written.{StopsAtBlock, WithAllRows}
-use Rattle.avro_blocks.proofs.Reading.{consumed_some, stops_for_memory}
-use Rattle.avro_blocks.proofs.Results.{memory_or_not}
-use Rattle.avro_blocks.proofs.Steps.{rose_from}
+use Rattle.avro_container.specs.Changes.{Change, change_of, Failed, header_of, IsTold, CameFromOutside}
+use Rattle.avro_container.specs.Written.{StopsAtBlock, WithAllRows}
+use Rattle.avro_container.proofs.Reading.{consumed_some, stops_for_memory}
+use Rattle.avro_container.proofs.Results.{memory_or_not}
+use Rattle.avro_container.proofs.Steps.{rose_from}
 use Rattle.avro_file.specs.File.{StandsFor, AvroFile}
 use Rattle.avro_file.specs.Laws.{IsMetadata}
 use Rattle.avro_file.specs.Metadata.{WriteFails}
 use Rattle.avro_file.proofs.Complete.{metadata_is_read, metadata_is_right}
 use Rattle.avro_file.proofs.Roots.{one_root}
-use Rattle.avro_decode.specs.Decoder.{CanBeDecoded, Projected, projected, HasTable}
-use Rattle.avro_decode.specs.Refusals.{BlockRefused}
+use Rattle.avro_schema.specs.Projected.{CanBeDecoded, Projected, projected, HasTable}
+use Rattle.avro_schema.specs.Refusals.{BlockRefused}
 use Rattle.avro_decode.proofs.Valid.{valid_blocks}
 use Rattle.avro_write.specs.Laws.{all_kept}
 use Rattle.avro_canonical.specs.Answers.{IsHeaderDue}

@@ -1,9 +1,9 @@
 -- A block that is canonical already is its canonical form.
 use Rattle.std.proofs.Common.{◌≡◌, ◌∙◌, ℕ, ◌≤◌, Bool, IsTrue, List, length, inl, sym, ap, subst}
-use Rattle.arrow_types.specs.declared.slot.Slot.{Slot}
+use Rattle.arrow_core.specs.declared.slot.Slot.{Slot}
 use Rattle.avro_schema.specs.declared.schema.AvroField.{AvroField}
-use Rattle.avro_grammar.specs.Rows.{Rows}
-use Rattle.avro_grammar.specs.ValidBlock.{KeptEnumsFit, small_limit}
+use Rattle.avro_schema.specs.Rows.{Rows}
+use Rattle.avro_schema.specs.ValidBlock.{KeptEnumsFit, small_limit}
 use Rattle.avro_container.specs.Canonical.{canonical_block}
 use Rattle.avro_container.specs.File.{the_block}
 use Rattle.avro_verbatim.specs.Alike.{AreAlike}

@@ -6,18 +6,18 @@ use Rattle.std.proofs.KnownBytes.{Appends-trans, Appends-kept, Consumes-trans}
 use Rattle.std.proofs.lemmas.List.{append-nil}
 use Rattle.std.specs.Io.KnownBytes.{Appends, Consumes}
 use Rattle.arrow_core.specs.declared.error.Error.{Error}
-use Rattle.arrow_types.specs.declared.slot.Slot.{Slot}
+use Rattle.arrow_core.specs.declared.slot.Slot.{Slot}
 use Rattle.avro_schema.specs.declared.schema.AvroField.{AvroField}
 use Rattle.avro_schema.specs.declared.schema.Record.{Record, out-Record}
 use Rattle.avro_container.specs.Canonical.{canonical_blocks}
 use Rattle.avro_container.specs.File.{FileBlock}
 use Rattle.avro_container.specs.Taking.{State, state}
-use Rattle.avro_blocks.specs.Changes.{Change, change_of, header_of}
-use Rattle.avro_blocks.specs.Written.{AllWritten, BlockText, StopsAtBlock, WithAllRows}
-use Rattle.avro_blocks.proofs.AllRows.{rows_of_blocks, texts_joined, whole_texts}
+use Rattle.avro_container.specs.Changes.{Change, change_of, header_of}
+use Rattle.avro_container.specs.Written.{AllWritten, BlockText, StopsAtBlock, WithAllRows}
+use Rattle.avro_container.proofs.AllRows.{rows_of_blocks, texts_joined, whole_texts}
 use Rattle.avro_file.specs.File.{metadata_bytes}
 use Rattle.avro_file.specs.Metadata.{ReadsMetadata}
-use Rattle.avro_decode.specs.Decoder.{HasTable}
+use Rattle.avro_schema.specs.Projected.{HasTable}
 use Rattle.avro_canonical.specs.Canonical.{BlockIsRefused, HasEncodings, RewritesBlock, Rewriting, rewriting, table_block}
 use Rattle.avro_canonical.specs.Targets.{AreMade}
 use Rattle.avro_canonical.specs.Rewritten.{Rewrites, RewritingFails, table_blocks}

@@ -5,24 +5,24 @@ use Rattle.std.proofs.lemmas.Option.{same_Some}
 use Rattle.arrow_core.specs.declared.error.Error.{Error}
 use Rattle.arrow_core.specs.declared.error.Error.TheVariants.{InvalidArgumentError, NotYetImplemented, Overflow, OutOfMemory}
 use Rattle.arrow_core.specs.declared.error.Reason.TheVariants as reason
-use Rattle.arrow_types.specs.declared.types.Field.{Field}
+use Rattle.arrow_core.specs.declared.types.Field.{Field}
 use Rattle.avro_schema.specs.declared.schema.AvroField.{AvroField}
 use Rattle.avro_schema.specs.declared.schema.Record.{Record, out-Record, out-roll-Record}
-use Rattle.avro_grammar.specs.AndThen.{◌>>=◌}
-use Rattle.avro_grammar.specs.Inferred.{inferred_columns, own_doc}
-use Rattle.avro_grammar.specs.Types.{Fits, HasColumnType}
-use Rattle.avro_grammar.specs.ValidBlock.{KeepNoFloat}
-use Rattle.avro_grammar.proofs.Basics.{bind_some}
-use Rattle.avro_grammar.proofs.TypeLemmas.{small_forms_fit}
-use Rattle.avro_infer.specs.Columns.{AllTyped}
-use Rattle.avro_infer.proofs.ColumnTypes.{zip_length}
-use Rattle.avro_infer.proofs.RootColumns.{columns_fit}
-use Rattle.avro_decode.specs.Decoder.{CanBeDecoded, Projected, ProjectionRefused, projected}
-use Rattle.avro_decode.specs.Refusals.{AreCarried, AreNotCarried}
-use Rattle.avro_record.specs.Listed.{named_all}
-use Rattle.avro_record.specs.Named.{named_record, named_root}
-use Rattle.avro_record.specs.Schemas.{columns_fields, plain_record, record_of}
-use Rattle.avro_record.proofs.Renamed.{record_named}
+use Rattle.avro_schema.specs.AndThen.{◌>>=◌}
+use Rattle.avro_schema.specs.Inferred.{inferred_columns, own_doc}
+use Rattle.avro_schema.specs.Types.{Fits, HasColumnType}
+use Rattle.avro_schema.specs.ValidBlock.{KeepNoFloat}
+use Rattle.avro_schema.proofs.Basics.{bind_some}
+use Rattle.avro_schema.proofs.TypeLemmas.{small_forms_fit}
+use Rattle.avro_types.specs.Columns.{AllTyped}
+use Rattle.avro_types.proofs.ColumnTypes.{zip_length}
+use Rattle.avro_types.proofs.RootColumns.{columns_fit}
+use Rattle.avro_schema.specs.Projected.{CanBeDecoded, Projected, ProjectionRefused, projected}
+use Rattle.avro_schema.specs.Refusals.{AreCarried, AreNotCarried}
+use Rattle.avro_types.specs.Listed.{named_all}
+use Rattle.avro_types.specs.Named.{named_record, named_root}
+use Rattle.avro_types.specs.Schemas.{columns_fields, plain_record, record_of}
+use Rattle.avro_types.proofs.Renamed.{record_named}
 use Rattle.avro_write.specs.Laws.{all_kept}
 use Rattle.avro_canonical.specs.Canonical.{CanBeRewritten, CannotBeRewritten, IsRewriting, target_fields}
 

@@ -4,10 +4,10 @@ use Rattle.std.proofs.lemmas.Option.{same_Some}
 use Rattle.arrow_core.specs.declared.error.Error.{Error}
 use Rattle.arrow_core.specs.declared.error.Error.TheVariants.{NotYetImplemented, OutOfMemory}
 use Rattle.arrow_core.specs.declared.error.Reason.TheVariants as reason
-use Rattle.arrow_types.specs.declared.types.Field.{Field}
+use Rattle.arrow_core.specs.declared.types.Field.{Field}
 use Rattle.avro_schema.specs.declared.schema.AvroField.{AvroField}
 use Rattle.avro_schema.specs.declared.schema.Record.{Record}
-use Rattle.avro_record.specs.Schemas.{record_of}
+use Rattle.avro_types.specs.Schemas.{record_of}
 use Rattle.avro_canonical.specs.Canonical.{CanBeRewritten, CannotBeRewritten, HasNoRecord}
 
 module _ (xs : List AvroField) where

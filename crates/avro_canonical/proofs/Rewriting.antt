@@ -3,23 +3,23 @@ use Rattle.std.proofs.Common.{◌≡◌, ◌∙◌, ℕ, zero, suc, ◌+◌, ◌
 use Rattle.std.specs.List.{AllByRecursion, range_with_len}
 use Rattle.std.proofs.lemmas.List.{length-map}
 use Rattle.std.proofs.lemmas.Option.{same_Some}
-use Rattle.arrow_types.specs.declared.slot.Slot.{Slot}
-use Rattle.arrow_types.specs.declared.types.Field.{Field}
+use Rattle.arrow_core.specs.declared.slot.Slot.{Slot}
+use Rattle.arrow_core.specs.declared.types.Field.{Field}
 use Rattle.arrow_array.specs.declared.array.Array.{Array}
 use Rattle.arrow_array.specs.Arrays.{array_slots, array_type}
 use Rattle.avro_schema.specs.declared.schema.AvroField.{AvroField}
-use Rattle.avro_grammar.specs.Parts.{Many}
-use Rattle.avro_grammar.specs.Rows.{Pieces, Row, Rows, column}
-use Rattle.avro_grammar.specs.ValidBlock.{KeepNoFloat, KeptEnumsFit, kept}
-use Rattle.avro_grammar.proofs.Basics.{bind_some}
-use Rattle.avro_blocks.specs.Written.{AppendsBlock}
+use Rattle.avro_schema.specs.Parts.{Many}
+use Rattle.avro_schema.specs.Rows.{Pieces, Row, Rows, column}
+use Rattle.avro_schema.specs.ValidBlock.{KeepNoFloat, KeptEnumsFit, kept}
+use Rattle.avro_schema.proofs.Basics.{bind_some}
+use Rattle.avro_container.specs.Written.{AppendsBlock}
 use Rattle.avro_container.specs.Canonical.{canonical_block}
 use Rattle.avro_container.specs.File.{the_block}
-use Rattle.avro_decode.specs.Columns.{AreColumns, columns, kept_types}
-use Rattle.avro_decode.specs.Decoder.{CanBeDecoded}
-use Rattle.avro_decode.specs.Refusals.{AreCounted}
-use Rattle.avro_record.specs.Listed.{named_all}
-use Rattle.avro_record.specs.Schemas.{columns_fields}
+use Rattle.avro_schema.specs.Columns.{AreColumns, columns, kept_types}
+use Rattle.avro_schema.specs.Projected.{CanBeDecoded}
+use Rattle.avro_schema.specs.Refusals.{AreCounted}
+use Rattle.avro_types.specs.Listed.{named_all}
+use Rattle.avro_types.specs.Schemas.{columns_fields}
 use Rattle.avro_write.specs.Laws.{all_kept, plain_table}
 use Rattle.avro_write.specs.Rows.{rows}
 use Rattle.avro_canonical.specs.Canonical.{HasEncodings, IsRewriting, RewritesBlock, Rewriting, table_block}

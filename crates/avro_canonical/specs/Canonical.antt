@@ -6,23 +6,23 @@ use Rattle.std.specs.Coded.{Coded, code_by, coded×, coded_list, coded_ℕ}
 use Rattle.arrow_core.specs.declared.error.Error.{Error}
 use Rattle.arrow_core.specs.declared.error.Error.TheVariants.{NotYetImplemented, OutOfMemory}
 use Rattle.arrow_core.specs.declared.error.Reason.TheVariants as reason
-use Rattle.arrow_types.specs.declared.slot.Slot.{Slot}
-use Rattle.arrow_types.specs.declared.types.Field.{Field}
+use Rattle.arrow_core.specs.declared.slot.Slot.{Slot}
+use Rattle.arrow_core.specs.declared.types.Field.{Field}
 use Rattle.avro_schema.specs.declared.schema.AvroField.{AvroField}
 use Rattle.avro_schema.specs.contracts.schema.AvroField as the_avro_fields
 use Rattle.avro_schema.specs.declared.schema.Record.{Record, out-Record}
-use Rattle.avro_grammar.specs.AndThen.{◌>>=◌}
-use Rattle.avro_grammar.specs.Carried.{CarriedList}
-use Rattle.avro_grammar.specs.Inferred.{inferred_columns}
-use Rattle.avro_grammar.specs.ValidBlock.{KeepNoFloat}
+use Rattle.avro_schema.specs.AndThen.{◌>>=◌}
+use Rattle.avro_schema.specs.Carried.{CarriedList}
+use Rattle.avro_schema.specs.Inferred.{inferred_columns}
+use Rattle.avro_schema.specs.ValidBlock.{KeepNoFloat}
 use Rattle.avro_container.specs.Canonical.{canonical_block}
 use Rattle.avro_container.specs.File.{FileBlock, the_block}
-use Rattle.avro_decode.specs.Decoder.{Projected, projected, projected_code, HasTable}
-use Rattle.avro_decode.specs.Refusals.{AreCarried, BlockRefused}
+use Rattle.avro_schema.specs.Projected.{Projected, projected, projected_code, HasTable}
+use Rattle.avro_schema.specs.Refusals.{AreCarried, BlockRefused}
 use Rattle.avro_encode.specs.Listed.{PairsFieldsOf}
-use Rattle.avro_record.specs.Listed.{named_all}
-use Rattle.avro_record.specs.Named.{named_root}
-use Rattle.avro_record.specs.Schemas.{columns_fields, record_of}
+use Rattle.avro_types.specs.Listed.{named_all}
+use Rattle.avro_types.specs.Named.{named_root}
+use Rattle.avro_types.specs.Schemas.{columns_fields, record_of}
 use Rattle.avro_verbatim.specs.Alike.{AreAlike}
 use Rattle.avro_write.specs.Laws.{all_kept, plain_table}
 

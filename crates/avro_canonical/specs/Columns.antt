@@ -1,7 +1,7 @@
 -- Columns and the fields that they are written under. Private contracts and the law `decoded_is_serializable` cite these.
 use Rattle.std.specs.Prelude.{List, [], ◌∷◌, map, ℕ, All}
 use Rattle.std.specs.List.{AllZip}
-use Rattle.arrow_types.specs.declared.slot.Slot.{Slot}
+use Rattle.arrow_core.specs.declared.slot.Slot.{Slot}
 use Rattle.arrow_array.specs.declared.array.Array.{Array}
 use Rattle.arrow_array.specs.Arrays.{array_slots}
 use Rattle.avro_schema.specs.declared.schema.AvroField.{AvroField}

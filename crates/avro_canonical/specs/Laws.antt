@@ -1,22 +1,22 @@
 -- What was decoded can be written again.
 use Rattle.std.specs.Prelude.{◌≡◌, ℕ, ◌<◌, Bool, true, false, List, length, map, Some}
 use Rattle.std.specs.List.{AllByRecursion, range_with_len}
-use Rattle.arrow_types.specs.declared.slot.Slot.{Slot}
-use Rattle.arrow_types.specs.declared.types.DataType.{DataType}
-use Rattle.arrow_types.specs.declared.types.Field.{Field}
+use Rattle.arrow_core.specs.declared.slot.Slot.{Slot}
+use Rattle.arrow_core.specs.declared.types.DataType.{DataType}
+use Rattle.arrow_core.specs.declared.types.Field.{Field}
 use Rattle.arrow_array.specs.declared.array.Array.{Array}
 use Rattle.arrow_array.specs.Arrays.{array_slots, array_type}
 use Rattle.avro_schema.specs.declared.schema.AvroField.{AvroField}
 use Rattle.avro_schema.specs.declared.schema.Schema.{Schema}
-use Rattle.avro_grammar.specs.Carried.{Carried, CarriedList}
-use Rattle.avro_grammar.specs.Encodes.{Encodes}
-use Rattle.avro_grammar.specs.Inferred.{inferred, inferred_columns}
-use Rattle.avro_grammar.specs.Rows.{Rows, column}
-use Rattle.avro_grammar.specs.Types.{is_union}
-use Rattle.avro_grammar.specs.ValidBlock.{HasFloat, KeepNoFloat}
-use Rattle.avro_record.specs.Listed.{named_all}
-use Rattle.avro_record.specs.Named.{named}
-use Rattle.avro_record.specs.Schemas.{can_serialize, columns_fields, optional, schema_of}
+use Rattle.avro_schema.specs.Carried.{Carried, CarriedList}
+use Rattle.avro_schema.specs.Encodes.{Encodes}
+use Rattle.avro_schema.specs.Inferred.{inferred, inferred_columns}
+use Rattle.avro_schema.specs.Rows.{Rows, column}
+use Rattle.avro_schema.specs.Types.{is_union}
+use Rattle.avro_schema.specs.ValidBlock.{HasFloat, KeepNoFloat}
+use Rattle.avro_types.specs.Listed.{named_all}
+use Rattle.avro_types.specs.Named.{named}
+use Rattle.avro_types.specs.Schemas.{can_serialize, columns_fields, optional, schema_of}
 use Rattle.avro_write.specs.declared.flaws.Flaw.{Flaw}
 use Rattle.avro_write.specs.Flaws.{shows}
 use Rattle.avro_write.specs.Laws.{all_kept, plain_table}

@@ -4,18 +4,18 @@ use Rattle.std.specs.Prelude.{◌≡◌, ℕ, ◌-◌, ◌≤◌, List, [], ◌�
 use Rattle.std.specs.List.{AllByRecursion, AllZip}
 use Rattle.std.specs.Io.KnownBytes.{Appends, Keeps, Consumes, IsAtEnd}
 use Rattle.arrow_core.specs.declared.error.Error.{Error}
-use Rattle.arrow_types.specs.declared.slot.Slot.{Slot}
-use Rattle.arrow_types.specs.declared.types.Field.{Field}
+use Rattle.arrow_core.specs.declared.slot.Slot.{Slot}
+use Rattle.arrow_core.specs.declared.types.Field.{Field}
 use Rattle.avro_schema.specs.declared.schema.AvroField.{AvroField}
 use Rattle.avro_schema.specs.declared.schema.Record.{Record, out-Record}
 use Rattle.avro_container.specs.File.{FileBlock, the_block}
 use Rattle.avro_container.specs.Taking.{state}
-use Rattle.avro_blocks.specs.Changes.{Change, change_of, header_of}
-use Rattle.avro_blocks.specs.Written.{StopsAtBlock, WithAllRows}
+use Rattle.avro_container.specs.Changes.{Change, change_of, header_of}
+use Rattle.avro_container.specs.Written.{StopsAtBlock, WithAllRows}
 use Rattle.avro_file.specs.File.{AvroFile, canonical_file, metadata_bytes}
 use Rattle.avro_file.specs.Metadata.{ReadsMetadata, MetadataFails, WriteFails}
-use Rattle.avro_decode.specs.Decoder.{projected, HasTable}
-use Rattle.avro_record.specs.Named.{named_root}
+use Rattle.avro_schema.specs.Projected.{projected, HasTable}
+use Rattle.avro_types.specs.Named.{named_root}
 use Rattle.avro_write.specs.Laws.{all_kept, plain_table}
 use Rattle.avro_canonical.specs.Canonical.{BlockIsRefused, CanBeRewritten, CannotBeRewritten, HasEncodings, HasTarget, RewritesBlock, Rewriting, rewriting}
 

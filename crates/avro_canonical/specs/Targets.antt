@@ -1,6 +1,6 @@
 -- What a rewriter is made for.
 use Rattle.std.specs.Prelude.{◌≡◌, ℕ, List}
-use Rattle.arrow_types.specs.declared.types.Field.{Field}
+use Rattle.arrow_core.specs.declared.types.Field.{Field}
 use Rattle.avro_schema.specs.declared.schema.AvroField.{AvroField}
 use Rattle.avro_schema.specs.declared.schema.Record.{Record}
 use Rattle.avro_canonical.specs.Canonical.{HasTarget, Rewriting, rewriting}

@@ -1,19 +1,18 @@
 //! Avro files into their canonical form.
 
 ghost use Rattle.std.specs.Prelude.{◌≡◌, ◌≤◌, IfOk, IfErr};
-ghost use Rattle.avro_blocks.specs.Changes.{change_of};
+ghost use Rattle.avro_container.specs.Changes.{change_of};
 ghost use Rattle.avro_canonical.specs.Rewritten.{Rewrites, RewritingFails};
 
 use crate::rewriter::BlockRewriter;
 use arrow_base::{Result, Sink, Source};
-use avro_blocks::{EncodesBlocks, write_blocks};
-use avro_container::BlockReader;
+use avro_container::{BlockReader, EncodesBlocks, write_blocks};
 use avro_file::{FileMetadata, read_metadata, write_metadata};
 use avro_schema::Block;
 use std::alloc::Global;
 
 impl EncodesBlocks for BlockRewriter {
-    ghost use Rattle.avro_blocks.specs.Written.{WithAllRows};
+    ghost use Rattle.avro_container.specs.Written.{WithAllRows};
     ghost use Rattle.avro_canonical.specs.Canonical.{BlockIsRefused, RewritesBlock};
 
     ghost ready = { λ _. Unit {0} };

@@ -2,7 +2,7 @@
 use Rattle.std.proofs.Common.{◌≡◌, ℕ, ◌+◌, ◌-◌, ◌<◌, inl, inr, List, [], ◌∷◌, length, take, drop, refl, sym, ap, take-append-drop, length-drop, arith}
 use Rattle.std.proofs.lemmas.Bool.{cases_lt}
 use Rattle.std.proofs.lemmas.List.{length-take-le}
-use Rattle.avro_grammar.specs.Encodes.{Any}
+use Rattle.avro_schema.specs.Encodes.{Any}
 use Rattle.avro_container.specs.File.{FileBlock, the_block}
 use Rattle.avro_container.specs.FileForms.{after_size, marked_block}
 use Rattle.avro_container.specs.Forms.{Form, raw, both, meaning}

@@ -9,7 +9,7 @@ use Rattle.arrow_core.specs.declared.error.Error.TheVariants.{ExternalFormat, No
 use Rattle.arrow_core.specs.declared.error.Reason.TheVariants as reason
 use Rattle.avro_schema.proofs.Prefixes.{head_is, tail_is}
 use Rattle.std.proofs.lemmas.Option.{none-some}
-use Rattle.avro_grammar.proofs.Prefixes.{raw_reads}
+use Rattle.avro_schema.proofs.WholePrefixes.{raw_reads}
 use Rattle.avro_container.specs.declared.parts.Stop.TheVariants as stop
 use Rattle.avro_container.specs.BlockReader.{NoBlock, CutShort, OtherMarker, AtEnd, Next}
 use Rattle.avro_container.specs.File.{FileBlock, the_block, MarkedBlock, IsFileBlock, Entry, HeaderParts, Header, header_parts, magic, schema_entry, codec_entry, IsPlain}

@@ -4,8 +4,8 @@ use Rattle.std.proofs.lemmas.List.{append-nil}
 use Rattle.std.specs.Option.{option_or}
 use Rattle.std.specs.Str.{bytes_eq}
 use Rattle.avro_schema.specs.Number.{Number}
-use Rattle.avro_grammar.specs.Parts.{Many, BlockOf, Blocks}
-use Rattle.avro_grammar.specs.Parts as parts
+use Rattle.avro_schema.specs.Parts.{Many, BlockOf, Blocks}
+use Rattle.avro_schema.specs.Parts as parts
 use Rattle.avro_container.specs.File.{Entry, value_for, last_value}
 use Rattle.avro_container.specs.Kept.{later, last_of}
 use Rattle.avro_container.specs.Forms.{Form, number, both, BegunMany, WrongMany, many, block_of, BegunBlocks, WrongBlocks, blocks}

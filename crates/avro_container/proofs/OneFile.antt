@@ -2,10 +2,10 @@
 use Rattle.std.proofs.Common.{◌≡◌, ℕ, zero, suc, ◌^◌, ◌<◌, pos, List, [], ◌∷◌, ◌++◌, length, codes, Some, get_or, refl, sym, ◌∙◌, ap, subst, append_assoc, arith}
 use Rattle.std.proofs.lemmas.List.{append-nil, append_cancel_left}
 use Rattle.avro_schema.specs.Number.{AreGroups, Number}
-use Rattle.avro_grammar.specs.Parts.{Grammar, Then, Meaning, Raw, Many, BlockOf, Blocks}
-use Rattle.avro_grammar.specs.Parts as parts
-use Rattle.avro_grammar.specs.Encodes.{Any}
-use Rattle.avro_grammar.proofs.Prefixes.{Reads, number_reads, then_reads, meaning_reads, raw_reads, blocks_read}
+use Rattle.avro_schema.specs.Parts.{Grammar, Then, Meaning, Raw, Many, BlockOf, Blocks}
+use Rattle.avro_schema.specs.Parts as parts
+use Rattle.avro_schema.specs.Encodes.{Any}
+use Rattle.avro_schema.proofs.WholePrefixes.{Reads, number_reads, then_reads, meaning_reads, raw_reads, blocks_read}
 use Rattle.std.specs.Str.{IsUtf8}
 use Rattle.std.proofs.lemmas.Str.{IsUtf8-from_ascii}
 use Rattle.avro_container.specs.Canonical.{counted_bytes, canonical_header, canonical_block, canonical_blocks}

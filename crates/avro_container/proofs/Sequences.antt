@@ -1,7 +1,7 @@
 -- One more after a sequence.
 use Rattle.std.proofs.Common.{ℕ, List, [], ◌∷◌, ◌++◌, sym, subst, append_assoc}
 use Rattle.std.proofs.lemmas.List.{append-nil}
-use Rattle.avro_grammar.specs.Parts.{Grammar}
+use Rattle.avro_schema.specs.Parts.{Grammar}
 use Rattle.avro_container.specs.File.{Sequence, none, one}
 
 pub one_more : {A : Type 0} (P : Grammar A) (a b : List ℕ) (xs : List A) (x : A) → Sequence P a xs → P b x → Sequence P (a ++ b) (xs ++ x ∷ [])

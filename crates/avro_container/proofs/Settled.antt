@@ -5,13 +5,13 @@ use Rattle.std.proofs.lemmas.Bool.{cases_lt}
 use Rattle.std.proofs.lemmas.List.{append_cancel_left, append-nil}
 use Rattle.avro_schema.specs.Number.{AreGroups, unsigned, Number}
 use Rattle.avro_schema.proofs.Prefixes.{head_is, tail_is, same_length}
-use Rattle.avro_grammar.specs.Parts.{Raw}
-use Rattle.avro_grammar.proofs.Prefixes.{Reads, number_reads, meaning_reads, raw_reads}
+use Rattle.avro_schema.specs.Parts.{Raw}
+use Rattle.avro_schema.proofs.WholePrefixes.{Reads, number_reads, meaning_reads, raw_reads}
 use Rattle.avro_container.specs.File.{IsCount, count_of, the_block}
 use Rattle.avro_container.specs.FileForms.{after_size, after_rows, marked_block}
 use Rattle.avro_container.specs.Forms.{Form, AllHigh, NotANumber, number, count, raw, both, meaning}
 use Rattle.avro_container.specs.Laws.{Settles}
-use Rattle.avro_grammar.specs.Encodes.{Any}
+use Rattle.avro_schema.specs.Encodes.{Any}
 
 -- ---- numbers
 

@@ -4,10 +4,10 @@ use Rattle.std.proofs.lemmas.List.{append_cancel_left, append-nil}
 use Rattle.std.specs.Str.{IsUtf8}
 use Rattle.avro_schema.specs.Number.{Number}
 use Rattle.avro_schema.proofs.Prefixes.{same_length}
-use Rattle.avro_grammar.specs.Parts.{Many, BlockOf, Blocks, Raw}
-use Rattle.avro_grammar.specs.Parts as parts
-use Rattle.avro_grammar.specs.Encodes.{Any}
-use Rattle.avro_grammar.proofs.Prefixes.{Reads, number_reads, raw_reads, meaning_reads, many_reads, block_reads, blocks_read, apart}
+use Rattle.avro_schema.specs.Parts.{Many, BlockOf, Blocks, Raw}
+use Rattle.avro_schema.specs.Parts as parts
+use Rattle.avro_schema.specs.Encodes.{Any}
+use Rattle.avro_schema.proofs.WholePrefixes.{Reads, number_reads, raw_reads, meaning_reads, many_reads, block_reads, blocks_read, apart}
 use Rattle.avro_container.specs.File.{IsCount, the_entry, magic, header_parts}
 use Rattle.avro_container.specs.FileForms.{entry, key_form, after_key, magic_form, after_magic, after_map, header}
 use Rattle.avro_container.specs.Forms.{Form, number, count, raw, both, sized, many, BegunMany, WrongMany, under, sized_many_of, block_of, BegunBlocks, WrongBlocks, blocks}

@@ -3,8 +3,8 @@ use Rattle.std.specs.Prelude.{◌≡◌, ℕ, ℤ, pos, negsuc, List, [], ◌∷
 use Rattle.std.specs.Option.{option_or}
 use Rattle.std.specs.Str.{IsUtf8, bytes_eq}
 use Rattle.avro_schema.specs.Number.{Number}
-use Rattle.avro_grammar.specs.Parts.{Grammar, Then, Meaning, Raw, Blocks}
-use Rattle.avro_grammar.specs.Encodes.{Any}
+use Rattle.avro_schema.specs.Parts.{Grammar, Then, Meaning, Raw, Blocks}
+use Rattle.avro_schema.specs.Encodes.{Any}
 
 -- a number of 0 or more
 abbrev pub IsCount : ℤ → Type 0
@@ -18,7 +18,7 @@ count_of (negsuc n) = 0
 abbrev pub Count : Grammar ℕ
 Count = Meaning Number IsCount count_of
 
--- A number n of 0 or more, then n bytes (Avro 1.11, "Primitive Types": bytes and string): the encodings of avro_grammar's `Sized`,
+-- A number n of 0 or more, then n bytes (Avro 1.11, "Primitive Types": bytes and string): the encodings of avro_schema's `Sized`,
 -- in the two parts in which they are read, since each fault is answered by the part that shows it.
 abbrev pub CountedBytes : Grammar (List ℕ)
 CountedBytes = Then Count Raw

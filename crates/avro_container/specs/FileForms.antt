@@ -1,7 +1,7 @@
 -- The forms of a file's header and of its blocks. What is whole of them is `Header` and `MarkedBlock`.
 use Rattle.std.specs.Prelude.{◌≡◌, ℕ, List}
 use Rattle.std.specs.Str.{IsUtf8}
-use Rattle.avro_grammar.specs.Encodes.{Any}
+use Rattle.avro_schema.specs.Encodes.{Any}
 use Rattle.avro_container.specs.Forms.{Form, raw, count, sized, both, meaning, blocks, sized_many_of}
 use Rattle.avro_container.specs.File.{Entry, the_entry, magic, HeaderParts, header_parts, FileBlock, the_block}
 

@@ -4,7 +4,7 @@
 use Rattle.std.specs.Prelude.{◌≡◌, ℕ, zero, suc, ◌^◌, ◌<◌, ◌≤◌, ℤ, pos, negsuc, List, [], ◌∷◌, ◌++◌, length, ◌⊎◌, Bool, true, false}
 use Rattle.avro_schema.specs.Number.{Number}
 use Rattle.avro_container.specs.File.{IsCount, count_of}
-use Rattle.avro_grammar.specs.Parts.{Grammar, Then, Meaning, Raw, Many, BlockOf, Blocks}
+use Rattle.avro_schema.specs.Parts.{Grammar, Then, Meaning, Raw, Many, BlockOf, Blocks}
 
 pub record Form (A : Type 0) : Type 1 where
   pub whole : Grammar A

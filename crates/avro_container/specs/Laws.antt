@@ -5,7 +5,7 @@ use Rattle.arrow_base.specs.Outside.{RoseOrFull}
 use Rattle.arrow_core.specs.declared.error.Error.{Error}
 use Rattle.arrow_core.specs.declared.error.Error.TheVariants.{ExternalFormat, NotYetImplemented, LimitExceeded, OutOfMemory}
 use Rattle.arrow_core.specs.declared.error.Reason.TheVariants as reason
-use Rattle.avro_grammar.specs.Parts.{Grammar}
+use Rattle.avro_schema.specs.Parts.{Grammar}
 use Rattle.avro_schema.specs.Number.{Number}
 use Rattle.avro_container.specs.BlockReader.{NoBlock, AtEnd, Next}
 use Rattle.avro_container.specs.File.{Entry, header_parts, HeaderParts, Header, magic, FileBlock, MarkedBlock, IsFileBlock, FileOf, schema_entry, codec_entry, IsPlain}

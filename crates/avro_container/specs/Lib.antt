@@ -1,5 +1,7 @@
 pub mod BlockReader
+pub mod Blocks
 pub mod Canonical
+pub mod Changes
 pub mod File
 pub mod FileForms
 pub mod Forms
@@ -9,3 +11,4 @@ pub mod OneRead
 pub mod ReadHeader
 pub mod Shortest
 pub mod Taking
+pub mod Written

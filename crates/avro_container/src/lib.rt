@@ -1,8 +1,9 @@
-//! The container of Avro files: headers, blocks, and the numbers that they are made of. The text of
-//! a schema is a header's bytes here.
+//! Avro object container files (Avro 1.11, "Object Container Files"): the header, blocks between
+//! markers, and what is written for each block of a file.
 #![tactic(auto)]
 
 mod block_reader;
+mod blocks;
 mod encoded;
 mod entries;
 mod header;
@@ -11,6 +12,7 @@ mod parts;
 mod writer;
 
 pub use block_reader::BlockReader;
+pub use blocks::{EncodesBlocks, write_blocks};
 pub use encoded::zigzag_encode;
 pub use header::{Header, read_header};
 pub use laws::{block_answers, header_answers, one_file, parts_settle};

@@ -10,7 +10,7 @@ use Rattle.arrow_builders.specs.Fits.{TypesFit}
 use Rattle.arrow_builders.specs.Shapes.{shape}
 use Rattle.arrow_builders.proofs.Heads.{no_slots, same_type}
 use Rattle.avro_schema.specs.declared.schema.AvroField.{AvroField}
-use Rattle.arrow_types.specs.Numbers.{greatest_offset}
+use Rattle.arrow_core.specs.Numbers.{greatest_offset}
 use Rattle.avro_reference.specs.Costs.{passed}
 use Rattle.avro_decode.specs.Capacity.{AtNodes, BetweenNodes, ReservedCapacityStays}
 use Rattle.avro_decode.specs.Growth.{Fills, AllFill, all_large, Reaches, AllReach, HaveSpare, BothFill, ChildrenGrow, ChildrenReach, ChildrenHaveSpare}

@@ -2,10 +2,10 @@
 use Rattle.std.proofs.Common.{◌≡◌, ◌∙◌, ℕ, zero, suc, ◌<◌, List, [], ◌∷◌, ◌++◌, length, get_or, set, refl, sym, ap, append_assoc, arith}
 use Rattle.std.proofs.lemmas.List.{append-nil}
 use Rattle.std.proofs.lemmas.List.FromFn.{fill_by_all}
-use Rattle.arrow_types.specs.declared.slot.Slot.{Slot}
-use Rattle.arrow_types.specs.declared.slot.Slot.TheVariants as slot
-use Rattle.avro_grammar.specs.Rows.{column}
-use Rattle.avro_decode.specs.Columns.{columns}
+use Rattle.arrow_core.specs.declared.slot.Slot.{Slot}
+use Rattle.arrow_core.specs.declared.slot.Slot.TheVariants as slot
+use Rattle.avro_schema.specs.Rows.{column}
+use Rattle.avro_schema.specs.Columns.{columns}
 use Rattle.avro_decode.specs.Decoding.{grown, grown_by, AreWide}
 
 pub grown_none : (cs : List (List Slot)) → grown cs [] ≡ cs

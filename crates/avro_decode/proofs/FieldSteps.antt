@@ -4,13 +4,13 @@ use Rattle.std.specs.Prelude.{All, OnOk, OnErr, IfErr, IsTrue}
 use Rattle.std.proofs.lemmas.Bool.{cases_eq}
 use Rattle.std.proofs.lemmas.List.{get_or-set_same, get_or-set_other}
 use Rattle.arrow_core.specs.declared.error.Error.{Error}
-use Rattle.arrow_types.specs.declared.slot.Slot.{Slot}
-use Rattle.arrow_types.specs.declared.slot.Slot.TheVariants as slot
+use Rattle.arrow_core.specs.declared.slot.Slot.{Slot}
+use Rattle.arrow_core.specs.declared.slot.Slot.TheVariants as slot
 use Rattle.arrow_builders.specs.Shapes.{Shape}
 use Rattle.avro_schema.specs.declared.schema.AvroField.{AvroField}
 use Rattle.avro_schema.specs.declared.schema.Schema.{Schema, Union, Union'}
 use Rattle.avro_schema.specs.declared.schema.Schema.TheBlock.{shape-the_row-Schema-1, hidden-the_row-Schema-1}
-use Rattle.avro_grammar.specs.Carried.{IsNoUnion}
+use Rattle.avro_schema.specs.Carried.{IsNoUnion}
 use Rattle.avro_reference.specs.Listed.{read_union_of}
 use Rattle.avro_reference.specs.Prefix.{number_at}
 use Rattle.avro_reference.specs.Read.{push_one}

@@ -3,9 +3,9 @@ use Rattle.std.proofs.Common.{◌≡◌, ◌∙◌, ℕ, zero, suc, ◌+◌, ◌
 use Rattle.std.specs.Prelude.{option_and_then}
 use Rattle.std.proofs.lemmas.List.{length-append, length-map, map-set, get_or-map}
 use Rattle.std.proofs.Math.Seq.{drop-cons}
-use Rattle.arrow_types.specs.Numbers.{greatest_offset}
-use Rattle.arrow_types.specs.declared.slot.Slot.{Slot}
-use Rattle.arrow_types.specs.declared.slot.Slot.TheVariants as slot
+use Rattle.arrow_core.specs.Numbers.{greatest_offset}
+use Rattle.arrow_core.specs.declared.slot.Slot.{Slot}
+use Rattle.arrow_core.specs.declared.slot.Slot.TheVariants as slot
 use Rattle.arrow_array.specs.Structs.{record_at}
 use Rattle.arrow_builders.specs.Builders.{slots_where}
 use Rattle.arrow_builders.specs.Children.{all_nodes, fields_of}

@@ -1,8 +1,8 @@
 -- From one call to the next, while bytes are passed.
 use Rattle.std.proofs.Common.{◌≡◌, ℕ, ◌+◌, ◌<◌, ◌≤◌, Bool, true, false, List, [], ◌∷◌, ◌++◌, length, drop, Option, Some, Result, Ok, Err, sym, ap, subst, arith}
 use Rattle.std.specs.Prelude.{OnOk, IfErr}
-use Rattle.arrow_types.specs.declared.slot.Slot.{Slot}
-use Rattle.arrow_types.specs.declared.slot.Slot.TheVariants as slot
+use Rattle.arrow_core.specs.declared.slot.Slot.{Slot}
+use Rattle.arrow_core.specs.declared.slot.Slot.TheVariants as slot
 use Rattle.arrow_builders.specs.Nodes.{Node, Takes, HasSpare}
 use Rattle.arrow_builders.specs.Nested.{items_of, lists_from}
 use Rattle.arrow_builders.specs.Shapes.{Shape, shape}
@@ -15,7 +15,7 @@ use Rattle.avro_schema.specs.Number.{MovesForward}
 use Rattle.avro_schema.specs.declared.schema.Schema.{Schema, Array}
 use Rattle.avro_reference.specs.Prefix.{Reader}
 use Rattle.avro_reference.specs.Read.{push_one, read}
-use Rattle.arrow_types.specs.Numbers.{greatest_offset}
+use Rattle.arrow_core.specs.Numbers.{greatest_offset}
 use Rattle.avro_reference.proofs.ByLists.{read_array}
 use Rattle.avro_reference.specs.Costs.{passed, CostsNumber, CostsKept}
 use Rattle.avro_flat.specs.Decoding.{Fails, Gives}

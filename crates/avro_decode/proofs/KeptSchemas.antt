@@ -3,8 +3,8 @@ use Rattle.std.proofs.Common.{◌≡◌, ◌∙◌, ◌⊎◌, inl, inr, ◌+◌
 use Rattle.std.proofs.lemmas.Bool.{cases_lt}
 use Rattle.avro_schema.specs.declared.schema.AvroField.{AvroField}
 use Rattle.avro_schema.specs.declared.schema.Schema.{Schema}
-use Rattle.avro_grammar.specs.ValidBlock.{kept}
-use Rattle.avro_grammar.proofs.KeptLemmas.{kept_by_index}
+use Rattle.avro_schema.specs.ValidBlock.{kept}
+use Rattle.avro_schema.proofs.KeptLemmas.{kept_by_index}
 
 -- P holds of the kept ones before an index
 abbrev pub KeptSoFar : {A : Type 0} → (A → Type 0) → List A → List Bool → ℕ → Type 0

@@ -1,11 +1,11 @@
 -- Builders whose data types hold no offsets of 32 bits have none themselves.
 use Rattle.std.proofs.Common.{◌≡◌, ◌∙◌, ◌⊎◌, inl, inr, ℕ, ◌^◌, ◌<◌, ◌≤◌, Bool, true, false, ◌↔◌, IsTrue, Some, None, List, [], ◌∷◌, length, map, All, refl, sym, subst, arith}
 use Rattle.std.proofs.lemmas.List.Elements.{All-head, All-tail}
-use Rattle.arrow_types.specs.Numbers.{greatest_offset}
-use Rattle.arrow_types.specs.declared.types.Field.{Field}
-use Rattle.arrow_types.specs.declared.types.DataType.{DataType}
-use Rattle.arrow_types.specs.declared.physical.PhysicalType.TheVariants as physical
-use Rattle.arrow_types.specs.declared.physical.PrimitiveType.TheVariants as primitive
+use Rattle.arrow_core.specs.Numbers.{greatest_offset}
+use Rattle.arrow_core.specs.declared.types.Field.{Field}
+use Rattle.arrow_core.specs.declared.types.DataType.{DataType}
+use Rattle.arrow_core.specs.declared.physical.PhysicalType.TheVariants as physical
+use Rattle.arrow_core.specs.declared.physical.PrimitiveType.TheVariants as primitive
 use Rattle.arrow_array.specs.Lists.{IsListOf}
 use Rattle.arrow_builders.specs.Fits.{TypesFit, IsRecordOf, field_types}
 use Rattle.arrow_builders.specs.MutableArrays.{builder_type}
@@ -15,8 +15,8 @@ use Rattle.arrow_builders.proofs.Heads.{type_is}
 use Rattle.avro_schema.specs.declared.schema.AvroField.{AvroField}
 use Rattle.avro_schema.specs.declared.schema.Record.{Record as TheRecord, Record', Row_of-AvroField, end_of-AvroField, more_of-AvroField}
 use Rattle.avro_schema.specs.declared.schema.Schema.{Schema, Boolean, Int, Long, Bytes, String, Enum, Record, Array', Union', Fixed, Row_of-Schema, end_of-Schema, more_of-Schema}
-use Rattle.avro_grammar.specs.ValidBlock.{kept, small_limit, IsSmall, OffsetsFit}
-use Rattle.avro_grammar.proofs.TypeLemmas.{small_composites}
+use Rattle.avro_schema.specs.ValidBlock.{kept, small_limit, IsSmall, OffsetsFit}
+use Rattle.avro_schema.proofs.TypeLemmas.{small_composites}
 use Rattle.avro_decode.specs.Growth.{all_large}
 use Rattle.avro_decode.specs.Suits.{Suits, SuitsRecord, SuitsItem, SuitsMembers, SuitsFields, AllSuit}
 use Rattle.avro_decode.proofs.Capacity.{CanCount}

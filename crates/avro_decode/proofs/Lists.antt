@@ -1,7 +1,7 @@
 -- A list more, and a struct more, while children grow.
 use Rattle.std.proofs.Common.{◌≡◌, ◌∙◌, ℕ, List, [], ◌∷◌, ◌++◌, length, drop, Option, refl, sym, ap, arith}
-use Rattle.arrow_types.specs.declared.slot.Slot.{Slot}
-use Rattle.arrow_types.specs.declared.slot.Slot.TheVariants as slot
+use Rattle.arrow_core.specs.declared.slot.Slot.{Slot}
+use Rattle.arrow_core.specs.declared.slot.Slot.TheVariants as slot
 use Rattle.arrow_builders.specs.Nested.{items_of, lists_from}
 use Rattle.arrow_builders.proofs.Staying.{lists_stay, drop_prefix, grown as grown_there}
 use Rattle.avro_decode.specs.Decoding.{grown}

@@ -3,14 +3,14 @@ use Rattle.std.proofs.Common.{◌≡◌, ◌∙◌, ◌⊎◌, inl, inr, suc, �
 use Rattle.std.specs.Prelude.{sum_by}
 use Rattle.std.proofs.lemmas.Bool.{cases_lt}
 use Rattle.std.proofs.lemmas.List.Elements.{All-cons}
-use Rattle.arrow_types.specs.declared.physical.PhysicalType.{PhysicalType}
-use Rattle.arrow_types.specs.declared.physical.PhysicalType.TheVariants as physical
-use Rattle.arrow_types.specs.declared.types.Field.{Field}
-use Rattle.arrow_types.specs.declared.types.DataType.{DataType, List', LargeList', Struct', items-the_row-Field, items_hidden-the_row-Field-1}
-use Rattle.arrow_types.specs.declared.types.DataType as data_type
-use Rattle.arrow_types.specs.declared.types.IntervalUnit.TheVariants as interval
-use Rattle.arrow_types.specs.declared.types.DataType.TheBlock.{shape-the_row-Field-0, hidden-the_row-Field-0}
-use Rattle.arrow_types.specs.Layouts.{physical_type}
+use Rattle.arrow_core.specs.declared.physical.PhysicalType.{PhysicalType}
+use Rattle.arrow_core.specs.declared.physical.PhysicalType.TheVariants as physical
+use Rattle.arrow_core.specs.declared.types.Field.{Field}
+use Rattle.arrow_core.specs.declared.types.DataType.{DataType, List', LargeList', Struct', items-the_row-Field, items_hidden-the_row-Field-1}
+use Rattle.arrow_core.specs.declared.types.DataType as data_type
+use Rattle.arrow_core.specs.declared.types.IntervalUnit.TheVariants as interval
+use Rattle.arrow_core.specs.declared.types.DataType.TheBlock.{shape-the_row-Field-0, hidden-the_row-Field-0}
+use Rattle.arrow_core.specs.Layouts.{physical_type}
 use Rattle.arrow_array.specs.Lists.{list_type, IsListOf}
 use Rattle.arrow_builders.specs.Children.{fields_of}
 use Rattle.arrow_builders.specs.Fits.{TypesFit, field_types}
@@ -30,16 +30,16 @@ use Rattle.avro_schema.specs.declared.schema.LongLogical.TheVariants as long_log
 use Rattle.avro_schema.specs.declared.schema.Record.{Record as TheRecord, out-Record}
 use Rattle.avro_schema.specs.declared.schema.Schema.{Schema, Null, Boolean, Int, Long, Float, Double, Bytes, String, Record, Enum, Fixed, Array, Union, Array', Map', Union'}
 use Rattle.avro_schema.specs.declared.schema.Schema.TheBlock.{shape-the_row-Schema-0 as shape_0, hidden-the_row-Schema-0 as hidden_0}
-use Rattle.avro_grammar.specs.Carried.{IsFixedSize, Carried}
-use Rattle.avro_grammar.specs.Encodes.{IsNull}
-use Rattle.avro_grammar.specs.Listed.{CarriedMembersOf}
-use Rattle.avro_grammar.specs.TypeLaws.{HasMemberTypeOf}
-use Rattle.avro_grammar.specs.Types.{IsListOf as TheForm, HasType, HasColumnType, fixed_type}
-use Rattle.avro_grammar.specs.ValidBlock.{small_limit, HasFloat, SymbolsFit, EnumsFit}
-use Rattle.avro_grammar.proofs.ByLists.{moved, carried_array, carried_union, carried_record}
-use Rattle.avro_grammar.proofs.TypeLemmas.{type_composites, float_composites, enum_composites}
-use Rattle.avro_infer.specs.Columns.{HasColumnTypes}
-use Rattle.avro_infer.proofs.ColumnTypes.{flip}
+use Rattle.avro_schema.specs.Carried.{IsFixedSize, Carried}
+use Rattle.avro_schema.specs.Encodes.{IsNull}
+use Rattle.avro_schema.specs.Listed.{CarriedMembersOf}
+use Rattle.avro_schema.specs.TypeLaws.{HasMemberTypeOf}
+use Rattle.avro_schema.specs.Types.{IsListOf as TheForm, HasType, HasColumnType, fixed_type}
+use Rattle.avro_schema.specs.ValidBlock.{small_limit, HasFloat, SymbolsFit, EnumsFit}
+use Rattle.avro_schema.proofs.ByLists.{moved, carried_array, carried_union, carried_record}
+use Rattle.avro_schema.proofs.TypeLemmas.{type_composites, float_composites, enum_composites}
+use Rattle.avro_types.specs.Columns.{HasColumnTypes}
+use Rattle.avro_types.proofs.ColumnTypes.{flip}
 use Rattle.avro_decode.specs.Making.{CanBeKept, IsNewBuilder, AreNewBuilders, IsFlatType}
 use Rattle.avro_decode.specs.Growth.{SuitsPair}
 use Rattle.avro_decode.specs.Suits.{Suits, IsFixedDecimal, AllSuit}

@@ -3,8 +3,8 @@ use Rattle.std.proofs.Common.{◌≡◌, ◌∙◌, ℕ, ℤ, pos, negsuc, zero,
 use Rattle.std.specs.Prelude.{OnOk, OnErr, IfErr, nat_abs, option_and_then, if◌then◌else◌}
 use Rattle.std.proofs.lemmas.Bool.{le-ltb}
 use Rattle.std.proofs.lemmas.List.{length-append}
-use Rattle.arrow_types.specs.declared.slot.Slot.{Slot}
-use Rattle.arrow_types.specs.declared.slot.Slot.TheVariants as slot
+use Rattle.arrow_core.specs.declared.slot.Slot.{Slot}
+use Rattle.arrow_core.specs.declared.slot.Slot.TheVariants as slot
 use Rattle.arrow_core.specs.declared.error.Error.{Error}
 use Rattle.arrow_array.specs.Structs.{record_at}
 use Rattle.arrow_builders.specs.MutableArrays.{builder_slots, nodes}
@@ -23,15 +23,15 @@ use Rattle.std.proofs.Common.{rules}
 use Rattle.avro_schema.specs.declared.schema.Schema.TheViews.{the_lemmas}
 use Rattle.avro_schema.specs.declared.schema.Schema.TheBlock.{shape-the_row-Schema-0, hidden-the_row-Schema-0}
 use Rattle.avro_schema.specs.declared.schema.Record.{Record as TheRecord, out-Record}
-use Rattle.arrow_types.specs.declared.physical.PhysicalType.TheVariants as physical
+use Rattle.arrow_core.specs.declared.physical.PhysicalType.TheVariants as physical
 use Rattle.arrow_builders.specs.MutableArrays.{builder_kind}
 use Rattle.avro_reference.proofs.ByLists.{read_union, read_fields_are}
-use Rattle.avro_grammar.specs.Encodes.{IsNull}
+use Rattle.avro_schema.specs.Encodes.{IsNull}
 use Rattle.avro_reference.specs.Prefix.{Reader, number_at, is_index}
-use Rattle.avro_grammar.specs.Encodes.{is_null}
+use Rattle.avro_schema.specs.Encodes.{is_null}
 use Rattle.avro_reference.specs.Read.{push_one, read}
 use Rattle.avro_reference.specs.Listed.{read_union_of, read_member_of, read_record_of, read_fields_of}
-use Rattle.avro_grammar.proofs.Basics.{null_told}
+use Rattle.avro_schema.proofs.Basics.{null_told}
 use Rattle.avro_decode.specs.Decoding.{grown}
 use Rattle.avro_reference.specs.Costs.{passed}
 use Rattle.avro_flat.specs.Decoding.{Gives}
@@ -41,7 +41,7 @@ use Rattle.avro_flat.specs.declared.fault.DecodeFault.TheVariants.{Memory}
 use Rattle.avro_decode.specs.Masks.{mask, bounded}
 use Rattle.avro_decode.specs.Growth.{mask_pair, masks, Fills, AllFill, Grows, AllOffsetsReach, HaveSpare}
 use Rattle.avro_decode.specs.Suits.{Suits, AllSuit, IsFixedDecimal}
-use Rattle.arrow_types.specs.declared.physical.PrimitiveType.TheVariants as primitive
+use Rattle.arrow_core.specs.declared.physical.PrimitiveType.TheVariants as primitive
 use Rattle.avro_schema.specs.declared.schema.FixedLogical.{FixedLogical}
 use Rattle.avro_schema.specs.declared.schema.FixedLogical.TheVariants as fixed_logical
 use Rattle.avro_decode.specs.Growth.{SuitsPair, HasKindOf, HasFlatKind, fixed_kind}

@@ -2,9 +2,9 @@
 use Rattle.std.proofs.Common.{◌≡◌, ◌∙◌, ◌⊎◌, inl, inr, ◌↔◌, ℕ, zero, suc, ◌+◌, ◌<◌, ◌≤◌, Bool, true, false, List, [], ◌∷◌, ◌++◌, length, get_or, map, take, drop, All, Result, Ok, Err, Vec, Global, refl, sym, ap, subst, add-one, append_assoc, arith}
 use Rattle.std.proofs.lemmas.List.{map-append, take_more}
 use Rattle.std.proofs.lemmas.List.Elements.{All-cons}
-use Rattle.arrow_types.specs.declared.physical.PhysicalType.TheVariants as physical
-use Rattle.arrow_types.specs.declared.types.Field.{Field}
-use Rattle.arrow_types.specs.declared.types.DataType.{DataType}
+use Rattle.arrow_core.specs.declared.physical.PhysicalType.TheVariants as physical
+use Rattle.arrow_core.specs.declared.types.Field.{Field}
+use Rattle.arrow_core.specs.declared.types.DataType.{DataType}
 use Rattle.arrow_builders.specs.Builders.{PlainBuilder, ContentBuilder, plain_node, content_node}
 use Rattle.arrow_builders.specs.Children.{all_nodes, fields_of}
 use Rattle.arrow_builders.specs.MutableArrays.{nodes}
@@ -20,23 +20,23 @@ use Rattle.std.specs.Prelude.{sum_by}
 use Rattle.std.proofs.lemmas.List.{append-nil}
 use Rattle.std.proofs.lemmas.List.Sums.{sum_by_more}
 use Rattle.std.proofs.Math.Seq.{drop-cons}
-use Rattle.arrow_types.specs.declared.slot.Slot.{Slot}
-use Rattle.arrow_types.specs.declared.slot.Slot.TheVariants as slot
+use Rattle.arrow_core.specs.declared.slot.Slot.{Slot}
+use Rattle.arrow_core.specs.declared.slot.Slot.TheVariants as slot
 use Rattle.arrow_flat.specs.Dictionaries.{DictionaryBuilder, dictionary_node}
 use Rattle.avro_schema.specs.declared.schema.AvroField.{AvroField}
-use Rattle.avro_grammar.specs.ValidBlock.{kept}
+use Rattle.avro_schema.specs.ValidBlock.{kept}
 use Rattle.std.specs.Prelude.{IfOk, IfErr}
 use Rattle.arrow_core.specs.declared.error.Error.{Error}
 use Rattle.arrow_core.specs.declared.error.Error.TheVariants.{Overflow, OutOfMemory}
 use Rattle.arrow_builders.specs.Fits.{TypesFit}
 use Rattle.arrow_builders.specs.Tight.{IsTight}
 use Rattle.arrow_builders.proofs.TightLaws.{empty_tight}
-use Rattle.avro_grammar.specs.Types.{HasType, HasColumnType}
-use Rattle.avro_grammar.specs.ValidBlock.{HasFloat, EnumsFit}
-use Rattle.avro_grammar.proofs.KeptLemmas.{kept_by_index}
-use Rattle.avro_infer.proofs.ColumnTypes.{zip_at}
+use Rattle.avro_schema.specs.Types.{HasType, HasColumnType}
+use Rattle.avro_schema.specs.ValidBlock.{HasFloat, EnumsFit}
+use Rattle.avro_schema.proofs.KeptLemmas.{kept_by_index}
+use Rattle.avro_types.proofs.ColumnTypes.{zip_at}
 use Rattle.avro_decode.specs.Making.{CanBeKept, IsNewBuilder, AreNewBuilders}
-use Rattle.avro_decode.specs.Refusals.{BelongTogether}
+use Rattle.avro_schema.specs.Refusals.{BelongTogether}
 use Rattle.avro_decode.proofs.Making.{all_new}
 
 -- ---- without children

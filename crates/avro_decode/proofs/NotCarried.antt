@@ -4,9 +4,9 @@ use Rattle.std.specs.Prelude.{MatchResult}
 use Rattle.arrow_core.specs.declared.error.Error.{Error}
 use Rattle.arrow_core.specs.declared.error.Error.TheVariants.{NotYetImplemented}
 use Rattle.arrow_core.specs.declared.error.Reason.TheVariants as reason
-use Rattle.avro_grammar.specs.ValidBlock.{HaveSameLength}
-use Rattle.avro_decode.specs.Decoder.{Projected, ProjectionRefused}
-use Rattle.avro_decode.specs.Refusals.{AreNotCarried}
+use Rattle.avro_schema.specs.ValidBlock.{HaveSameLength}
+use Rattle.avro_schema.specs.Projected.{Projected, ProjectionRefused}
+use Rattle.avro_schema.specs.Refusals.{AreNotCarried}
 
 none_left : {A : Type 0} (xs : List A) → length xs ≡ 0 → xs ≡ []
 none_left [] e = refl

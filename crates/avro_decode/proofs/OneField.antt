@@ -3,12 +3,12 @@ use Rattle.std.proofs.Common.{◌≡◌, ◌∙◌, ℕ, zero, suc, ◌+◌, ◌
 use Rattle.std.specs.Prelude.{OnOk}
 use Rattle.std.proofs.lemmas.List.{append-nil}
 use Rattle.std.proofs.lemmas.List.Sums.{sum_by-append}
-use Rattle.arrow_types.specs.declared.slot.Slot.{Slot}
+use Rattle.arrow_core.specs.declared.slot.Slot.{Slot}
 use Rattle.arrow_builders.specs.MutableArrays.{builder_slots}
 use Rattle.arrow_builders.specs.declared.array.MutableArray.{MutableArray}
 use Rattle.avro_schema.specs.declared.schema.AvroField.{AvroField}
-use Rattle.avro_grammar.specs.ValidBlock.{kept}
-use Rattle.avro_grammar.specs.Rows.{Pieces, no_pieces, total_kept, total_seen, total_hidden}
+use Rattle.avro_schema.specs.ValidBlock.{kept}
+use Rattle.avro_schema.specs.Rows.{Pieces, no_pieces, total_kept, total_seen, total_hidden}
 use Rattle.avro_reference.specs.Read.{read, items}
 use Rattle.avro_reference.specs.Skip.{Bad, or_bad}
 use Rattle.avro_reference.specs.Block.{row, row_after, rows, rows_after, add_kept}

@@ -1,11 +1,11 @@
 -- The members of a union of null and another: which of them stands at an index, and that neither is a union.
 use Rattle.std.proofs.Common.{◌≡◌, ℕ, ℤ, pos, negsuc, zero, suc, Bool, true, false, List, [], ◌∷◌, Some, None, Result, refl, subst, inl, inr}
 use Rattle.std.specs.Prelude.{if◌then◌else◌}
-use Rattle.arrow_types.specs.declared.slot.Slot.{Slot}
+use Rattle.arrow_core.specs.declared.slot.Slot.{Slot}
 use Rattle.arrow_builders.specs.Shapes.{Shape}
 use Rattle.avro_schema.specs.declared.schema.Schema.{Schema, Null as NullSchema}
-use Rattle.avro_grammar.specs.Carried.{IsNoUnion}
-use Rattle.avro_grammar.specs.Encodes.{IsNull}
+use Rattle.avro_schema.specs.Carried.{IsNoUnion}
+use Rattle.avro_schema.specs.Encodes.{IsNull}
 use Rattle.avro_reference.specs.Read.{push_one}
 use Rattle.avro_flat.specs.Decoding.{Gives}
 use Rattle.avro_flat.specs.declared.fault.DecodeFault.{DecodeFault}

@@ -3,9 +3,9 @@ use Rattle.std.proofs.Common.{◌≡◌, ℕ, ℤ, pos, negsuc, zero, suc, ◌-�
 use Rattle.std.proofs.lemmas.Bool.Decides.{nat_tests}
 use Rattle.std.proofs.lemmas.List.{append-nil}
 use Rattle.std.proofs.lemmas.Option.{some_pair_parts, none-some}
-use Rattle.arrow_types.specs.declared.slot.Slot.{Slot}
-use Rattle.arrow_types.specs.declared.slot.Slot.TheVariants as slot
-use Rattle.avro_grammar.specs.AndThen.{◌>>=◌}
+use Rattle.arrow_core.specs.declared.slot.Slot.{Slot}
+use Rattle.arrow_core.specs.declared.slot.Slot.TheVariants as slot
+use Rattle.avro_schema.specs.AndThen.{◌>>=◌}
 use Rattle.avro_reference.specs.Prefix.{Reader, number_at, is_count}
 use Rattle.avro_reference.specs.Read.{push_one, items, block_items, blocks, array_at}
 use Rattle.avro_flat.specs.Decoding.{Fails}

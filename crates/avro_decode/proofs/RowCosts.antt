@@ -1,7 +1,7 @@
 -- What the fields of a row, and rows, cost together.
 use Rattle.std.proofs.Common.{ℕ, ◌+◌, List, [], ◌∷◌, ◌++◌, arith}
 use Rattle.std.proofs.lemmas.List.Sums.{sum_by-append}
-use Rattle.avro_grammar.specs.Rows.{Pieces, total_kept, total_seen, total_hidden}
+use Rattle.avro_schema.specs.Rows.{Pieces, total_kept, total_seen, total_hidden}
 use Rattle.avro_reference.specs.Costs.{passed, Costs, CostsKept}
 
 module _ {X : Type 0} (rest : X → List ℕ) (shown calls : X → ℕ) where

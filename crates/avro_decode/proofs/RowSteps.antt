@@ -2,13 +2,13 @@
 use Rattle.std.proofs.Common.{◌≡◌, ◌∙◌, ℕ, zero, suc, ◌+◌, ◌-◌, ◌<◌, ◌≤◌, Bool, true, false, List, [], ◌∷◌, ◌++◌, length, get_or, set, drop, map, Some, Ok, Err, refl, sym, ap, add-one, arith}
 use Rattle.std.proofs.lemmas.List.{map-set, get_or-map, map-append, length-append}
 use Rattle.std.proofs.Math.Seq.{drop-cons}
-use Rattle.arrow_types.specs.declared.slot.Slot.{Slot}
+use Rattle.arrow_core.specs.declared.slot.Slot.{Slot}
 use Rattle.arrow_builders.specs.declared.array.MutableArray.{MutableArray}
 use Rattle.arrow_builders.specs.MutableArrays.{builder_slots}
 use Rattle.avro_schema.specs.declared.schema.AvroField.{AvroField}
-use Rattle.avro_grammar.specs.Skips.{Passed}
-use Rattle.avro_grammar.specs.Rows.{Pieces, no_pieces, total_kept, total_seen, total_hidden}
-use Rattle.avro_grammar.specs.ValidBlock.{kept}
+use Rattle.avro_schema.specs.Skips.{Passed}
+use Rattle.avro_schema.specs.Rows.{Pieces, no_pieces, total_kept, total_seen, total_hidden}
+use Rattle.avro_schema.specs.ValidBlock.{kept}
 use Rattle.avro_reference.specs.Read.{read, push_one}
 use Rattle.avro_reference.specs.Skip.{Bad, Negative, skip}
 use Rattle.avro_reference.specs.Block.{row, rows, rows_after, block, add_kept, add_skipped}

@@ -5,7 +5,7 @@ use Rattle.std.proofs.lemmas.Int.{to_z-of_z, ints}
 use Rattle.std.proofs.Common.{ℕ, zero, suc, negsuc, List, Bool, true, false, None, Result, refl, subst, arith, ◌<◌, ◌^◌, ltb}
 use lib.Signed.{lt_z}
 use lib.IntN.{neg_ℤ}
-use Rattle.arrow_types.specs.declared.slot.Slot.{Slot}
+use Rattle.arrow_core.specs.declared.slot.Slot.{Slot}
 use Rattle.avro_reference.specs.Prefix.{Reader}
 use Rattle.avro_reference.specs.Read.{items, block_items}
 use Rattle.avro_flat.specs.Decoding.{Gives}

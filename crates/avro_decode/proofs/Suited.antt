@@ -10,8 +10,8 @@ use Rattle.arrow_builders.specs.declared.large_list.DynMutableLargeListArray.{Dy
 use Rattle.arrow_builders.specs.declared.structs.DynMutableStructArray.{DynMutableStructArray}
 use Rattle.arrow_builders.proofs.Rows.{shape-record}
 use Rattle.arrow_builders.proofs.Sizes.{nulls-fit}
-use Rattle.arrow_types.specs.declared.physical.PhysicalType.TheVariants as physical
-use Rattle.arrow_types.specs.declared.physical.PrimitiveType.TheVariants as primitive
+use Rattle.arrow_core.specs.declared.physical.PhysicalType.TheVariants as physical
+use Rattle.arrow_core.specs.declared.physical.PrimitiveType.TheVariants as primitive
 use Rattle.std.specs.Prelude.{if◌then◌else◌}
 use Rattle.std.specs.List.{AllZip}
 use Rattle.arrow_array.specs.FixedLists.{list_size}
@@ -23,10 +23,10 @@ use Rattle.avro_schema.specs.declared.schema.FixedLogical.{FixedLogical}
 use Rattle.avro_schema.specs.declared.schema.Record.{Record as TheRecord, Record', out-Record, Row_of-AvroField, end_of-AvroField, more_of-AvroField, items-the_row-AvroField}
 use Rattle.avro_schema.specs.declared.schema.Schema.{Schema, Null, Boolean, Int, Long, Bytes, String, Enum, Array, Union, Record, Array', Union', Fixed, Row_of-Schema, end_of-Schema, more_of-Schema}
 use Rattle.avro_schema.specs.declared.schema.Schema.TheBlock.{shape-the_row-Schema-0, hidden-the_row-Schema-0, shape-the_row-Schema-1, hidden-the_row-Schema-1}
-use Rattle.avro_grammar.specs.Carried.{HasFields}
-use Rattle.avro_grammar.specs.Encodes.{is_null}
-use Rattle.avro_grammar.proofs.Basics.{null_told}
-use Rattle.avro_grammar.proofs.ByLists.{row_fields, fields_are}
+use Rattle.avro_schema.specs.Carried.{HasFields}
+use Rattle.avro_schema.specs.Encodes.{is_null}
+use Rattle.avro_schema.proofs.Basics.{null_told}
+use Rattle.avro_schema.proofs.ByLists.{row_fields, fields_are}
 use Rattle.avro_decode.specs.Masks.{mask, fixed_bounded, mask_fields, mask_record, mask_item, mask_members, bounded, later, content}
 use Rattle.avro_decode.specs.Growth.{mask_pair, masks, Fills, AllFill, Grows, HaveSpare}
 use Rattle.avro_decode.specs.Suits.{Suits, SuitsFields, SuitsRecord, SuitsItem, SuitsMembers, AllSuit}

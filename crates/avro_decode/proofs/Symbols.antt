@@ -1,8 +1,8 @@
 -- The values of builders' dictionaries are the symbols of the schemas that they suit.
 use Rattle.std.proofs.Common.{◌≡◌, ◌∙◌, Bool, Some, None, List, [], ◌∷◌, ◌++◌, map, Result, Ok, Err, IfOk, refl, sym, ap, subst, inl, inr}
 use Rattle.std.proofs.lemmas.List.{append-nil, map-append}
-use Rattle.arrow_types.specs.declared.slot.Slot.{Slot}
-use Rattle.arrow_types.specs.declared.physical.PhysicalType.TheVariants as physical
+use Rattle.arrow_core.specs.declared.slot.Slot.{Slot}
+use Rattle.arrow_core.specs.declared.physical.PhysicalType.TheVariants as physical
 use Rattle.arrow_array.specs.Arrays.{dictionaries_of}
 use Rattle.arrow_array.specs.declared.array.Array.{Array as AnyArray}
 use Rattle.arrow_builders.specs.MutableArrays.{builder_dictionaries, dictionaries_below}
@@ -12,8 +12,8 @@ use Rattle.arrow_builders.specs.declared.array.MutableArray.{Null as NullOf, Boo
 use Rattle.avro_schema.specs.declared.schema.AvroField.{AvroField}
 use Rattle.avro_schema.specs.declared.schema.Record.{Record as TheRecord, Record', Row_of-AvroField, end_of-AvroField, more_of-AvroField}
 use Rattle.avro_schema.specs.declared.schema.Schema.{Schema, Null, Boolean, Int, Long, Bytes, String, Enum, Record, Array', Union', Fixed, Row_of-Schema, end_of-Schema, more_of-Schema}
-use Rattle.avro_grammar.specs.Encodes.{IsNull}
-use Rattle.avro_grammar.specs.ValidBlock.{kept}
+use Rattle.avro_schema.specs.Encodes.{IsNull}
+use Rattle.avro_schema.specs.ValidBlock.{kept}
 use Rattle.avro_decode.specs.Suits.{Suits, SuitsFields, SuitsRecord, SuitsItem, SuitsMembers, AllSuit}
 use Rattle.avro_decode.specs.Symbols.{symbols_in, symbols_in_record, symbols_in_fields, symbols_in_item, symbols_in_members, kept_symbols, dictionary_values}
 

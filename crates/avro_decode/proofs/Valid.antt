@@ -3,13 +3,13 @@ use Rattle.std.proofs.Common.{◌≡◌, inl, inr, ℕ, Bool, List, length, refl
 use Rattle.arrow_core.specs.declared.error.Error.{Error}
 use Rattle.arrow_core.specs.declared.error.Error.TheVariants.{InvalidArgumentError, NotYetImplemented, ExternalFormat, OutOfSpec, Overflow, OutOfMemory}
 use Rattle.arrow_core.specs.declared.error.Reason.TheVariants as reason
-use Rattle.arrow_types.specs.declared.types.Field.{Field}
-use Rattle.arrow_types.specs.declared.slot.Slot.{Slot}
+use Rattle.arrow_core.specs.declared.types.Field.{Field}
+use Rattle.arrow_core.specs.declared.slot.Slot.{Slot}
 use Rattle.avro_schema.specs.declared.schema.AvroField.{AvroField}
-use Rattle.avro_grammar.specs.ValidBlock.{ValidBlock}
-use Rattle.avro_grammar.proofs.RowLaws.{rows_have, rows_exclude}
-use Rattle.avro_decode.specs.Columns.{AreColumns}
-use Rattle.avro_decode.specs.Refusals.{BelongTogether, FieldsRefused, AreCounted, BytesRefused, ValidBlocksAreRead}
+use Rattle.avro_schema.specs.ValidBlock.{ValidBlock}
+use Rattle.avro_schema.proofs.RowLaws.{rows_have, rows_exclude}
+use Rattle.avro_schema.specs.Columns.{AreColumns}
+use Rattle.avro_schema.specs.Refusals.{BelongTogether, FieldsRefused, AreCounted, BytesRefused, ValidBlocksAreRead}
 
 -- ---- what is decoded is valid
 

@@ -5,14 +5,14 @@ use Rattle.std.proofs.lemmas.List.{length-map, get_or-map, drop-set-lt}
 use Rattle.std.proofs.lemmas.List.FromFn.{get_or-map-range_with_len}
 use Rattle.std.proofs.Math.Seq.{drop-cons}
 use Rattle.arrow_core.specs.declared.error.Error.TheVariants.{OutOfMemory}
-use Rattle.arrow_types.specs.declared.slot.Slot.{Slot}
-use Rattle.arrow_types.specs.declared.types.Field.{Field}
+use Rattle.arrow_core.specs.declared.slot.Slot.{Slot}
+use Rattle.arrow_core.specs.declared.types.Field.{Field}
 use Rattle.arrow_array.specs.declared.array.Array.{Array}
 use Rattle.arrow_array.specs.Arrays.{array_slots}
 use Rattle.arrow_array.specs.Chunks.{AreSameLength}
 use Rattle.avro_schema.specs.declared.schema.AvroField.{AvroField}
-use Rattle.avro_grammar.specs.Rows.{Pieces, Rows, column, total_kept, total_seen, total_hidden}
-use Rattle.avro_grammar.specs.ValidBlock.{kept}
+use Rattle.avro_schema.specs.Rows.{Pieces, Rows, column, total_kept, total_seen, total_hidden}
+use Rattle.avro_schema.specs.ValidBlock.{kept}
 use Rattle.arrow_builders.specs.MutableArrays.{builder_slots}
 use Rattle.arrow_builders.specs.Shapes.{shape}
 use Rattle.arrow_builders.specs.declared.array.MutableArray.{MutableArray}
@@ -20,14 +20,14 @@ use Rattle.avro_decode.specs.Suits.{AllSuit}
 use Rattle.avro_decode.proofs.Fields.{suit_length, shapes_length}
 use Rattle.avro_reference.specs.Block.{block}
 use Rattle.avro_reference.proofs.Exact.{block_gives_rows, block_is_bad, block_is_negative}
-use Rattle.avro_decode.specs.Columns.{columns, AreColumns}
+use Rattle.avro_schema.specs.Columns.{columns, AreColumns}
 use Rattle.avro_decode.specs.Counting.{ShowsAtMost, CallsAtMost}
 use Rattle.avro_reference.specs.Costs.{Costs}
 use Rattle.avro_decode.specs.Decoding.{grown_by, BlockHasMemory, IsFault, AreWide}
 use Rattle.avro_decode.specs.Faults.{fault_error}
 use Rattle.avro_decode.specs.declared.fault.BlockFault.{BlockFault}
 use Rattle.avro_decode.specs.declared.fault.BlockFault.TheVariants.{Bytes, NegativeSize as BelowZero, Memory}
-use Rattle.avro_decode.specs.Refusals.{AreCounted, BytesRefused}
+use Rattle.avro_schema.specs.Refusals.{AreCounted, BytesRefused}
 use Rattle.avro_decode.proofs.Columns.{AreEmpty, grown_columns, length-grown_by}
 
 wide_same : (m n : ℕ) (rs : List (List Slot)) → m ≡ n → AreWide m rs → AreWide n rs

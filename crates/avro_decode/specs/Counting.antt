@@ -1,8 +1,8 @@
 -- What is asked of a cursor: how many bytes it shows, and how often it is called.
 use Rattle.std.specs.Prelude.{ℕ, ◌+◌, ◌-◌, ◌*◌, ◌≤◌, List, length, Bool}
-use Rattle.arrow_types.specs.declared.slot.Slot.{Slot}
+use Rattle.arrow_core.specs.declared.slot.Slot.{Slot}
 use Rattle.avro_schema.specs.declared.schema.AvroField.{AvroField}
-use Rattle.avro_grammar.specs.Rows.{Rows, total_kept, total_seen, total_hidden}
+use Rattle.avro_schema.specs.Rows.{Rows, total_kept, total_seen, total_hidden}
 
 -- In whichever pieces the bytes are n rows, no more bytes were shown than those of the kept ones and
 -- those of the others that must be looked at.

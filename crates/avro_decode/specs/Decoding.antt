@@ -1,12 +1,12 @@
 -- What a call of the decoder gives, in terms of a reading function on the bytes ahead; out of memory says nothing
 -- of the bytes. Contracts of private functions alone cite this file: what `deserialize` promises is told without it.
 use Rattle.std.specs.Prelude.{◌≡◌, ℕ, zero, suc, ◌+◌, ◌-◌, ℤ, pos, Bool, true, false, List, [], ◌∷◌, ◌++◌, length, map, Option, Some, None, Result, Ok, Err, if◌then◌else◌}
-use Rattle.arrow_types.specs.declared.slot.Slot.{Slot}
-use Rattle.arrow_types.specs.declared.slot.Slot.TheVariants as slot
+use Rattle.arrow_core.specs.declared.slot.Slot.{Slot}
+use Rattle.arrow_core.specs.declared.slot.Slot.TheVariants as slot
 use Rattle.avro_schema.specs.declared.schema.Schema.{Schema}
-use Rattle.avro_grammar.specs.Skips.{Passed}
-use Rattle.avro_grammar.specs.Rows.{Pieces, total_kept, total_seen, total_hidden}
-use Rattle.avro_grammar.specs.AndThen.{◌>>=◌}
+use Rattle.avro_schema.specs.Skips.{Passed}
+use Rattle.avro_schema.specs.Rows.{Pieces, total_kept, total_seen, total_hidden}
+use Rattle.avro_schema.specs.AndThen.{◌>>=◌}
 use Rattle.avro_reference.specs.Prefix.{Reader, number_at, is_count}
 use Rattle.avro_reference.specs.Read.{items, blocks, read}
 use Rattle.avro_reference.specs.Skip.{Fault, Bad, Negative}

@@ -1,11 +1,11 @@
 -- How the nodes of builders grow while they are filled, and what else of builders the decoder goes by. Contracts of
 -- private functions alone cite this file.
 use Rattle.std.specs.Prelude.{◌≡◌, ℕ, zero, suc, ◌+◌, ◌≤◌, ◌⊎◌, Bool, true, false, List, [], ◌∷◌, ◌++◌, length, Option, None, Some, ◌&&◌, if◌then◌else◌}
-use Rattle.arrow_types.specs.Numbers.{greatest_offset}
-use Rattle.arrow_types.specs.declared.types.IntegerType.TheVariants as integer
-use Rattle.arrow_types.specs.declared.physical.PhysicalType.{PhysicalType}
-use Rattle.arrow_types.specs.declared.physical.PhysicalType.TheVariants as physical
-use Rattle.arrow_types.specs.declared.physical.PrimitiveType.TheVariants as primitive
+use Rattle.arrow_core.specs.Numbers.{greatest_offset}
+use Rattle.arrow_core.specs.declared.types.IntegerType.TheVariants as integer
+use Rattle.arrow_core.specs.declared.physical.PhysicalType.{PhysicalType}
+use Rattle.arrow_core.specs.declared.physical.PhysicalType.TheVariants as physical
+use Rattle.arrow_core.specs.declared.physical.PrimitiveType.TheVariants as primitive
 use Rattle.arrow_builders.specs.MutableArrays.{builder_slots, nodes}
 use Rattle.arrow_builders.specs.Nodes.{Node, Takes, HasSpare}
 use Rattle.arrow_builders.specs.Shapes.{Shape, flat, lists, fixed_lists, records, field, shape}
@@ -15,8 +15,8 @@ use Rattle.avro_schema.specs.declared.schema.AvroField.{AvroField}
 use Rattle.avro_schema.specs.declared.schema.FixedLogical.{FixedLogical}
 use Rattle.avro_schema.specs.declared.schema.FixedLogical.TheVariants as fixed_logical
 use Rattle.avro_schema.specs.declared.schema.Schema.{Schema, Boolean, Int, Long, Bytes, String, Fixed, Record, Enum, Array'}
-use Rattle.avro_grammar.specs.Carried.{IsNoUnion}
-use Rattle.avro_grammar.specs.Encodes.{IsNull, is_null}
+use Rattle.avro_schema.specs.Carried.{IsNoUnion}
+use Rattle.avro_schema.specs.Encodes.{IsNull, is_null}
 use Rattle.avro_decode.specs.Masks.{mask, bounded, later, content, total}
 use Rattle.avro_decode.specs.Suits.{Suits}
 

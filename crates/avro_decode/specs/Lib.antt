@@ -1,5 +1,4 @@
 pub mod Capacity
-pub mod Columns
 pub mod Counting
 pub mod Decoder
 pub mod Decoding
@@ -9,7 +8,6 @@ pub mod Keeping
 pub mod Making
 pub mod Masks
 pub mod Plans
-pub mod Refusals
 pub mod Steps
 pub mod Suits
 pub mod Symbols

@@ -1,9 +1,9 @@
 -- What is asked of the schemas of which builders are made, and what is made. Contracts of private functions alone
 -- cite this file.
 use Rattle.std.specs.Prelude.{◌≡◌, ◌≤◌, List, [], ◌∷◌, All}
-use Rattle.arrow_types.specs.declared.types.Field.{Field}
-use Rattle.arrow_types.specs.declared.types.DataType.{DataType, Boolean, Int32, Int64, Date32, Time32, Time64, Timestamp, Interval, Utf8, LargeUtf8, Binary, LargeBinary, FixedSizeBinary, Decimal}
-use Rattle.arrow_types.specs.declared.types.IntervalUnit.TheVariants as interval
+use Rattle.arrow_core.specs.declared.types.Field.{Field}
+use Rattle.arrow_core.specs.declared.types.DataType.{DataType, Boolean, Int32, Int64, Date32, Time32, Time64, Timestamp, Interval, Utf8, LargeUtf8, Binary, LargeBinary, FixedSizeBinary, Decimal}
+use Rattle.arrow_core.specs.declared.types.IntervalUnit.TheVariants as interval
 use Rattle.arrow_builders.specs.Fits.{TypesFit}
 use Rattle.arrow_builders.specs.MutableArrays.{builder_type, nodes}
 use Rattle.arrow_builders.specs.Nodes.{IsEmpty}
@@ -11,8 +11,8 @@ use Rattle.arrow_builders.specs.Shapes.{shape}
 use Rattle.arrow_builders.specs.declared.array.MutableArray.{MutableArray}
 use Rattle.avro_schema.specs.declared.schema.AvroField.{AvroField}
 use Rattle.avro_schema.specs.declared.schema.Schema.{Schema}
-use Rattle.avro_grammar.specs.Carried.{Carried}
-use Rattle.avro_grammar.specs.ValidBlock.{HasFloat, EnumsFit}
+use Rattle.avro_schema.specs.Carried.{Carried}
+use Rattle.avro_schema.specs.ValidBlock.{HasFloat, EnumsFit}
 use Rattle.avro_decode.specs.Suits.{Suits}
 
 -- the values of the schema can be kept

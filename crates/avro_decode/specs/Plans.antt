@@ -4,8 +4,8 @@ use Rattle.arrow_builders.specs.Shapes.{shape}
 use Rattle.arrow_builders.specs.Tight.{IsTight}
 use Rattle.arrow_builders.specs.declared.array.MutableArray.{MutableArray}
 use Rattle.avro_schema.specs.declared.schema.AvroField.{AvroField}
-use Rattle.avro_grammar.specs.Carried.{CarriedList}
-use Rattle.avro_grammar.specs.ValidBlock.{kept}
+use Rattle.avro_schema.specs.Carried.{CarriedList}
+use Rattle.avro_schema.specs.ValidBlock.{kept}
 use Rattle.avro_reference.specs.Costs.{passed, Moves}
 use Rattle.avro_decode.specs.declared.fault.BlockFault.{BlockFault}
 use Rattle.avro_decode.specs.declared.plan.Plan.{Plan}

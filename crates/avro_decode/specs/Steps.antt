@@ -6,7 +6,7 @@ use Rattle.avro_schema.specs.declared.schema.IntLogical.{IntLogical}
 use Rattle.avro_schema.specs.declared.schema.LongLogical.{LongLogical}
 use Rattle.avro_schema.specs.declared.schema.Schema.{Schema, Null, Boolean, Int, Long, String, Union', Row_of-Schema, end_of-Schema, more_of-Schema}
 use Rattle.avro_schema.specs.declared.schema.StringLogical.{StringLogical}
-use Rattle.avro_grammar.specs.Encodes.{IsNull}
+use Rattle.avro_schema.specs.Encodes.{IsNull}
 use Rattle.avro_decode.specs.declared.steps.Kind.{Kind}
 use Rattle.avro_decode.specs.declared.steps.Kind.TheVariants as kind
 use Rattle.avro_decode.specs.declared.steps.Step.{Step}

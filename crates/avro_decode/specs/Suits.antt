@@ -2,10 +2,10 @@
 -- the values of a dictionary; data types do not count, but for the size of fixed-size binary values, and that those of
 -- strings and binary values are of the builder's kind.
 use Rattle.std.specs.Prelude.{◌≡◌, List, [], ◌∷◌, ◌⊎◌, map, Option, None, Some}
-use Rattle.arrow_types.specs.declared.slot.Slot.TheVariants as slot
-use Rattle.arrow_types.specs.declared.types.DataType.TheVariants as types
-use Rattle.arrow_types.specs.declared.physical.PhysicalType.TheVariants as physical
-use Rattle.arrow_types.specs.declared.physical.PrimitiveType.TheVariants as primitive
+use Rattle.arrow_core.specs.declared.slot.Slot.TheVariants as slot
+use Rattle.arrow_core.specs.declared.types.DataType.TheVariants as types
+use Rattle.arrow_core.specs.declared.physical.PhysicalType.TheVariants as physical
+use Rattle.arrow_core.specs.declared.physical.PrimitiveType.TheVariants as primitive
 use Rattle.arrow_array.specs.Parts.{byte_width}
 use Rattle.arrow_builders.specs.Shapes.{Shape, flat, dictionary, lists, records, no_field, field, shape as shape_of}
 use Rattle.arrow_builders.specs.declared.array.MutableArray.{MutableArray}
@@ -14,9 +14,9 @@ use Rattle.avro_schema.specs.declared.schema.FixedLogical.{FixedLogical}
 use Rattle.avro_schema.specs.declared.schema.FixedLogical.TheVariants as fixed_logical
 use Rattle.avro_schema.specs.declared.schema.Schema.{Schema, Boolean, Int, Long, Bytes, String, Record, Enum, Fixed, Array', Union', Row_of-Schema, end_of-Schema, more_of-Schema}
 use Rattle.avro_schema.specs.declared.schema.Record.{Record as TheRecord, Record', Row_of-AvroField, end_of-AvroField, more_of-AvroField}
-use Rattle.avro_grammar.specs.Carried.{IsNoUnion, IsFixedSize, HasFields}
-use Rattle.avro_grammar.specs.Encodes.{IsNull}
-use Rattle.avro_grammar.specs.ValidBlock.{SymbolsFit}
+use Rattle.avro_schema.specs.Carried.{IsNoUnion, IsFixedSize, HasFields}
+use Rattle.avro_schema.specs.Encodes.{IsNull}
+use Rattle.avro_schema.specs.ValidBlock.{SymbolsFit}
 
 abbrev pub IsFixedDecimal : Option FixedLogical → Type 0
 IsFixedDecimal (Some (fixed_logical.Decimal precision scale)) = Unit {0}

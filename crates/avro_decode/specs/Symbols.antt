@@ -1,13 +1,13 @@
 -- The dictionaries of a block's columns: the values of each are the symbols of its enum, in the schema's order.
 use Rattle.std.specs.Prelude.{List, [], ◌∷◌, ◌++◌, map, Bool}
-use Rattle.arrow_types.specs.declared.slot.Slot.{Slot}
-use Rattle.arrow_types.specs.declared.slot.Slot.TheVariants as slot
+use Rattle.arrow_core.specs.declared.slot.Slot.{Slot}
+use Rattle.arrow_core.specs.declared.slot.Slot.TheVariants as slot
 use Rattle.arrow_array.specs.Arrays.{dictionaries_of}
 use Rattle.arrow_array.specs.declared.array.Array.{Array}
 use Rattle.avro_schema.specs.declared.schema.AvroField.{AvroField}
 use Rattle.avro_schema.specs.declared.schema.Schema.{Schema, Enum, Record, Array', Union', Row_of-Schema, end_of-Schema, more_of-Schema}
 use Rattle.avro_schema.specs.declared.schema.Record.{Record as TheRecord, Record', Row_of-AvroField, end_of-AvroField, more_of-AvroField}
-use Rattle.avro_grammar.specs.ValidBlock.{kept}
+use Rattle.avro_schema.specs.ValidBlock.{kept}
 
 -- the symbols of each enum of a schema, at every depth, in the order of the fields (Avro 1.11, "Enums")
 abbrev mutual

@@ -1,11 +1,11 @@
 //! What is asked of the fields of a record before any row is read or skipped.
 
 ghost use Rattle.std.specs.Prelude.{MatchResult};
-ghost use Rattle.avro_decode.specs.Refusals.{AreCarried, AreNotCarried};
+ghost use Rattle.avro_schema.specs.Refusals.{AreCarried, AreNotCarried};
 
 use arrow_core::{Error, Reason, Result};
-use avro_infer::all_carried;
 use avro_schema::AvroField;
+use avro_types::all_carried;
 
 /// Ok where there is a field, and all are carried.
 ///

@@ -1,8 +1,8 @@
 //! Kept values, from the start of the bytes into builders.
 
 ghost use Rattle.std.specs.Prelude.{◌+◌, ◌≤◌, ◌<◌, length, ◌≡◌, ◌≢◌, ◌++◌, ◌∷◌, [], map, drop, true, false, pos, OnOk, IfErr};
-ghost use Rattle.arrow_types.specs.Numbers.{greatest_offset};
-ghost use Rattle.arrow_types.specs.declared.slot.Slot.TheVariants.{List as ListSlot};
+ghost use Rattle.arrow_core.specs.Numbers.{greatest_offset};
+ghost use Rattle.arrow_core.specs.declared.slot.Slot.TheVariants.{List as ListSlot};
 ghost use Rattle.arrow_builders.specs.Nested.{items_of, lists_node};
 ghost use Rattle.arrow_builders.specs.Nodes.{Takes};
 ghost use Rattle.arrow_builders.specs.MutableArrays.{builder_kind, builder_slots};
@@ -10,7 +10,7 @@ ghost use Rattle.arrow_builders.specs.Shapes.{shape};
 ghost use Rattle.arrow_builders.specs.declared.array.MutableArray.{List, LargeList, Struct};
 ghost use Rattle.avro_schema.specs.declared.schema.Schema.{Array};
 ghost use Rattle.avro_reference.specs.Read.{push_one, items, block_items, read};
-ghost use Rattle.avro_grammar.specs.Carried.{IsNoUnion};
+ghost use Rattle.avro_schema.specs.Carried.{IsNoUnion};
 ghost use Rattle.avro_reference.specs.Listed.{read_union_of, read_fields_of, read_record_of};
 ghost use Rattle.avro_reference.specs.Costs.{passed, Moves, CostsKept};
 ghost use Rattle.avro_flat.specs.Decoding.{Gives, HasMemory};
@@ -28,9 +28,9 @@ use arrow_builders::{
     DynMutableLargeListArray, DynMutableListArray, DynMutableStructArray, MutableArray,
 };
 use avro_flat::{DecodeFault, pushed};
-use avro_infer::is_null;
 use avro_reference::Ahead;
 use avro_schema::{AvroField, AvroSchema};
+use avro_types::is_null;
 
 /// Reads one value of a schema into one more slot.
 // It is inlined wherever a value is read, so that a flat one takes no call into the cycle. What a

@@ -4,18 +4,18 @@ ghost use Rattle.std.specs.Prelude.{◌≡◌, map, All, OnOk, IfOk, IfErr};
 ghost use Rattle.arrow_core.specs.declared.error.Error.TheVariants.{OutOfMemory};
 ghost use Rattle.arrow_array.specs.Arrays.{array_type, array_slots};
 ghost use Rattle.arrow_builders.specs.NormalizedArrays.{IsNormalized};
-ghost use Rattle.avro_grammar.specs.ValidBlock.{ValidBlock};
-ghost use Rattle.avro_decode.specs.Columns.{AreColumns, kept_types};
-ghost use Rattle.avro_decode.specs.Decoder.{projected, CanBeDecoded, AreReady, ProjectionRefused};
-ghost use Rattle.avro_decode.specs.Refusals.{BelongTogether, AreCounted, FieldsRefused, BlockRefused};
+ghost use Rattle.avro_schema.specs.ValidBlock.{ValidBlock};
+ghost use Rattle.avro_schema.specs.Columns.{AreColumns, kept_types};
+ghost use Rattle.avro_schema.specs.Projected.{projected, CanBeDecoded, ProjectionRefused};
+ghost use Rattle.avro_decode.specs.Decoder.{AreReady};
+ghost use Rattle.avro_schema.specs.Refusals.{BelongTogether, AreCounted, FieldsRefused, BlockRefused};
 ghost use Rattle.avro_decode.specs.Symbols.{dictionary_values, kept_symbols};
 
 use crate::blocks::decode_into;
 use crate::prepare::{check_types, make_builders};
 use arrow_array::Chunk;
 use arrow_builders::MutableArray;
-use arrow_core::{Items, Result};
-use arrow_types::Field;
+use arrow_core::{Field, Items, Result};
 use avro_schema::{AvroField, Block};
 use std::alloc::Global;
 use std::marker::Model;
@@ -33,7 +33,8 @@ pub struct Decoder {
 
 impl Model for Decoder {
     ghost use Rattle.std.specs.Option.{option_map};
-    ghost use Rattle.avro_decode.specs.Decoder.{Projected, projected, projected_code, HoldsBuilders};
+    ghost use Rattle.avro_schema.specs.Projected.{Projected, projected, projected_code};
+    ghost use Rattle.avro_decode.specs.Decoder.{HoldsBuilders};
 
     ghost Value = { Projected };
 

@@ -4,8 +4,8 @@ ghost use Rattle.std.specs.Prelude.{length, ◌≡◌, ◌∷◌, [], true, fals
 ghost use Rattle.arrow_builders.specs.MutableArrays.{builder_slots, builder_kind};
 ghost use Rattle.arrow_builders.specs.Shapes.{shape};
 ghost use Rattle.avro_schema.specs.declared.schema.Schema.{Fixed as FixedSchema};
-ghost use Rattle.avro_grammar.specs.Carried.{IsFixedSize};
-ghost use Rattle.avro_infer.specs.Inference.{HasNoParts};
+ghost use Rattle.avro_schema.specs.Carried.{IsFixedSize};
+ghost use Rattle.avro_types.specs.Inference.{HasNoParts};
 ghost use Rattle.avro_reference.specs.Read.{push_one, read, fixed_at};
 ghost use Rattle.avro_flat.specs.Decoding.{Gives};
 ghost use Rattle.avro_decode.specs.Growth.{AllOffsetsReach, HasFlatKind, fixed_kind};

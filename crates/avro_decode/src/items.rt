@@ -6,14 +6,14 @@ ghost use Rattle.arrow_builders.specs.MutableArrays.{builder_slots, builder_kind
 ghost use Rattle.arrow_builders.specs.Shapes.{shape};
 ghost use Rattle.arrow_builders.specs.Tight.{IsTight};
 ghost use Rattle.avro_schema.specs.declared.schema.Schema.{Fixed as FixedSchema};
-ghost use Rattle.avro_grammar.specs.Carried.{IsFixedSize};
+ghost use Rattle.avro_schema.specs.Carried.{IsFixedSize};
 ghost use Rattle.avro_reference.specs.Read.{items, read, fixed_at};
 ghost use Rattle.avro_flat.specs.Decoding.{Gives};
 ghost use Rattle.avro_decode.specs.Growth.{AllOffsetsReach, HasFlatKind, fixed_kind};
 ghost use Rattle.avro_decode.specs.Keeping.{Keeps};
 ghost use Rattle.avro_decode.specs.Masks.{mask};
 ghost use Rattle.avro_decode.specs.Suits.{Suits};
-ghost use Rattle.avro_infer.specs.Inference.{HasNoParts};
+ghost use Rattle.avro_types.specs.Inference.{HasNoParts};
 
 use arrow_builders::MutableArray;
 use avro_flat::{

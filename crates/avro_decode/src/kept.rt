@@ -1,11 +1,11 @@
 //! What is asked of the kept fields alone, and of their schemas.
 
 ghost use Rattle.std.specs.Prelude.{◌≡◌, ◌≤◌, ◌⊎◌, ◌↔◌, length, true, All, IsTrue};
-ghost use Rattle.avro_grammar.specs.ValidBlock.{kept, small_limit, IsSmall, KeepNoFloat, KeptEnumsFit};
+ghost use Rattle.avro_schema.specs.ValidBlock.{kept, small_limit, IsSmall, KeepNoFloat, KeptEnumsFit};
 
-use arrow_types::Field;
-use avro_infer::{enums_fit, has_float, is_small};
+use arrow_core::Field;
 use avro_schema::AvroField;
+use avro_types::{enums_fit, has_float, is_small};
 
 /// The most bytes that a block may have where a kept field's type holds offsets of 32 bits:
 /// 2^31 - 1, the greatest such offset.

@@ -1,6 +1,6 @@
 //! Laws of the decoder over whole calls.
 
-ghost use Rattle.avro_decode.specs.Refusals.{ValidBlocksAreRead};
+ghost use Rattle.avro_schema.specs.Refusals.{ValidBlocksAreRead};
 ghost use Rattle.avro_decode.specs.Capacity.{ReservedCapacityStays};
 
 /// `deserialize` refuses a valid block with `OutOfMemory` alone: none of its other errors has its

@@ -2,18 +2,18 @@
 
 ghost use Rattle.std.specs.Prelude.{◌≡◌, ◌≤◌, [], length, map, sum_by, true, All, IfOk};
 ghost use Rattle.arrow_core.specs.Errors.{OnlyOutOfMemory};
-ghost use Rattle.arrow_types.specs.declared.physical.PhysicalType.TheVariants.{List as ListKind, LargeList as LargeListKind};
-ghost use Rattle.arrow_types.specs.declared.slot.Slot.TheVariants.{String as StringSlot};
-ghost use Rattle.arrow_types.specs.Layouts.{physical_type};
+ghost use Rattle.arrow_core.specs.declared.physical.PhysicalType.TheVariants.{List as ListKind, LargeList as LargeListKind};
+ghost use Rattle.arrow_core.specs.declared.slot.Slot.TheVariants.{String as StringSlot};
+ghost use Rattle.arrow_core.specs.Layouts.{physical_type};
 ghost use Rattle.arrow_array.specs.Parts.{IsPlain};
 ghost use Rattle.arrow_builders.specs.Children.{fields_of};
 ghost use Rattle.arrow_builders.specs.MutableArrays.{nodes};
 ghost use Rattle.arrow_builders.specs.Nodes.{IsEmpty};
 ghost use Rattle.arrow_builders.specs.Shapes.{shape, flat, dictionary, lists, records};
 ghost use Rattle.avro_schema.specs.declared.schema.Schema.{Union};
-ghost use Rattle.avro_grammar.specs.Types.{HasType, symbol_type};
-ghost use Rattle.avro_grammar.specs.ValidBlock.{small_limit};
-ghost use Rattle.avro_infer.specs.Columns.{HasColumnTypes};
+ghost use Rattle.avro_schema.specs.Types.{HasType, symbol_type};
+ghost use Rattle.avro_schema.specs.ValidBlock.{small_limit};
+ghost use Rattle.avro_types.specs.Columns.{HasColumnTypes};
 ghost use Rattle.avro_decode.specs.Making.{CanBeKept, IsNewBuilder, AreNewBuilders, IsFlatType};
 
 use arrow_array::Utf8Array;
@@ -22,10 +22,9 @@ use arrow_builders::{
     FixedItemsUtf8Dictionary, MutableArray, MutableBinaryArray, MutableBooleanArray,
     MutableFixedSizeBinaryArray, MutablePrimitiveArray, MutableUtf8Array,
 };
-use arrow_core::{Error, Result, Text};
-use arrow_types::{DataType, Field, IntervalUnit, NativeType};
-use avro_infer::is_null;
+use arrow_core::{DataType, Error, Field, IntervalUnit, NativeType, Result, Text};
 use avro_schema::{AvroField, AvroSchema};
+use avro_types::is_null;
 use std::alloc::Global;
 
 /// An empty builder for the values of a schema, of its data type, and of its children's types.

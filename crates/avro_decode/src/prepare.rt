@@ -7,22 +7,21 @@ ghost use Rattle.arrow_builders.specs.MutableArrays.{builder_type};
 ghost use Rattle.arrow_builders.specs.Nodes.{IsEmpty};
 ghost use Rattle.arrow_builders.specs.Shapes.{shape};
 ghost use Rattle.arrow_builders.specs.Tight.{IsTight};
-ghost use Rattle.avro_grammar.specs.ValidBlock.{kept};
+ghost use Rattle.avro_schema.specs.ValidBlock.{kept};
 ghost use Rattle.avro_decode.specs.Capacity.{AtNodes};
-ghost use Rattle.avro_decode.specs.Columns.{kept_types};
-ghost use Rattle.avro_decode.specs.Decoder.{projected, CanBeDecoded, ProjectionRefused};
+ghost use Rattle.avro_schema.specs.Columns.{kept_types};
+ghost use Rattle.avro_schema.specs.Projected.{projected, CanBeDecoded, ProjectionRefused};
 ghost use Rattle.avro_decode.specs.Making.{AreNewBuilders};
-ghost use Rattle.avro_decode.specs.Refusals.{BelongTogether, FieldsRefused};
+ghost use Rattle.avro_schema.specs.Refusals.{BelongTogether, FieldsRefused};
 ghost use Rattle.avro_decode.specs.Suits.{AllSuit};
 
 use crate::carried::check_carried;
 use crate::kept::{keep_no_float, kept_enums_fit};
 use crate::make::make_builder;
 use arrow_builders::MutableArray;
-use arrow_core::{Error, Reason, Result};
-use arrow_types::Field;
-use avro_infer::all_fit;
+use arrow_core::{Error, Field, Reason, Result};
 use avro_schema::AvroField;
+use avro_types::all_fit;
 use std::alloc::Global;
 
 /// Ok where fields, Avro fields and projection belong together, the symbols of kept enums aside;

@@ -4,7 +4,7 @@ ghost use Rattle.std.specs.Prelude.{◌≡◌, ◌≤◌, length, map, true, fal
 ghost use Rattle.arrow_builders.specs.MutableArrays.{builder_slots};
 ghost use Rattle.arrow_builders.specs.Shapes.{shape};
 ghost use Rattle.arrow_builders.specs.Tight.{IsTight};
-ghost use Rattle.avro_grammar.specs.Carried.{Carried};
+ghost use Rattle.avro_schema.specs.Carried.{Carried};
 ghost use Rattle.avro_reference.specs.Read.{push_one, items, read};
 ghost use Rattle.avro_reference.specs.Skip.{skip};
 ghost use Rattle.avro_reference.specs.Block.{row, rows as rows_at, block};

@@ -2,7 +2,7 @@
 
 ghost use Rattle.std.specs.Prelude.{◌≡◌, ◌≤◌, ◌+◌, ◌++◌, ◌∷◌, [], length, true, false, IfErr, OnOk};
 ghost use Rattle.std.specs.List.{AllZip};
-ghost use Rattle.arrow_types.specs.declared.slot.Slot.TheVariants.{Null as NullSlot};
+ghost use Rattle.arrow_core.specs.declared.slot.Slot.TheVariants.{Null as NullSlot};
 ghost use Rattle.arrow_builders.specs.MutableArrays.{builder_kind, builder_slots, nodes};
 ghost use Rattle.arrow_builders.specs.Shapes.{shape, nulls_at, AllTake, FitsIn};
 ghost use Rattle.arrow_builders.specs.Tight.{IsTight};
@@ -20,9 +20,9 @@ use crate::decode::{decode_value, is_null_at};
 use crate::fault::BlockFault;
 use arrow_builders::MutableArray;
 use avro_flat::{DecodeFault, decode_boolean, decode_int, decode_long, decode_string, pushed};
-use avro_infer::is_null;
 use avro_reference::Ahead;
 use avro_schema::{AvroField, AvroSchema};
+use avro_types::is_null;
 
 /// For how many fields there are steps. Wider rows are read by their schemas.
 pub(crate) const MOST_STEPS: usize = 64;

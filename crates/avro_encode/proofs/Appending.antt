@@ -3,10 +3,10 @@ use Rattle.std.proofs.Common.{◌≡◌, ℕ, zero, suc, ◌+◌, ◌<◌, ◌�
 use Rattle.std.specs.List.{AllByRecursion}
 use Rattle.std.proofs.lemmas.Grind.{flat_map-append}
 use Rattle.std.proofs.lemmas.List.{append-nil}
-use Rattle.arrow_types.specs.declared.slot.Slot.{Slot}
-use Rattle.arrow_types.specs.declared.slot.Slot.TheVariants as slot
+use Rattle.arrow_core.specs.declared.slot.Slot.{Slot}
+use Rattle.arrow_core.specs.declared.slot.Slot.TheVariants as slot
 use Rattle.arrow_array.specs.declared.array.Array.{Array as AnArray}
-use Rattle.arrow_types.specs.declared.types.DataType.{size-DataType}
+use Rattle.arrow_core.specs.declared.types.DataType.{size-DataType}
 use Rattle.arrow_array.specs.Depths.{children_depth}
 use Rattle.arrow_array.specs.Arrays.{array_type, array_slots}
 use Rattle.arrow_array.specs.Slots.{slot_at}
@@ -23,15 +23,15 @@ use Rattle.std.specs.Prelude.{Bool, true, false, cond, if◌then◌else◌, IsTr
 use Rattle.std.proofs.Common.{inl, inr}
 use Rattle.std.proofs.lemmas.Bool.{false≢true}
 use Rattle.avro_container.specs.Shortest.{shortest}
-use Rattle.avro_grammar.specs.Encodes.{IsNull, is_null}
+use Rattle.avro_schema.specs.Encodes.{IsNull, is_null}
 use Rattle.std.proofs.Common.{length-take, length-drop}
-use Rattle.arrow_types.specs.declared.types.DataType.{DataType}
-use Rattle.arrow_types.specs.Layouts.{physical_type}
+use Rattle.arrow_core.specs.declared.types.DataType.{DataType}
+use Rattle.arrow_core.specs.Layouts.{physical_type}
 use Rattle.arrow_array.specs.Kinds.{array_kind}
 use Rattle.arrow_array.specs.Lists.{IsListOf as IsListOfType}
 use Rattle.arrow_array.specs.Slots.{is_held}
 use Rattle.arrow_array.specs.Structs.{IsStructOf, record_at}
-use Rattle.avro_grammar.specs.Carried.{IsNoUnion}
+use Rattle.avro_schema.specs.Carried.{IsNoUnion}
 use Rattle.avro_encode.specs.Flat.{FitsFlat, HasNoParts, IsFlatKind, IsListKind, IsStructKind, flat_plain}
 use Rattle.avro_encode.specs.Listed.{PairsListOf, PairsMemberTypeOf, PairsStructOf, PairsTypesOf}
 use Rattle.avro_encode.specs.PairTypes.{PairsType}

@@ -4,13 +4,13 @@ use Rattle.std.specs.List.{All, concat}
 use Rattle.std.specs.Prelude.{if◌then◌else◌}
 use Rattle.std.proofs.lemmas.Bool.{false≢true}
 use Rattle.std.proofs.lemmas.List.{append-nil}
-use Rattle.arrow_types.specs.declared.physical.PhysicalType.{PhysicalType}
-use Rattle.arrow_types.specs.declared.physical.PhysicalType.TheVariants as physical
-use Rattle.arrow_types.specs.declared.physical.PrimitiveType.TheVariants as primitive
-use Rattle.arrow_types.specs.declared.slot.Slot.{Slot}
-use Rattle.arrow_types.specs.declared.slot.Slot.TheVariants as slot
-use Rattle.arrow_types.specs.declared.types.DataType.{DataType}
-use Rattle.arrow_types.specs.Layouts.{physical_type}
+use Rattle.arrow_core.specs.declared.physical.PhysicalType.{PhysicalType}
+use Rattle.arrow_core.specs.declared.physical.PhysicalType.TheVariants as physical
+use Rattle.arrow_core.specs.declared.physical.PrimitiveType.TheVariants as primitive
+use Rattle.arrow_core.specs.declared.slot.Slot.{Slot}
+use Rattle.arrow_core.specs.declared.slot.Slot.TheVariants as slot
+use Rattle.arrow_core.specs.declared.types.DataType.{DataType}
+use Rattle.arrow_core.specs.Layouts.{physical_type}
 use Rattle.arrow_array.specs.declared.array.Array.{Array as AnArray}
 use Rattle.arrow_array.specs.Arrays.{array_slots, array_type}
 use Rattle.arrow_array.specs.Kinds.{array_kind}
@@ -20,8 +20,8 @@ use Rattle.avro_schema.specs.declared.schema.BytesLogical.TheVariants as bytes_l
 use Rattle.avro_schema.specs.declared.schema.FixedLogical.{FixedLogical}
 use Rattle.avro_schema.specs.declared.schema.FixedLogical.TheVariants as fixed_logical
 use Rattle.avro_schema.specs.declared.schema.Schema.{Schema, Null, Boolean, Int, Long, Float, Double, Bytes, String, Record, Enum, Array', Map', Union', Fixed}
-use Rattle.avro_grammar.specs.Carried.{IsNoUnion}
-use Rattle.avro_grammar.specs.Types.{IsString}
+use Rattle.avro_schema.specs.Carried.{IsNoUnion}
+use Rattle.avro_schema.specs.Types.{IsString}
 use Rattle.avro_encode.specs.Columns.{FitColumn, FitsColumn, column_encoding, column_slots, flat_kind}
 use Rattle.avro_encode.specs.Flat.{FitsFlat, HasNoParts, IsFlatKind, flat_plain}
 use Rattle.avro_encode.specs.Listed.{index_byte}

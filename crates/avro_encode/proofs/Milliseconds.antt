@@ -5,9 +5,9 @@ use Rattle.std.specs.Int.{w32, byte_at, cast_unsigned, from_le_bytes, to_le_byte
 use Rattle.std.proofs.lemmas.Nat.{from_le_bytes-to_le_bytes_4}
 use Rattle.std.proofs.lemmas.Int.{ints}
 use Rattle.std.proofs.lemmas.Bool.{lt-ltb, le-ltb}
-use Rattle.arrow_types.specs.declared.slot.Slot.{Slot}
-use Rattle.arrow_types.specs.declared.slot.Slot.TheVariants as slot
-use Rattle.avro_grammar.specs.Encodes.{IsInt, little_endian, signed_32, duration}
+use Rattle.arrow_core.specs.declared.slot.Slot.{Slot}
+use Rattle.arrow_core.specs.declared.slot.Slot.TheVariants as slot
+use Rattle.avro_schema.specs.Encodes.{IsInt, little_endian, signed_32, duration}
 use Rattle.avro_encode.specs.Plain.{four_bytes, milliseconds, plain_duration}
 
 abbrev pub duration_parts : ℤ → ℤ → ℤ → List Slot

@@ -3,9 +3,9 @@ use Rattle.std.proofs.lemmas.Int.{ints}
 use Rattle.std.proofs.Common.{◌≡◌, ℕ, suc, ◌^◌, ◌<◌, true, false, ℤ, pos, negsuc, Option, Some, None, List, [], ◌∷◌, ◌++◌, length, flat_map, refl, sym, ap, subst, arith, ◌⊎◌, inl, inr}
 use Rattle.std.specs.List.{AllByRecursion}
 use Rattle.std.proofs.lemmas.List.{append-nil}
-use Rattle.arrow_types.specs.declared.slot.Slot.{Slot}
-use Rattle.arrow_types.specs.declared.slot.Slot.TheVariants as slot
-use Rattle.arrow_types.specs.declared.slot.Slot.TheViews.{outs-List, outs-Struct}
+use Rattle.arrow_core.specs.declared.slot.Slot.{Slot}
+use Rattle.arrow_core.specs.declared.slot.Slot.TheVariants as slot
+use Rattle.arrow_core.specs.declared.slot.Slot.TheViews.{outs-List, outs-Struct}
 use Rattle.avro_schema.specs.declared.schema.Schema.{Schema, Null, Boolean, Int, Long, Float, Double, Bytes, String, Record, Enum, Array', Map', Union', Fixed, Row_of-Schema, end_of-Schema, more_of-Schema}
 use Rattle.avro_schema.specs.declared.schema.Record.{Record as TheRecord, Record', Row_of-AvroField, end_of-AvroField, more_of-AvroField}
 use Rattle.avro_schema.specs.declared.schema.BytesLogical.{BytesLogical}
@@ -14,10 +14,10 @@ use Rattle.avro_schema.specs.declared.schema.FixedLogical.{FixedLogical}
 use Rattle.avro_schema.specs.declared.schema.FixedLogical.TheVariants as fixed_logical
 use Rattle.avro_schema.specs.Number.{Number}
 use Rattle.arrow_array.specs.Slots.{is_held}
-use Rattle.avro_grammar.specs.Parts.{Grammar, Then, Meaning, Sized, Many, Blocks, last, block}
-use Rattle.avro_grammar.specs.Encodes.{Any, IsInt, IsNull, is_null, EncodesBytes, EncodesFixed, Encodes, EncodesRecord, EncodesItem, EncodesMember, EncodesFields}
-use Rattle.avro_grammar.specs.Carried.{IsNoUnion}
-use Rattle.avro_grammar.proofs.Encoded.{encodes_reads}
+use Rattle.avro_schema.specs.Parts.{Grammar, Then, Meaning, Sized, Many, Blocks, last, block}
+use Rattle.avro_schema.specs.Encodes.{Any, IsInt, IsNull, is_null, EncodesBytes, EncodesFixed, Encodes, EncodesRecord, EncodesItem, EncodesMember, EncodesFields}
+use Rattle.avro_schema.specs.Carried.{IsNoUnion}
+use Rattle.avro_schema.proofs.Encoded.{encodes_reads}
 use Rattle.avro_container.specs.Shortest.{zigzagged, shortest}
 use Rattle.avro_encode.specs.Decimals.{decimal}
 use Rattle.avro_encode.specs.Plain.{parts_of_open, parts_of, counted, one_block, plain_bytes, plain_duration, plain_fixed, plain, plain_record, plain_fields, plain_item, plain_union, bytes_of}

@@ -4,7 +4,7 @@ use Rattle.std.proofs.Common.{◌≡◌, ℕ, zero, suc, ◌+◌, ◌-◌, ◌*�
 use Rattle.std.specs.Prelude.{nat_lt, ◌-ℤ◌}
 use Rattle.std.proofs.lemmas.Bool.{cases_lt, lt-ltb, le-ltb}
 use Rattle.std.proofs.Math.Nat.{pow-succ'}
-use Rattle.avro_grammar.specs.Encodes.{big_endian, twos_complement}
+use Rattle.avro_schema.specs.Encodes.{big_endian, twos_complement}
 use Rattle.avro_encode.specs.Decimals.{high_first, even_size, decimal}
 use Rattle.avro_encode.specs.Pairs.{IsDecimal}
 

@@ -1,10 +1,10 @@
 -- What the slots of a column become, by how they lie in memory and where null may stand. Private contracts and the
 -- model of `ColumnEncoder` cite these.
 use Rattle.std.specs.Prelude.{ℕ, ◌<◌, List, length}
-use Rattle.arrow_types.specs.declared.physical.PhysicalType.{PhysicalType}
-use Rattle.arrow_types.specs.declared.physical.PhysicalType.TheVariants as physical
-use Rattle.arrow_types.specs.declared.physical.PrimitiveType.TheVariants as primitive
-use Rattle.arrow_types.specs.declared.slot.Slot.{Slot}
+use Rattle.arrow_core.specs.declared.physical.PhysicalType.{PhysicalType}
+use Rattle.arrow_core.specs.declared.physical.PhysicalType.TheVariants as physical
+use Rattle.arrow_core.specs.declared.physical.PrimitiveType.TheVariants as primitive
+use Rattle.arrow_core.specs.declared.slot.Slot.{Slot}
 use Rattle.arrow_array.specs.Arrays.{array_slots, array_type}
 use Rattle.arrow_array.specs.Slots.{slot_at}
 use Rattle.avro_encode.specs.Flat.{FitsFlat, flat_plain}

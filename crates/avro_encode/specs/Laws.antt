@@ -1,8 +1,8 @@
 -- Laws of the canonical encoding, each of which a function of this crate has for its contract.
 use Rattle.std.specs.Prelude.{◌≡◌, ℕ, ◌*◌, ◌-◌, ◌^◌, ◌<◌, ◌≤◌}
-use Rattle.arrow_types.specs.declared.slot.Slot.{Slot}
+use Rattle.arrow_core.specs.declared.slot.Slot.{Slot}
 use Rattle.avro_schema.specs.declared.schema.Schema.{Schema}
-use Rattle.avro_grammar.specs.Encodes.{Encodes}
+use Rattle.avro_schema.specs.Encodes.{Encodes}
 use Rattle.avro_encode.specs.Decimals.{even_size}
 use Rattle.avro_encode.specs.Plain.{plain}
 use Rattle.avro_encode.specs.Pairs.{Pairs}

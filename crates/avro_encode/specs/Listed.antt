@@ -3,17 +3,17 @@
 -- `ColumnEncoder` and what the crates above state of whole rows and tables.
 use Rattle.std.specs.Prelude.{◌≡◌, Bool, if◌then◌else◌, pos, cond, List, [], ◌∷◌, ◌++◌, ◌⊎◌, ℕ, map, Option, Some, None}
 use Rattle.std.specs.List.{AllZip}
-use Rattle.arrow_types.specs.declared.slot.Slot.{Slot}
-use Rattle.arrow_types.specs.declared.slot.Slot.TheVariants as slot
-use Rattle.arrow_types.specs.declared.types.DataType.{DataType}
-use Rattle.arrow_types.specs.declared.types.Field.{Field}
+use Rattle.arrow_core.specs.declared.slot.Slot.{Slot}
+use Rattle.arrow_core.specs.declared.slot.Slot.TheVariants as slot
+use Rattle.arrow_core.specs.declared.types.DataType.{DataType}
+use Rattle.arrow_core.specs.declared.types.Field.{Field}
 use Rattle.avro_schema.specs.declared.schema.Schema.{Schema}
 use Rattle.avro_schema.specs.declared.schema.AvroField.{AvroField}
 use Rattle.arrow_array.specs.declared.array.Array.{Array}
 use Rattle.arrow_array.specs.Arrays.{array_slots}
 use Rattle.arrow_array.specs.Slots.{is_held, slot_at}
-use Rattle.avro_grammar.specs.Encodes.{IsNull, is_null}
-use Rattle.avro_grammar.specs.Carried.{IsNoUnion}
+use Rattle.avro_schema.specs.Encodes.{IsNull, is_null}
+use Rattle.avro_schema.specs.Carried.{IsNoUnion}
 use Rattle.avro_container.specs.Shortest.{shortest}
 use Rattle.avro_encode.specs.Plain.{plain}
 use Rattle.avro_encode.specs.Pairs.{Pairs}

@@ -1,7 +1,7 @@
 -- Where null may stand under a schema, and what a slot becomes by that. Private contracts
 -- and, through `Columns`, the model of `ColumnEncoder` cite these.
 use Rattle.std.specs.Prelude.{◌≡◌, ℕ, Bool, if◌then◌else◌, IsTrue, List, [], ◌∷◌}
-use Rattle.arrow_types.specs.declared.slot.Slot.{Slot}
+use Rattle.arrow_core.specs.declared.slot.Slot.{Slot}
 use Rattle.arrow_array.specs.Slots.{is_held}
 use Rattle.avro_schema.specs.declared.schema.Schema.{Schema, Union}
 use Rattle.avro_encode.specs.Flat.{HasNoParts}

@@ -3,8 +3,8 @@
 -- decimal the size that `Decimals.antt` says.
 use Rattle.std.specs.Prelude.{ℕ, suc, ℤ, pos, int_div, Bool, false, cond, List, [], ◌∷◌, ◌++◌, length, flat_map, Option, Some, None}
 use Rattle.std.specs.Int.{w32, cast_unsigned, to_le_bytes}
-use Rattle.arrow_types.specs.declared.slot.Slot.{Slot, out-Slot, Boolean, Integer, String, Binary}
-use Rattle.arrow_types.specs.declared.slot.Slot.TheOpen as open_slot
+use Rattle.arrow_core.specs.declared.slot.Slot.{Slot, out-Slot, Boolean, Integer, String, Binary}
+use Rattle.arrow_core.specs.declared.slot.Slot.TheOpen as open_slot
 use Rattle.avro_schema.specs.declared.schema.Schema.{Schema, Null, Boolean as BooleanSchema, Int, Long, Float, Double, Bytes, String as StringSchema, Record, Enum, Array', Map', Union', Fixed, Row_of-Schema, end_of-Schema, more_of-Schema}
 use Rattle.avro_schema.specs.declared.schema.Record.{Record as TheRecord, Record', Row_of-AvroField, end_of-AvroField, more_of-AvroField}
 use Rattle.avro_schema.specs.declared.schema.BytesLogical.{BytesLogical}
@@ -13,7 +13,7 @@ use Rattle.avro_schema.specs.declared.schema.FixedLogical.{FixedLogical}
 use Rattle.avro_schema.specs.declared.schema.FixedLogical.TheVariants as fixed_logical
 use Rattle.arrow_array.specs.Slots.{is_held}
 use Rattle.avro_container.specs.Shortest.{shortest}
-use Rattle.avro_grammar.specs.Encodes.{is_null}
+use Rattle.avro_schema.specs.Encodes.{is_null}
 use Rattle.avro_encode.specs.Decimals.{decimal}
 
 -- ---- what a slot holds, of a slot of that kind

@@ -1,14 +1,14 @@
 //! Slots of any array.
 ghost use Rattle.std.specs.Prelude.{◌≡◌, ◌+◌, ◌<◌, ◌++◌, ◌∷◌, length, map, OnOk};
 ghost use Rattle.std.specs.List.{AllByRecursion};
-ghost use Rattle.arrow_types.specs.declared.slot.Slot.TheVariants as slot;
+ghost use Rattle.arrow_core.specs.declared.slot.Slot.TheVariants as slot;
 ghost use Rattle.arrow_array.specs.Arrays.{array_slots, array_type};
 ghost use Rattle.arrow_array.specs.Kinds.{array_kind};
 ghost use Rattle.arrow_array.specs.Lent.{IsPart, part_slots};
 ghost use Rattle.arrow_array.specs.Parts.{IsOfKind};
 ghost use Rattle.arrow_array.specs.Slots.{slot_at};
 ghost use Rattle.arrow_array.specs.Structs.{HaveSlots};
-ghost use Rattle.avro_grammar.specs.Carried.{IsNoUnion};
+ghost use Rattle.avro_schema.specs.Carried.{IsNoUnion};
 ghost use Rattle.avro_encode.specs.Flat.{HasNoParts, IsListKind, IsStructKind};
 ghost use Rattle.avro_encode.specs.Listed.{PairsFieldsOf, PairsMemberTypeOf, PairsTypesOf, PairsUnionOf, plain_fields_of, plain_union_of, slots_across};
 ghost use Rattle.avro_encode.specs.Pairs.{IsCounted, Pairs};

@@ -17,7 +17,7 @@ use crate::nulls::{Nulls, index_byte};
 use arrow_array::{
     Array, BinaryArray, BooleanArray, FixedSizeBinaryArray, PrimitiveArray, Utf8Array,
 };
-use arrow_types::MonthsDaysNs;
+use arrow_core::MonthsDaysNs;
 use avro_schema::AvroSchema;
 use std::alloc::AllocError;
 

@@ -1,7 +1,7 @@
 //! Durations (Avro 1.11, "Duration").
 ghost use Rattle.std.specs.Prelude.{◌≡◌, ◌++◌, OnOk};
 ghost use Rattle.avro_encode.specs.Plain.{four_bytes, milliseconds as milliseconds_of};
-ghost use Rattle.avro_grammar.specs.Encodes.{IsInt};
+ghost use Rattle.avro_schema.specs.Encodes.{IsInt};
 
 use crate::numbers::append_bytes;
 use std::alloc::AllocError;

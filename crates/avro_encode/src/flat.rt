@@ -1,8 +1,8 @@
 //! Slots with nothing beneath them.
 ghost use Rattle.std.specs.Prelude.{◌≡◌, ℕ, ◌<◌, List, ◌++◌, ◌∷◌, [], cond, length, IsTrue, OnOk};
-ghost use Rattle.arrow_types.specs.declared.physical.PhysicalType.TheVariants as physical;
-ghost use Rattle.arrow_types.specs.declared.physical.PrimitiveType.TheVariants as primitive;
-ghost use Rattle.arrow_types.specs.declared.slot.Slot.{Slot};
+ghost use Rattle.arrow_core.specs.declared.physical.PhysicalType.TheVariants as physical;
+ghost use Rattle.arrow_core.specs.declared.physical.PrimitiveType.TheVariants as primitive;
+ghost use Rattle.arrow_core.specs.declared.slot.Slot.{Slot};
 ghost use Rattle.arrow_array.specs.Arrays.{array_slots};
 ghost use Rattle.arrow_array.specs.Kinds.{array_kind};
 ghost use Rattle.arrow_array.specs.Slots.{is_held, slot_at};
@@ -16,7 +16,7 @@ use crate::numbers::{append_bytes, append_counted, append_counted_after, append_
 use arrow_array::{
     Array, BinaryArray, BooleanArray, FixedSizeBinaryArray, PrimitiveArray, Utf8Array,
 };
-use arrow_types::{MonthsDaysNs, Offset};
+use arrow_core::{MonthsDaysNs, Offset};
 use std::alloc::AllocError;
 
 /// Appends an interval, which isn't null. `AllocError` alone.

@@ -1,7 +1,7 @@
 //! Where null may stand under a schema.
 ghost use Rattle.std.specs.Prelude.{◌≡◌, IsTrue, IfSome, length};
 ghost use Rattle.std.specs.Bool.{OnTrue};
-ghost use Rattle.avro_grammar.specs.Encodes.{is_null as is_null_schema};
+ghost use Rattle.avro_schema.specs.Encodes.{is_null as is_null_schema};
 ghost use Rattle.avro_encode.specs.Flat.{HasNoParts};
 ghost use Rattle.avro_encode.specs.Listed.{IsBesideNull, index_byte};
 ghost use Rattle.avro_encode.specs.Nullable.{IsOptional, TellsNulls};

@@ -8,10 +8,10 @@ use Rattle.arrow_core.specs.declared.error.Error.TheVariants.{ExternalFormat, No
 use Rattle.arrow_core.specs.declared.error.Reason.TheVariants as reason
 use Rattle.avro_schema.specs.declared.schema.Schema as schema
 use Rattle.avro_schema.specs.declared.schema.Record.{Record}
-use Rattle.avro_text.specs.Reading.{SchemaTextRefused}
-use Rattle.avro_text.specs.declared.fault.Fault.{Fault}
-use Rattle.avro_text.specs.declared.fault.Fault.TheVariants.{Form, Reference, Depth, Memory}
-use Rattle.avro_text.proofs.Answered.{one_schema, only_memory}
+use Rattle.avro_file.specs.Reading.{SchemaTextRefused}
+use Rattle.avro_file.specs.declared.fault.Fault.{Fault}
+use Rattle.avro_file.specs.declared.fault.Fault.TheVariants.{Form, Reference, Depth, Memory}
+use Rattle.avro_file.proofs.Answered.{one_schema, only_memory}
 use Rattle.avro_container.specs.File.{HeaderParts, header_parts, schema_entry}
 use Rattle.avro_container.specs.ReadHeader.{Change, ReadsHeader, NoHeader}
 use Rattle.avro_container.specs.Taking.{state}

@@ -2,9 +2,9 @@
 use Rattle.std.proofs.Common.{◌≡◌}
 use Rattle.avro_schema.specs.declared.schema.Schema as schema
 use Rattle.avro_schema.specs.declared.schema.Record.{Record}
-use Rattle.avro_text.specs.Writing.{schema_text_of}
-use Rattle.avro_text.proofs.Answered.{one_schema}
-use Rattle.avro_text.proofs.ReadBack.{read_back}
+use Rattle.avro_file.specs.Writing.{schema_text_of}
+use Rattle.avro_file.proofs.Answered.{one_schema}
+use Rattle.avro_file.proofs.ReadBack.{read_back}
 use Rattle.avro_container.specs.Laws.{OneMeaning}
 use Rattle.avro_container.proofs.OneFile.{canonical_is_file}
 use Rattle.avro_file.specs.File.{StandsFor}

@@ -5,8 +5,8 @@ use Rattle.avro_schema.specs.declared.schema.Schema as schema
 use Rattle.avro_schema.specs.declared.schema.Record.{Record}
 use Rattle.avro_container.specs.Canonical as container
 use Rattle.avro_container.specs.File.{FileBlock, FileOf}
-use Rattle.avro_text.specs.Reading.{IsSchemaText}
-use Rattle.avro_text.specs.Writing.{schema_text_of}
+use Rattle.avro_file.specs.Reading.{IsSchemaText}
+use Rattle.avro_file.specs.Writing.{schema_text_of}
 
 -- the text of a schema stands for this record
 pub record StandsFor (text : List ℕ) (root : Record) : Type 0 where

@@ -9,8 +9,8 @@ use Rattle.avro_schema.specs.declared.schema.Record.{Record}
 use Rattle.avro_container.specs.File.{FileBlock, Entry, Header, header_parts, schema_entry, codec_entry, IsPlain}
 use Rattle.avro_container.specs.Laws.{OneFile, AllSmall}
 use Rattle.avro_container.specs.ReadHeader.{Change}
-use Rattle.avro_text.specs.Writable.{IsWritable}
-use Rattle.avro_text.specs.Writing.{schema_text_of}
+use Rattle.avro_file.specs.Writable.{IsWritable}
+use Rattle.avro_file.specs.Writing.{schema_text_of}
 use Rattle.avro_file.specs.File.{StandsFor, AvroFile, canonical_file}
 use Rattle.avro_file.specs.Metadata.{ReadsMetadata, MetadataFails}
 

@@ -1,3 +1,10 @@
+pub mod Attributes
 pub mod File
+pub mod Gives
 pub mod Laws
 pub mod Metadata
+pub mod Outcome
+pub mod Reading
+pub mod Types
+pub mod Writable
+pub mod Writing

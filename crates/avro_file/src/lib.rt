@@ -1,15 +1,24 @@
-//! Avro object container files: their headers with the schema of their rows, their blocks, and the
-//! schemas, numbers and bytes that they are made of.
+//! The header of an Avro file and the record that its schema text stands for.
 #![tactic(auto)]
 
+mod attributes;
+mod fault;
 mod laws;
+mod logical;
 mod metadata;
+mod read;
+mod schema_laws;
+mod text;
+mod write;
+mod write_parts;
 
 pub use avro_container::{Allowance, BlockReader, Stop, fill_buffer, write_block, zigzag_encode};
 pub use avro_schema::{
     AvroField, AvroSchema, Block, BytesLogical, Cursor, Enum, Fixed, FixedLogical, IntLogical,
     LongLogical, Record, Schema, SliceCursor, StringLogical, next_number, zigzag_i64,
 };
-pub use avro_text::{Fault, read_schema_text, schema_text};
+pub use fault::Fault;
 pub use laws::{metadata_answers, one_avro_file};
 pub use metadata::{Compression, FileMetadata, read_metadata, write_metadata};
+pub use schema_laws::{depth_is_enough, one_text_one_schema, written_text_is_read};
+pub use text::{read_schema_text, record_text, schema_text};

@@ -6,10 +6,10 @@ ghost use Rattle.avro_container.specs.ReadHeader.{change};
 ghost use Rattle.avro_file.specs.File.{StandsFor, metadata_bytes};
 ghost use Rattle.avro_file.specs.Metadata.{RootFails, ReadsMetadata, MetadataFails, WriteFails};
 
+use crate::{read_schema_text, record_text};
 use arrow_base::{Error, Reason, Result, Sink, Source};
 use avro_container::{read_header, write_header};
 use avro_schema::{AvroSchema, Record};
-use avro_text::{read_schema_text, record_text};
 use std::alloc::Global;
 
 /// How the blocks of a file may be compressed (Avro 1.11, "Required Codecs" and "Optional Codecs").

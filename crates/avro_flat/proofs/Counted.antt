@@ -3,8 +3,8 @@ use Rattle.std.proofs.Common.{◌≡◌, ℕ, ◌<◌, ◌≤◌, take, drop, le
 use Rattle.std.specs.Prelude.{OnOk, OnErr, IfErr}
 use Rattle.std.proofs.lemmas.Bool.{lt-ltb, le-ltb}
 use Rattle.std.proofs.lemmas.List.{length-drop}
-use Rattle.arrow_types.specs.declared.slot.Slot.{Slot}
-use Rattle.arrow_types.specs.declared.slot.Slot.TheVariants as slot
+use Rattle.arrow_core.specs.declared.slot.Slot.{Slot}
+use Rattle.arrow_core.specs.declared.slot.Slot.TheVariants as slot
 use Rattle.avro_reference.specs.Prefix.{bytes_at, sized_at}
 use Rattle.avro_reference.specs.Read.{push_one, binary_at}
 use Rattle.avro_reference.specs.Lengths.{length_at}

@@ -2,8 +2,8 @@
 use Rattle.std.proofs.Common.{◌≡◌, ◌∙◌, ◌⊎◌, inl, inr, ℕ, ◌<◌, ◌≤◌, take, drop, length, ℤ, List, Some, None, refl, sym, ap, arith}
 use Rattle.std.proofs.lemmas.Bool.{cases_lt, lt-ltb, le-ltb, le-leb, lt-leb}
 use Rattle.std.proofs.lemmas.List.{length-take-le}
-use Rattle.arrow_types.specs.declared.slot.Slot.TheVariants as slot
-use Rattle.avro_grammar.specs.Encodes.{twos_complement}
+use Rattle.arrow_core.specs.declared.slot.Slot.TheVariants as slot
+use Rattle.avro_schema.specs.Encodes.{twos_complement}
 use Rattle.avro_reference.specs.Prefix.{bytes_at, sized_at}
 use Rattle.avro_reference.specs.Read.{decimal_at}
 use Rattle.avro_reference.specs.Lengths.{length_at}

@@ -5,10 +5,10 @@ use Rattle.std.specs.Int.{w32, cast_signed, from_le_bytes}
 use Rattle.std.proofs.lemmas.Int.{ints}
 use Rattle.std.proofs.lemmas.Bool.{cases_lt, lt-ltb, le-ltb}
 use Rattle.std.proofs.lemmas.List.{get_or-drop, length-drop}
-use Rattle.arrow_types.specs.declared.slot.Slot.{Slot}
-use Rattle.arrow_types.specs.declared.slot.Slot.TheVariants as slot
+use Rattle.arrow_core.specs.declared.slot.Slot.{Slot}
+use Rattle.arrow_core.specs.declared.slot.Slot.TheVariants as slot
 use Rattle.avro_schema.specs.declared.schema.FixedLogical.TheVariants as fixed_logical
-use Rattle.avro_grammar.specs.Encodes.{little_endian, signed_32, duration}
+use Rattle.avro_schema.specs.Encodes.{little_endian, signed_32, duration}
 use Rattle.avro_reference.specs.Prefix.{bytes_at}
 use Rattle.avro_reference.specs.Read.{fixed_at}
 

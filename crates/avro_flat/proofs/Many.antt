@@ -1,8 +1,8 @@
 -- Loops that read many values of a kind, each into one more slot: what holds so far, one turn more, and the end.
 use Rattle.std.proofs.Common.{◌≡◌, ◌∙◌, ℕ, suc, ◌+◌, ◌-◌, ◌<◌, ◌≤◌, List, length, Bool, Option, Result, Ok, Err, refl, ap, arith}
 use Rattle.std.specs.Prelude.{OnOk}
-use Rattle.arrow_types.specs.declared.slot.Slot.{Slot}
-use Rattle.arrow_types.specs.declared.types.DataType.{DataType}
+use Rattle.arrow_core.specs.declared.slot.Slot.{Slot}
+use Rattle.arrow_core.specs.declared.types.DataType.{DataType}
 use Rattle.arrow_flat.specs.Nodes.{Node, HasSpare}
 use Rattle.avro_schema.specs.Number.{MovesForward}
 use Rattle.avro_reference.specs.Prefix.{Reader}

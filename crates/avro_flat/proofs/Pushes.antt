@@ -4,8 +4,8 @@ use Rattle.std.specs.Prelude.{OnOk, OnErr, IfErr}
 use Rattle.std.proofs.lemmas.List.{length-append, length-take-le, length-drop}
 use Rattle.arrow_core.specs.declared.error.Error.{Error}
 use Rattle.arrow_core.specs.declared.error.Error.TheVariants.{Overflow, OutOfMemory}
-use Rattle.arrow_types.specs.declared.slot.Slot.{Slot}
-use Rattle.arrow_types.specs.Numbers.{greatest_offset}
+use Rattle.arrow_core.specs.declared.slot.Slot.{Slot}
+use Rattle.arrow_core.specs.Numbers.{greatest_offset}
 use Rattle.arrow_flat.specs.Builders.{PlainBuilder, ContentBuilder, plain_node, content_node}
 use Rattle.arrow_flat.specs.Nodes.{Node, KeepsCapacity, Takes, HasSpare}
 use Rattle.avro_flat.specs.declared.fault.DecodeFault.{DecodeFault}

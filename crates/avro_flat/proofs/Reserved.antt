@@ -4,13 +4,13 @@ use Rattle.std.proofs.Common.{◌≡◌, ◌∙◌, ℕ, zero, suc, ◌+◌, ◌
 use Rattle.std.specs.Prelude.{OnOk, OnErr}
 use Rattle.std.proofs.lemmas.List.{length-append}
 use Rattle.std.proofs.lemmas.Option.{some_pair_parts, none-some}
-use Rattle.arrow_types.specs.declared.slot.Slot.{Slot}
-use Rattle.arrow_types.specs.declared.slot.Slot.TheVariants as slot
-use Rattle.arrow_types.specs.declared.types.DataType.{DataType}
+use Rattle.arrow_core.specs.declared.slot.Slot.{Slot}
+use Rattle.arrow_core.specs.declared.slot.Slot.TheVariants as slot
+use Rattle.arrow_core.specs.declared.types.DataType.{DataType}
 use Rattle.arrow_flat.specs.Builders.{PlainBuilder, plain_node}
 use Rattle.arrow_flat.specs.Nodes.{Node, NoLessSpare}
 use Rattle.avro_schema.specs.Number.{AreGroups}
-use Rattle.avro_grammar.proofs.Basics.{bind_some}
+use Rattle.avro_schema.proofs.Basics.{bind_some}
 use Rattle.avro_reference.specs.Prefix.{Reader, number_at}
 use Rattle.avro_reference.specs.Read.{push_one, boolean_at, is_int, int_at, long_at, items}
 use Rattle.avro_reference.specs.Costs.{passed, Moves, CostsKept}

@@ -4,9 +4,9 @@ use Rattle.std.specs.Prelude.{if◌then◌else◌, OnOk, IfErr, MatchResult}
 use Rattle.std.proofs.lemmas.Bool.{lt-ltb, le-ltb}
 use Rattle.std.specs.Str.{is_utf8, IsUtf8}
 use Rattle.std.proofs.lemmas.Str.{IsUtf8-from_is_utf8, is_utf8-from_IsUtf8}
-use Rattle.arrow_types.specs.declared.slot.Slot.{Slot}
-use Rattle.arrow_types.specs.declared.slot.Slot.TheVariants as slot
-use Rattle.avro_grammar.specs.AndThen.{◌>>=◌}
+use Rattle.arrow_core.specs.declared.slot.Slot.{Slot}
+use Rattle.arrow_core.specs.declared.slot.Slot.TheVariants as slot
+use Rattle.avro_schema.specs.AndThen.{◌>>=◌}
 use Rattle.avro_reference.specs.Prefix.{number_at, bytes_at, counted_at, sized_at}
 use Rattle.avro_reference.specs.Read.{push_one, string_at, fixed_at}
 use Rattle.avro_reference.specs.Lengths.{as_length, length_at}

@@ -6,7 +6,7 @@ use Rattle.std.proofs.lemmas.Int.{ints}
 use Rattle.std.proofs.lemmas.Bool.{cases_lt, lt-ltb, le-ltb}
 use Rattle.std.proofs.lemmas.List.{length-append, take_more}
 use Rattle.std.proofs.Math.Nat.{mul_left_comm, pow-succ', pow-le-pow_right}
-use Rattle.avro_grammar.specs.Encodes.{big_endian, twos_complement}
+use Rattle.avro_schema.specs.Encodes.{big_endian, twos_complement}
 
 -- v is the integer of bytes that are the number n, and 256 * q numbers are as long
 abbrev pub Signed : ℕ → ℕ → ℤ → Type 0

@@ -1,9 +1,9 @@
 -- What the reading functions are, as equations that a check rewrites by.
 use Rattle.std.proofs.Common.{◌≡◌, ℕ, ℤ, true, false, List, [], ◌∷◌, ◌++◌, Some, None, refl}
 use Rattle.std.specs.Prelude.{◌==◌, if◌then◌else◌}
-use Rattle.arrow_types.specs.declared.slot.Slot.{Slot}
-use Rattle.arrow_types.specs.declared.slot.Slot.TheVariants as slot
-use Rattle.avro_grammar.specs.AndThen.{◌>>=◌}
+use Rattle.arrow_core.specs.declared.slot.Slot.{Slot}
+use Rattle.arrow_core.specs.declared.slot.Slot.TheVariants as slot
+use Rattle.avro_schema.specs.AndThen.{◌>>=◌}
 use Rattle.avro_reference.specs.Prefix.{number_at}
 use Rattle.avro_reference.specs.Read.{push_one, boolean_at, is_int, int_at, long_at}
 

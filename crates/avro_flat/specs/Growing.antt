@@ -1,7 +1,7 @@
 -- How the node of a builder grows while it is filled. Contracts below the decoder's public calls alone cite this
 -- file.
 use Rattle.std.specs.Prelude.{ℕ, ◌+◌, ◌≤◌, Bool}
-use Rattle.arrow_types.specs.Numbers.{greatest_offset}
+use Rattle.arrow_core.specs.Numbers.{greatest_offset}
 use Rattle.arrow_flat.specs.Nodes.{Node, Takes}
 
 -- the offsets, of 64 bits where large, can count n more content bytes

@@ -1,7 +1,7 @@
 //! Binary values.
 
 ghost use Rattle.std.specs.Prelude.{◌≡◌, ◌≤◌, ◌++◌, ◌∷◌, [], length, IfErr, OnOk};
-ghost use Rattle.arrow_types.specs.declared.slot.Slot.TheVariants.{Binary as BinarySlot};
+ghost use Rattle.arrow_core.specs.declared.slot.Slot.TheVariants.{Binary as BinarySlot};
 ghost use Rattle.avro_reference.specs.Read.{push_one, binary_at, items};
 ghost use Rattle.arrow_flat.specs.Builders.{content_node};
 ghost use Rattle.arrow_flat.specs.Nodes.{Takes, HasSpare};
@@ -10,8 +10,8 @@ ghost use Rattle.avro_flat.specs.Decoding.{Gives, HasMemory};
 ghost use Rattle.avro_flat.specs.Growing.{OffsetsReach, Fills};
 
 use crate::fault::{DecodeFault, pushed};
+use arrow_core::Offset;
 use arrow_flat::MutableBinaryArray;
-use arrow_types::Offset;
 use avro_reference::{Ahead, read_length};
 use std::convert::AsSlice;
 

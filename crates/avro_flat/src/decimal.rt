@@ -1,9 +1,9 @@
 //! Decimals (Avro 1.11, "Decimal").
 
 ghost use Rattle.std.specs.Prelude.{◌≡◌, ◌≤◌, Some, None, length, drop, MatchOption, OnOk, OnSome};
-ghost use Rattle.arrow_types.specs.declared.slot.Slot.TheVariants.{Integer as IntegerSlot};
+ghost use Rattle.arrow_core.specs.declared.slot.Slot.TheVariants.{Integer as IntegerSlot};
 ghost use Rattle.avro_schema.specs.Counts.{risen};
-ghost use Rattle.avro_grammar.specs.Encodes.{twos_complement};
+ghost use Rattle.avro_schema.specs.Encodes.{twos_complement};
 ghost use Rattle.avro_reference.specs.Prefix.{bytes_at, sized_at};
 ghost use Rattle.avro_reference.specs.Read.{push_one, decimal_at, items};
 ghost use Rattle.arrow_flat.specs.Builders.{plain_node};

@@ -2,7 +2,7 @@
 
 ghost use Rattle.std.specs.Prelude.{◌≡◌, ◌+◌, ◌≤◌, pos, ◌*ℤ◌, Some, length, take, drop, OnOk};
 ghost use Rattle.avro_schema.specs.declared.schema.FixedLogical.TheVariants.{Duration as DurationLogical};
-ghost use Rattle.avro_grammar.specs.Encodes.{signed_32};
+ghost use Rattle.avro_schema.specs.Encodes.{signed_32};
 ghost use Rattle.avro_reference.specs.Read.{push_one, fixed_at, items};
 ghost use Rattle.arrow_flat.specs.Builders.{plain_node};
 ghost use Rattle.arrow_flat.specs.Nodes.{HasSpare};
@@ -11,8 +11,8 @@ ghost use Rattle.avro_flat.specs.Decoding.{Gives, HasMemory};
 ghost use Rattle.avro_flat.specs.Growing.{Fills};
 
 use crate::fault::{DecodeFault, pushed};
+use arrow_core::MonthsDaysNs;
 use arrow_flat::MutablePrimitiveArray;
-use arrow_types::MonthsDaysNs;
 use avro_reference::Ahead;
 use std::convert::AsSlice;
 

@@ -1,7 +1,7 @@
 //! Fixed types without a logical type.
 
 ghost use Rattle.std.specs.Prelude.{◌≡◌, ◌≤◌, ◌++◌, ◌∷◌, [], None, length, IfErr, OnOk};
-ghost use Rattle.arrow_types.specs.declared.slot.Slot.TheVariants.{Binary as BinarySlot};
+ghost use Rattle.arrow_core.specs.declared.slot.Slot.TheVariants.{Binary as BinarySlot};
 ghost use Rattle.arrow_array.specs.Parts.{byte_width};
 ghost use Rattle.avro_reference.specs.Read.{push_one, fixed_at, items};
 ghost use Rattle.arrow_flat.specs.Builders.{content_node};

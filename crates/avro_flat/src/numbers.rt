@@ -1,7 +1,7 @@
 //! Booleans and numbers (Avro 1.11, "Primitive Types": boolean, int and long).
 
 ghost use Rattle.std.specs.Prelude.{◌≡◌, ◌<◌, ◌≤◌, length, Some, None, MatchOption, OnSome, IfOk, IfErr, OnOk};
-ghost use Rattle.arrow_types.specs.declared.slot.Slot.TheVariants.{Boolean as BooleanSlot, Integer as IntegerSlot};
+ghost use Rattle.arrow_core.specs.declared.slot.Slot.TheVariants.{Boolean as BooleanSlot, Integer as IntegerSlot};
 ghost use Rattle.avro_reference.specs.Read.{push_one, boolean_at, int_at, long_at, items};
 ghost use Rattle.arrow_flat.specs.Builders.{plain_node};
 ghost use Rattle.arrow_flat.specs.Nodes.{HasSpare};

@@ -2,7 +2,7 @@
 
 ghost use Rattle.std.specs.Prelude.{◌≡◌, ◌≤◌, ◌++◌, ◌∷◌, [], length, MatchResult, OnOk};
 ghost use Rattle.std.specs.Str.{IsUtf8};
-ghost use Rattle.arrow_types.specs.declared.slot.Slot.TheVariants.{String as StringSlot};
+ghost use Rattle.arrow_core.specs.declared.slot.Slot.TheVariants.{String as StringSlot};
 ghost use Rattle.avro_reference.specs.Read.{push_one, string_at, items};
 ghost use Rattle.arrow_flat.specs.Builders.{content_node};
 ghost use Rattle.arrow_flat.specs.Nodes.{Takes, HasSpare};
@@ -11,11 +11,10 @@ ghost use Rattle.avro_flat.specs.Decoding.{Gives, IsStringFault, HasMemory};
 ghost use Rattle.avro_flat.specs.Growing.{OffsetsReach, Fills};
 
 use crate::fault::{DecodeFault, pushed};
+use arrow_core::{Offset, is_utf8};
 use arrow_flat::MutableUtf8Array;
-use arrow_types::Offset;
 use avro_reference::{Ahead, read_length};
 use std::convert::AsSlice;
-use utf8_check::is_utf8;
 
 /// Reads a string: a length of 0 or more, and as many bytes, which have to be UTF-8 (Avro 1.11,
 /// "Primitive Types"). `Bytes` where the length is below 0, fewer bytes follow, or they aren't

@@ -1,7 +1,7 @@
 //! Symbols (Avro 1.11, "Enums").
 
 ghost use Rattle.std.specs.Prelude.{◌≡◌, ◌≤◌, ℕ, pos, false, true, length, map, MatchOption, OnOk};
-ghost use Rattle.arrow_types.specs.declared.slot.Slot.TheVariants.{String as StringSlot};
+ghost use Rattle.arrow_core.specs.declared.slot.Slot.TheVariants.{String as StringSlot};
 ghost use Rattle.avro_reference.specs.Prefix.{is_index};
 ghost use Rattle.avro_reference.specs.Read.{push_one, symbol_of, items};
 ghost use Rattle.arrow_flat.specs.Dictionaries.{dictionary_node};

@@ -9,11 +9,11 @@ use Rattle.avro_container.specs.File.{FileBlock}
 use Rattle.avro_container.specs.Laws.{told}
 use Rattle.avro_container.specs.Taking.{State, state}
 use Rattle.avro_container.proofs.OneFile.{one_file}
-use Rattle.avro_text.specs.Writing.{schema_text_of}
-use Rattle.avro_blocks.specs.Changes.{Change, change_of, header_of, IsTold, CameFromOutside}
-use Rattle.avro_blocks.specs.Written.{BlockText, ShowBlocks, StopsAtBlock}
-use Rattle.avro_blocks.proofs.Reading.{stops_for_memory}
-use Rattle.avro_blocks.proofs.Steps.{rose_from}
+use Rattle.avro_file.specs.Writing.{schema_text_of}
+use Rattle.avro_container.specs.Changes.{Change, change_of, header_of, IsTold, CameFromOutside}
+use Rattle.avro_container.specs.Written.{BlockText, ShowBlocks, StopsAtBlock}
+use Rattle.avro_container.proofs.Reading.{stops_for_memory}
+use Rattle.avro_container.proofs.Steps.{rose_from}
 use Rattle.avro_file.specs.File.{StandsFor, AvroFile}
 use Rattle.avro_file.specs.Laws.{IsMetadata}
 use Rattle.avro_file.proofs.Complete.{metadata_is_read, metadata_is_right}

@@ -12,7 +12,7 @@ use Rattle.avro_container.specs.FileForms.{marked_block}
 use Rattle.avro_container.specs.Taking.{State, state, Passed}
 use Rattle.avro_container.proofs.Sequences.{one_more}
 use Rattle.avro_container.proofs.Taken.{takes_nothing, takes_more}
-use Rattle.avro_blocks.specs.Changes.{Change, header_of}
+use Rattle.avro_container.specs.Changes.{Change, header_of}
 use Rattle.avro_file.specs.Metadata.{ReadsMetadata}
 use Rattle.avro_inspect.specs.Counts.{CountsFile, CountingFails}
 use Rattle.avro_inspect.specs.Taken.{TakesBlocks, CountsBlocks, StopsCounting}

@@ -5,7 +5,7 @@ use Rattle.arrow_core.specs.declared.error.Error.{Error}
 use Rattle.avro_schema.specs.declared.schema.Record.{Record}
 use Rattle.avro_container.specs.File.{FileBlock}
 use Rattle.avro_container.specs.Taking.{state}
-use Rattle.avro_blocks.specs.Changes.{Change, header_of}
+use Rattle.avro_container.specs.Changes.{Change, header_of}
 use Rattle.avro_file.specs.File.{AvroFile}
 use Rattle.avro_file.specs.Metadata.{ReadsMetadata, MetadataFails}
 use Rattle.avro_inspect.specs.Taken.{AreCounts, StopsCounting}

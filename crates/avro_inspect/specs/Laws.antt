@@ -6,8 +6,8 @@ use Rattle.avro_schema.specs.declared.schema.Schema as schema
 use Rattle.avro_schema.specs.declared.schema.Record.{Record}
 use Rattle.avro_container.specs.ReadHeader.{Change as HeaderChange}
 use Rattle.avro_container.specs.File.{FileBlock}
-use Rattle.avro_text.specs.Writing.{schema_text_of}
-use Rattle.avro_blocks.specs.Changes.{Change, IsTold}
+use Rattle.avro_file.specs.Writing.{schema_text_of}
+use Rattle.avro_container.specs.Changes.{Change, IsTold}
 use Rattle.avro_file.specs.File.{AvroFile}
 use Rattle.avro_file.specs.Laws.{IsMetadata}
 use Rattle.avro_inspect.specs.Counts.{HasCounts, CountingFails}

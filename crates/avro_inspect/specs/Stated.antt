@@ -3,7 +3,7 @@ use Rattle.std.specs.Prelude.{◌≡◌, ℕ, List}
 use Rattle.avro_schema.specs.declared.schema.Schema as schema
 use Rattle.avro_schema.specs.declared.schema.Record.{Record}
 use Rattle.avro_container.specs.ReadHeader.{Change}
-use Rattle.avro_text.specs.Writing.{schema_text_of}
+use Rattle.avro_file.specs.Writing.{schema_text_of}
 use Rattle.avro_file.specs.Metadata.{ReadsMetadata}
 
 -- a header was taken, and nothing past it, and the text is the one that is written for its record

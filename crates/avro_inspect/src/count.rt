@@ -3,7 +3,7 @@
 ghost use Rattle.std.specs.Prelude.{◌≡◌, ◌≤◌, IfOk, IfErr};
 ghost use Rattle.arrow_base.specs.Outside.{last_count};
 ghost use Rattle.avro_container.specs.BlockReader.{source_of, marker_of, limit_of, IsOpen, state_of};
-ghost use Rattle.avro_blocks.specs.Changes.{change_of};
+ghost use Rattle.avro_container.specs.Changes.{change_of};
 ghost use Rattle.avro_inspect.specs.Counts.{CountsFile, CountingFails};
 ghost use Rattle.avro_inspect.specs.Taken.{CountsBlocks, StopsCounting};
 

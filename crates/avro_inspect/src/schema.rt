@@ -6,8 +6,7 @@ ghost use Rattle.avro_file.specs.Metadata.{MetadataFails};
 ghost use Rattle.avro_inspect.specs.Stated.{StatesSchema};
 
 use arrow_base::{Bytes, Result, Source};
-use avro_file::read_metadata;
-use avro_text::record_text;
+use avro_file::{read_metadata, record_text};
 use std::alloc::Global;
 
 /// Reads the header of an Avro file (Avro 1.11, "Object Container Files"), and answers the text of

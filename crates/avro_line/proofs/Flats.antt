@@ -7,16 +7,16 @@ use Rattle.std.proofs.lemmas.Bool.{and_from, le-leb, le-ltb}
 use Rattle.std.proofs.lemmas.Option.{same_Some}
 use Rattle.std.proofs.lemmas.Str.{is_utf8-from_IsUtf8}
 use Rattle.arrow_base.specs.WrittenString.{json_string}
-use Rattle.arrow_types.specs.declared.slot.Slot.{Slot}
-use Rattle.arrow_types.specs.declared.slot.Slot.TheVariants as slot
-use Rattle.arrow_types.specs.declared.types.DataType.TheVariants.{Boolean, Utf8}
+use Rattle.arrow_core.specs.declared.slot.Slot.{Slot}
+use Rattle.arrow_core.specs.declared.slot.Slot.TheVariants as slot
+use Rattle.arrow_core.specs.declared.types.DataType.TheVariants.{Boolean, Utf8}
 use Rattle.avro_schema.specs.declared.schema.IntLogical.{IntLogical}
 use Rattle.avro_schema.specs.declared.schema.IntLogical.TheVariants as int_logical
 use Rattle.avro_schema.specs.declared.schema.LongLogical.{LongLogical}
 use Rattle.avro_schema.specs.declared.schema.LongLogical.TheVariants as long_logical
 use Rattle.avro_schema.specs.declared.schema.Schema.{Schema, Int, Long}
-use Rattle.avro_grammar.specs.AndThen.{◌>>=◌}
-use Rattle.avro_grammar.specs.Types.{int_type, long_type}
+use Rattle.avro_schema.specs.AndThen.{◌>>=◌}
+use Rattle.avro_schema.specs.Types.{int_type, long_type}
 use Rattle.avro_reference.specs.Lengths.{as_length, length_at}
 use Rattle.avro_reference.specs.Prefix.{number_at, bytes_at, counted_at, sized_at}
 use Rattle.avro_reference.specs.Read.{boolean_at, is_int, int_at, long_at, string_at}

@@ -4,8 +4,8 @@ use Rattle.std.specs.Prelude.{IsTrue}
 use Rattle.avro_schema.specs.declared.schema.AvroField.{AvroField}
 use Rattle.avro_schema.specs.declared.schema.Record.{Record as TheRecord, out-Record}
 use Rattle.avro_schema.specs.declared.schema.Schema.{Schema, Array, Union, Record}
-use Rattle.avro_grammar.specs.ValidBlock.{EnumsFit}
-use Rattle.avro_grammar.proofs.TypeLemmas.{enum_composites}
+use Rattle.avro_schema.specs.ValidBlock.{EnumsFit}
+use Rattle.avro_schema.proofs.TypeLemmas.{enum_composites}
 
 module _ (s : Schema) (b : Bool) where
   pub known_array : (item i : Schema) → s ≡ Array item → i ≡ item → (IsTrue b → EnumsFit i) → IsTrue b → EnumsFit s

@@ -1,20 +1,20 @@
 -- Arrays, unions and records that were shown, by the schemas that have them.
 use Rattle.std.proofs.Common.{◌≡◌, ℕ, pos, Bool, true, false, List, [], ◌∷◌, ◌++◌, Some, Result, Ok, Err, OnOk, ◌⊎◌, inl, inr, refl, sym, ap, ◌∙◌, subst}
-use Rattle.arrow_types.specs.declared.slot.Slot.TheVariants as slot
-use Rattle.arrow_types.specs.declared.types.DataType.{DataType}
-use Rattle.arrow_types.specs.declared.types.DataType.TheVariants as types
+use Rattle.arrow_core.specs.declared.slot.Slot.TheVariants as slot
+use Rattle.arrow_core.specs.declared.types.DataType.{DataType}
+use Rattle.arrow_core.specs.declared.types.DataType.TheVariants as types
 use Rattle.avro_schema.specs.declared.schema.AvroField.{AvroField}
 use Rattle.avro_schema.specs.declared.schema.Record.{Record as TheRecord, out-Record}
 use Rattle.avro_schema.specs.declared.schema.Schema.{Schema, Array, Union, Record}
-use Rattle.avro_grammar.specs.Encodes.{IsNull, is_null}
-use Rattle.avro_grammar.specs.TypeLaws.{inferred_member_of}
-use Rattle.avro_grammar.proofs.Basics.{null_is, null_told}
-use Rattle.avro_grammar.proofs.InferredLemmas.{inferred_composites}
+use Rattle.avro_schema.specs.Encodes.{IsNull, is_null}
+use Rattle.avro_schema.specs.TypeLaws.{inferred_member_of}
+use Rattle.avro_schema.proofs.Basics.{null_is, null_told}
+use Rattle.avro_schema.proofs.InferredLemmas.{inferred_composites}
 use Rattle.avro_reference.specs.Listed.{read_union_of}
 use Rattle.avro_reference.specs.Prefix.{Reader, number_at}
 use Rattle.avro_reference.specs.Read.{read}
 use Rattle.avro_reference.proofs.ByLists.{read_array, read_union, read_fields_are}
-use Rattle.arrow_types.specs.declared.slot.Slot.{Slot}
+use Rattle.arrow_core.specs.declared.slot.Slot.{Slot}
 use Rattle.json_text.specs.declared.columns.Column.{Column}
 use Rattle.json_text.specs.declared.integers.IntegerForm.{IntegerForm}
 use Rattle.json_text.specs.JsonText.{null}

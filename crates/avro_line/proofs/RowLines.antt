@@ -1,12 +1,12 @@
 -- Rows that were shown: field by field, and one after another.
 use Rattle.std.proofs.Common.{◌≡◌, ℕ, suc, ◌+◌, ◌-◌, ◌<◌, ◌≤◌, Bool, true, false, List, [], ◌∷◌, ◌++◌, length, map, drop, get_or, codes, refl, sym, ap, ◌∙◌, subst, append_assoc, append-nil, add-one, arith}
 use Rattle.std.proofs.Math.Seq.{drop-cons, drop-length}
-use Rattle.arrow_types.specs.declared.slot.Slot.{Slot}
-use Rattle.arrow_types.specs.declared.types.Field.{Field}
+use Rattle.arrow_core.specs.declared.slot.Slot.{Slot}
+use Rattle.arrow_core.specs.declared.types.Field.{Field}
 use Rattle.avro_schema.specs.declared.schema.AvroField.{AvroField}
-use Rattle.avro_grammar.specs.Parts.{Many}
-use Rattle.avro_grammar.specs.Rows.{Pieces, no_pieces, with_kept, with_skipped, Row}
-use Rattle.avro_grammar.specs.ValidBlock.{kept}
+use Rattle.avro_schema.specs.Parts.{Many}
+use Rattle.avro_schema.specs.Rows.{Pieces, no_pieces, with_kept, with_skipped, Row}
+use Rattle.avro_schema.specs.ValidBlock.{kept}
 use Rattle.avro_reference.specs.Read.{read}
 use Rattle.avro_reference.proofs.SkippedValues.{skip_sound}
 use Rattle.avro_reference.proofs.Values.{read_sound}

@@ -3,20 +3,20 @@ use Rattle.std.proofs.Common.{◌≡◌, ℕ, Bool, true, false, ◌&&◌, List,
 use Rattle.std.specs.Prelude.{if◌then◌else◌}
 use Rattle.std.specs.List.{AllZip}
 use Rattle.std.proofs.lemmas.Option.{none-some, same_Some}
-use Rattle.arrow_types.specs.declared.types.DataType.{DataType}
-use Rattle.arrow_types.specs.declared.types.DataType.TheVariants as types
-use Rattle.arrow_types.specs.declared.types.DataType.TheBlock.{shape-the_row-Field-1, hidden-the_row-Field-1}
-use Rattle.arrow_types.specs.declared.types.Field.{Field}
+use Rattle.arrow_core.specs.declared.types.DataType.{DataType}
+use Rattle.arrow_core.specs.declared.types.DataType.TheVariants as types
+use Rattle.arrow_core.specs.declared.types.DataType.TheBlock.{shape-the_row-Field-1, hidden-the_row-Field-1}
+use Rattle.arrow_core.specs.declared.types.Field.{Field}
 use Rattle.arrow_array.specs.Lists.{IsListOf}
 use Rattle.avro_schema.specs.declared.schema.AvroField.{AvroField}
 use Rattle.avro_schema.specs.declared.schema.Record.{Record as TheRecord, out-Record}
 use Rattle.avro_schema.specs.declared.schema.Schema.{Schema, Array, Record}
-use Rattle.avro_grammar.specs.AndThen.{◌>>=◌}
-use Rattle.avro_grammar.specs.Encodes.{is_null}
-use Rattle.avro_grammar.specs.Inferred.{column_field, columns_of, inferred, is_item, item_name}
-use Rattle.avro_grammar.specs.TypeLaws.{inferred_member_of}
-use Rattle.avro_grammar.proofs.Basics.{bind_some}
-use Rattle.avro_grammar.proofs.InferredLemmas.{inferred_composites}
+use Rattle.avro_schema.specs.AndThen.{◌>>=◌}
+use Rattle.avro_schema.specs.Encodes.{is_null}
+use Rattle.avro_schema.specs.Inferred.{column_field, columns_of, inferred, is_item, item_name}
+use Rattle.avro_schema.specs.TypeLaws.{inferred_member_of}
+use Rattle.avro_schema.proofs.Basics.{bind_some}
+use Rattle.avro_schema.proofs.InferredLemmas.{inferred_composites}
 use Rattle.json_text.specs.declared.columns.Column.{Column}
 use Rattle.json_text.specs.Columns.{AreFields, AreMembers, AreNamedFrom, AreWithin}
 use Rattle.avro_line.specs.Rows.{ArePrepared}

@@ -1,15 +1,15 @@
 -- What was shown of a block's rows: their table, and its lines.
 use Rattle.std.specs.Prelude.{◌≡◌, ℕ, Bool, true, List, ◌++◌, map, codes, Some, Ok}
 use Rattle.std.specs.List.{AllZip, list_all}
-use Rattle.arrow_types.specs.declared.slot.Slot.{Slot}
-use Rattle.arrow_types.specs.declared.types.Field.{Field}
+use Rattle.arrow_core.specs.declared.slot.Slot.{Slot}
+use Rattle.arrow_core.specs.declared.types.Field.{Field}
 use Rattle.avro_schema.specs.declared.schema.AvroField.{AvroField}
 use Rattle.avro_schema.specs.declared.schema.Schema.{Schema}
-use Rattle.avro_grammar.specs.Inferred.{inferred}
-use Rattle.avro_grammar.specs.Parts.{Many}
-use Rattle.avro_grammar.specs.Rows.{Pieces, Row, Rows}
-use Rattle.avro_grammar.specs.Skips.{Passed}
-use Rattle.avro_grammar.specs.ValidBlock.{kept}
+use Rattle.avro_schema.specs.Inferred.{inferred}
+use Rattle.avro_schema.specs.Parts.{Many}
+use Rattle.avro_schema.specs.Rows.{Pieces, Row, Rows}
+use Rattle.avro_schema.specs.Skips.{Passed}
+use Rattle.avro_schema.specs.ValidBlock.{kept}
 use Rattle.avro_reference.specs.Skip.{skip}
 use Rattle.json_text.specs.declared.columns.Column.{Column}
 use Rattle.json_text.specs.Columns.{AreNamedFrom}

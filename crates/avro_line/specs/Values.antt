@@ -1,15 +1,15 @@
 -- What was shown of a value: its slot, and the slot's text. Contracts of private functions alone cite this file.
 use Rattle.std.specs.Prelude.{◌≡◌, ℕ, ◌≤◌, ℤ, pos, true, List, [], ◌∷◌, ◌++◌, length, map, take, drop, Some, ◌⊎◌}
 use Rattle.std.specs.List.{list_all}
-use Rattle.arrow_types.specs.declared.slot.Slot.{Slot}
-use Rattle.arrow_types.specs.declared.slot.Slot.TheVariants as slot
-use Rattle.arrow_types.specs.declared.types.DataType.{DataType}
-use Rattle.arrow_types.specs.declared.types.DataType.TheVariants.{Struct}
-use Rattle.arrow_types.specs.declared.types.Field.{Field}
+use Rattle.arrow_core.specs.declared.slot.Slot.{Slot}
+use Rattle.arrow_core.specs.declared.slot.Slot.TheVariants as slot
+use Rattle.arrow_core.specs.declared.types.DataType.{DataType}
+use Rattle.arrow_core.specs.declared.types.DataType.TheVariants.{Struct}
+use Rattle.arrow_core.specs.declared.types.Field.{Field}
 use Rattle.avro_schema.specs.declared.schema.AvroField.{AvroField}
 use Rattle.avro_schema.specs.declared.schema.Schema.{Schema}
-use Rattle.avro_grammar.specs.Inferred.{inferred}
-use Rattle.avro_grammar.specs.TypeLaws.{inferred_member_of}
+use Rattle.avro_schema.specs.Inferred.{inferred}
+use Rattle.avro_schema.specs.TypeLaws.{inferred_member_of}
 use Rattle.avro_reference.specs.Listed.{read_record_of, read_union_of}
 use Rattle.avro_reference.specs.Prefix.{Reader, number_at}
 use Rattle.avro_reference.specs.Read.{items, array_at, read}

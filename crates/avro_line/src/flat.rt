@@ -2,16 +2,16 @@
 ghost use Rattle.std.specs.Prelude.{◌≡◌, ◌++◌, OnOk};
 ghost use Rattle.std.specs.Str.{IsUtf8};
 ghost use Rattle.arrow_base.specs.WrittenString.{json_string};
-ghost use Rattle.arrow_types.specs.declared.types.DataType.TheVariants.{Boolean as BooleanType, Utf8};
+ghost use Rattle.arrow_core.specs.declared.types.DataType.TheVariants.{Boolean as BooleanType, Utf8};
 ghost use Rattle.avro_reference.specs.Read.{boolean_at, int_at, long_at, string_at};
 ghost use Rattle.avro_line.specs.Values.{AddsInteger, ShowsSlot, ShowsIntegers, ShowsFlat};
 
 use crate::given_up::GivenUp;
+use arrow_core::is_utf8;
 use avro_reference::{Ahead, read_length};
 use avro_schema::AvroSchema;
 use json_text::{IntegerForm, integer_in_range, push_boolean_if, push_integer_if, push_string};
 use std::convert::AsSlice;
-use utf8_check::is_utf8;
 
 /// Appends the text of a value of a schema that has no others in it.
 ///

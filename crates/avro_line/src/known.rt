@@ -1,6 +1,6 @@
 //! Which fields are shown without columns.
 ghost use Rattle.std.specs.Prelude.{◌≡◌, length, All, IsTrue};
-ghost use Rattle.avro_grammar.specs.ValidBlock.{EnumsFit, KeptEnumsFit};
+ghost use Rattle.avro_schema.specs.ValidBlock.{EnumsFit, KeptEnumsFit};
 
 use avro_schema::{AvroField, AvroSchema};
 

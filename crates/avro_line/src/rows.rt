@@ -1,6 +1,6 @@
 //! The rows of a block, each a line.
 ghost use Rattle.std.specs.Prelude.{◌≡◌, length, OnOk};
-ghost use Rattle.avro_grammar.specs.Carried.{Carried, CarriedList};
+ghost use Rattle.avro_schema.specs.Carried.{Carried, CarriedList};
 ghost use Rattle.avro_line.specs.Rows.{SkipsTo, ShowsLine, ShowsLines, ShowsRowsOf};
 
 use crate::given_up::GivenUp;

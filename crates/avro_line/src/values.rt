@@ -6,9 +6,9 @@ ghost use Rattle.avro_line.specs.Values.{IsNextColumn, ShowsArray, ShowsItemsOf,
 use crate::flat::push_flat;
 use crate::given_up::GivenUp;
 use crate::union::take_member;
-use avro_infer::is_null;
 use avro_reference::{Ahead, read_length};
 use avro_schema::{AvroField, AvroSchema};
+use avro_types::is_null;
 use json_text::{Column, IntegerForm, push, push_comma, push_key, push_null};
 
 /// Appends the text of one value of a schema (Avro 1.11, "Binary Encoding"), by the form of its

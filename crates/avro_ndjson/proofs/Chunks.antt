@@ -6,19 +6,19 @@ use Rattle.std.proofs.lemmas.List.{length-map}
 use Rattle.arrow_core.specs.declared.error.Error.{Error}
 use Rattle.arrow_core.specs.declared.error.Error.TheVariants.{InvalidArgumentError, OutOfMemory}
 use Rattle.arrow_core.specs.declared.error.Reason.TheVariants.{DateRange}
-use Rattle.arrow_types.specs.declared.slot.Slot.{Slot}
-use Rattle.arrow_types.specs.declared.types.DataType.{DataType}
-use Rattle.arrow_types.specs.declared.types.Field.{Field}
+use Rattle.arrow_core.specs.declared.slot.Slot.{Slot}
+use Rattle.arrow_core.specs.declared.types.DataType.{DataType}
+use Rattle.arrow_core.specs.declared.types.Field.{Field}
 use Rattle.arrow_array.specs.declared.array.Array.{Array}
 use Rattle.arrow_array.specs.Arrays.{array_type, array_slots}
 use Rattle.json_text.specs.Refusals.{has_text, has_offsets}
 use Rattle.json_write.specs.Rows.{lines, names_of, objects, first_refusal, chunk_refusal}
-use Rattle.avro_grammar.specs.ValidBlock.{kept, KeptEnumsFit}
+use Rattle.avro_schema.specs.ValidBlock.{kept, KeptEnumsFit}
 use Rattle.avro_container.specs.File.{FileBlock, the_block}
-use Rattle.avro_blocks.specs.Written.{AppendsBlock}
-use Rattle.avro_decode.specs.Columns.{AreColumns, kept_types}
-use Rattle.avro_decode.specs.Decoder.{Projected, HasTable}
-use Rattle.avro_decode.specs.Refusals.{AreCounted}
+use Rattle.avro_container.specs.Written.{AppendsBlock}
+use Rattle.avro_schema.specs.Columns.{AreColumns, kept_types}
+use Rattle.avro_schema.specs.Projected.{Projected, HasTable}
+use Rattle.avro_schema.specs.Refusals.{AreCounted}
 use Rattle.avro_ndjson.specs.Shown.{table_lines, dates_in_range, ShowsBlock}
 use Rattle.avro_ndjson.specs.Taken.{BlockIsWrong}
 use Rattle.avro_ndjson.proofs.Dates.{row_in_range, columns_in_range, refused_late, rows_in_range, tables_by_fields}

@@ -5,26 +5,26 @@ use Rattle.std.proofs.lemmas.Option.{same_Some}
 use Rattle.std.specs.Io.KnownBytes.{Consumes}
 use Rattle.arrow_core.specs.declared.error.Error.{Error}
 use Rattle.arrow_core.specs.declared.error.Error.TheVariants.{OutOfMemory}
-use Rattle.arrow_types.specs.declared.types.Field.{Field}
+use Rattle.arrow_core.specs.declared.types.Field.{Field}
 use Rattle.avro_schema.specs.declared.schema.Record.{Record, out-Record}
-use Rattle.avro_grammar.specs.Inferred.{inferred_columns}
-use Rattle.avro_grammar.proofs.RowLaws.{same_table}
-use Rattle.avro_grammar.specs.ValidBlock.{ValidBlock}
+use Rattle.avro_schema.specs.Inferred.{inferred_columns}
+use Rattle.avro_schema.proofs.RowLaws.{same_table}
+use Rattle.avro_schema.specs.ValidBlock.{ValidBlock}
 use Rattle.avro_container.specs.File.{FileBlock, HeaderParts, header_parts, schema_entry}
 use Rattle.avro_container.specs.Laws.{told}
 use Rattle.avro_container.specs.Taking.{State, state}
 use Rattle.avro_container.proofs.OneFile.{header_reads}
-use Rattle.avro_blocks.specs.Changes.{Change, header_of, Failed, IsTold, CameFromOutside}
-use Rattle.avro_blocks.specs.Written.{WithAllRows}
-use Rattle.avro_blocks.proofs.AllRows.{with_all_rows}
-use Rattle.avro_blocks.proofs.Reading.{consumed_some, IsGood, stops_for_memory}
-use Rattle.avro_blocks.proofs.Results.{memory_or_not}
-use Rattle.avro_blocks.proofs.Steps.{rose_from}
+use Rattle.avro_container.specs.Changes.{Change, header_of, Failed, IsTold, CameFromOutside}
+use Rattle.avro_container.specs.Written.{WithAllRows}
+use Rattle.avro_container.proofs.AllRows.{with_all_rows}
+use Rattle.avro_container.proofs.Reading.{consumed_some, IsGood, stops_for_memory}
+use Rattle.avro_container.proofs.Results.{memory_or_not}
+use Rattle.avro_container.proofs.Steps.{rose_from}
 use Rattle.avro_file.specs.File.{StandsFor, AvroFile}
 use Rattle.avro_file.specs.Laws.{IsMetadata}
 use Rattle.avro_file.proofs.Complete.{metadata_is_read, metadata_is_right}
 use Rattle.avro_file.proofs.Roots.{one_root}
-use Rattle.avro_decode.specs.Decoder.{Projected, CanBeDecoded}
+use Rattle.avro_schema.specs.Projected.{Projected, CanBeDecoded}
 use Rattle.avro_decode.proofs.Valid.{valid_blocks}
 use Rattle.avro_ndjson.specs.Laws.{CanBeConverted, IsHeaderDue, FilesAreConverted, FieldsAreRefused, RefusedIsNotConverted}
 use Rattle.avro_ndjson.specs.Refusals.{CannotBeShown, BlockNotShown, ConversionFails}

@@ -7,16 +7,16 @@ use Rattle.std.proofs.Math.Seq.{drop-cons}
 use Rattle.arrow_core.specs.declared.error.Error.{Error}
 use Rattle.arrow_core.specs.declared.error.Error.TheVariants.{InvalidArgumentError}
 use Rattle.arrow_core.specs.declared.error.Reason.TheVariants.{DateRange}
-use Rattle.arrow_types.specs.declared.slot.Slot.{Slot}
-use Rattle.arrow_types.specs.declared.slot.Slot.TheVariants as slot
-use Rattle.arrow_types.specs.declared.types.DataType.{DataType}
-use Rattle.arrow_types.specs.declared.types.Field.{Field}
+use Rattle.arrow_core.specs.declared.slot.Slot.{Slot}
+use Rattle.arrow_core.specs.declared.slot.Slot.TheVariants as slot
+use Rattle.arrow_core.specs.declared.types.DataType.{DataType}
+use Rattle.arrow_core.specs.declared.types.Field.{Field}
 use Rattle.arrow_array.specs.declared.array.Array.{Array}
 use Rattle.arrow_array.specs.Arrays.{array_type, array_slots}
 use Rattle.json_text.specs.Refusals.{has_text, has_offsets, in_range, all_in_range, refusal}
 use Rattle.json_write.specs.Rows.{first_of, first_refusal}
-use Rattle.avro_grammar.specs.Rows.{column}
-use Rattle.avro_decode.specs.Columns.{columns}
+use Rattle.avro_schema.specs.Rows.{column}
+use Rattle.avro_schema.specs.Columns.{columns}
 use Rattle.avro_ndjson.proofs.Tables.{AreWide}
 
 -- the dates of a row are in range

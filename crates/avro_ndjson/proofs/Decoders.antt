@@ -3,16 +3,16 @@ use Rattle.std.proofs.Common.{◌≡◌, ◌∙◌, ℕ, true, List, [], ◌∷�
 use Rattle.std.specs.List.{range_with_len}
 use Rattle.std.proofs.lemmas.List.{length-map}
 use Rattle.std.proofs.lemmas.List.FromFn.{length-range_with_len}
-use Rattle.arrow_types.specs.declared.types.Field.{Field}
+use Rattle.arrow_core.specs.declared.types.Field.{Field}
 use Rattle.avro_schema.specs.declared.schema.AvroField.{AvroField}
 use Rattle.avro_schema.specs.declared.schema.Record.{Record, out-Record}
-use Rattle.avro_grammar.specs.Inferred.{own_doc, inferred_columns}
-use Rattle.avro_grammar.specs.Types.{HasColumnType, Fits}
-use Rattle.avro_grammar.proofs.TypeLemmas.{small_forms_fit}
-use Rattle.avro_infer.specs.Columns.{AllTyped}
-use Rattle.avro_infer.proofs.ColumnTypes.{zip_length}
-use Rattle.avro_infer.proofs.RootColumns.{columns_fit}
-use Rattle.avro_decode.specs.Decoder.{CanBeDecoded}
+use Rattle.avro_schema.specs.Inferred.{own_doc, inferred_columns}
+use Rattle.avro_schema.specs.Types.{HasColumnType, Fits}
+use Rattle.avro_schema.proofs.TypeLemmas.{small_forms_fit}
+use Rattle.avro_types.specs.Columns.{AllTyped}
+use Rattle.avro_types.proofs.ColumnTypes.{zip_length}
+use Rattle.avro_types.proofs.RootColumns.{columns_fit}
+use Rattle.avro_schema.specs.Projected.{CanBeDecoded}
 use Rattle.avro_ndjson.specs.Keep.{is_kept}
 use Rattle.avro_ndjson.specs.Shown.{kept_of, CanBeShown, projected_of}
 

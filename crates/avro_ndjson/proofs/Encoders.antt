@@ -9,15 +9,15 @@ use Rattle.arrow_base.specs.Outside.{is_among}
 use Rattle.arrow_core.specs.declared.error.Error.{Error}
 use Rattle.arrow_core.specs.declared.error.Error.TheVariants.{InvalidArgumentError, NotYetImplemented, Overflow, OutOfMemory}
 use Rattle.arrow_core.specs.declared.error.Reason.TheVariants as reason
-use Rattle.arrow_types.specs.declared.types.Field.{Field}
+use Rattle.arrow_core.specs.declared.types.Field.{Field}
 use Rattle.json_text.specs.Refusals.{has_text, has_offsets}
 use Rattle.avro_schema.specs.declared.schema.AvroField.{AvroField}
-use Rattle.avro_grammar.specs.Inferred.{inferred, inferred_columns, own_doc}
-use Rattle.avro_grammar.specs.Types.{Fits}
-use Rattle.avro_grammar.specs.ValidBlock.{kept, KeepNoFloat}
-use Rattle.avro_grammar.proofs.KeptLemmas.{kept_by_index}
-use Rattle.avro_decode.specs.Decoder.{CanBeDecoded, Projected, projected, ProjectionRefused}
-use Rattle.avro_decode.specs.Refusals.{AreCarried, AreNotCarried}
+use Rattle.avro_schema.specs.Inferred.{inferred, inferred_columns, own_doc}
+use Rattle.avro_schema.specs.Types.{Fits}
+use Rattle.avro_schema.specs.ValidBlock.{kept, KeepNoFloat}
+use Rattle.avro_schema.proofs.KeptLemmas.{kept_by_index}
+use Rattle.avro_schema.specs.Projected.{CanBeDecoded, Projected, projected, ProjectionRefused}
+use Rattle.avro_schema.specs.Refusals.{AreCarried, AreNotCarried}
 use Rattle.avro_line.proofs.Types.{HaveTypes, columns_typed}
 use Rattle.avro_ndjson.specs.Encoder.{IsEncoder}
 use Rattle.avro_ndjson.specs.declared.lines.BlockEncoder.{BlockEncoder}

@@ -2,7 +2,7 @@
 use Rattle.std.proofs.Common.{◌≡◌, ◌∙◌, ℕ, zero, suc, ◌+◌, ◌<◌, ◌≤◌, Bool, true, false, List, [], ◌∷◌, ◌++◌, length, get_or, drop, map, refl, sym, ap, add-one, append_assoc, arith}
 use Rattle.std.proofs.lemmas.List.{append-nil, map-id}
 use Rattle.std.proofs.Math.Seq.{drop-cons}
-use Rattle.avro_grammar.specs.ValidBlock.{kept}
+use Rattle.avro_schema.specs.ValidBlock.{kept}
 
 -- what is done, and what is left from index i on, is the whole
 abbrev pub KeptSoFar : {A B : Type 0} → (A → B) → List A → List Bool → ℕ → List B → Type 0

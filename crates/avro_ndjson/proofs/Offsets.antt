@@ -2,8 +2,8 @@
 use Rattle.std.proofs.Common.{◌≡◌, ◌∙◌, inl, inr, ℕ, zero, suc, Bool, true, List, [], ◌∷◌, All, Option, Some, None, refl, ap, arith}
 use Rattle.std.specs.List.{list_all, AllZip}
 use Rattle.std.specs.Prelude.{◌&&◌}
-use Rattle.arrow_types.specs.declared.types.DataType.{DataType}
-use Rattle.arrow_types.specs.declared.types.Field.{Field}
+use Rattle.arrow_core.specs.declared.types.DataType.{DataType}
+use Rattle.arrow_core.specs.declared.types.Field.{Field}
 use Rattle.json_dates.specs.Times.{offset_of}
 use Rattle.json_text.specs.Refusals.{has_offsets, is_offset}
 use Rattle.json_text.proofs.Beneath.{list_offsets, large_list_offsets, struct_offsets}
@@ -18,7 +18,7 @@ use Rattle.avro_schema.specs.declared.schema.BytesLogical.{BytesLogical}
 use Rattle.avro_schema.specs.declared.schema.BytesLogical.TheVariants as bytes_logical
 use Rattle.avro_schema.specs.declared.schema.FixedLogical.{FixedLogical}
 use Rattle.avro_schema.specs.declared.schema.FixedLogical.TheVariants as fixed_logical
-use Rattle.avro_grammar.specs.Types.{int_type, utc, long_type, fixed_type, HasBytesType, HasType, HasMemberType, HasItemType, HasRecordType, HasFieldTypes, HasColumnType}
+use Rattle.avro_schema.specs.Types.{int_type, utc, long_type, fixed_type, HasBytesType, HasType, HasMemberType, HasItemType, HasRecordType, HasFieldTypes, HasColumnType}
 
 utc_is_offset : is_offset utc ≡ true
 unfolding offset_of

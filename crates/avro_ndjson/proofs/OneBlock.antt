@@ -3,12 +3,12 @@ use Rattle.std.proofs.Common.{◌≡◌, ◌∙◌, ◌⊎◌, inl, inr, List, l
 use Rattle.arrow_core.specs.declared.error.Error.{Error}
 use Rattle.arrow_core.specs.declared.error.Error.TheVariants.{InvalidArgumentError, NotYetImplemented, ExternalFormat, OutOfSpec, Overflow, OutOfMemory}
 use Rattle.arrow_core.specs.declared.error.Reason.TheVariants as reason
-use Rattle.arrow_types.specs.declared.slot.Slot.{Slot}
-use Rattle.avro_grammar.specs.ValidBlock.{KeptEnumsFit, ValidBlock}
+use Rattle.arrow_core.specs.declared.slot.Slot.{Slot}
+use Rattle.avro_schema.specs.ValidBlock.{KeptEnumsFit, ValidBlock}
 use Rattle.avro_container.specs.File.{FileBlock}
-use Rattle.avro_blocks.proofs.OneBlock.{AreOne}
-use Rattle.avro_decode.specs.Decoder.{Projected, CanBeDecoded, HasTable}
-use Rattle.avro_decode.specs.Refusals.{BelongTogether, FieldsRefused, BytesRefused, BlockRefused}
+use Rattle.avro_container.proofs.OneBlock.{AreOne}
+use Rattle.avro_schema.specs.Projected.{Projected, CanBeDecoded, HasTable}
+use Rattle.avro_schema.specs.Refusals.{BelongTogether, FieldsRefused, BytesRefused, BlockRefused}
 use Rattle.avro_decode.proofs.Valid.{valid_blocks}
 use Rattle.avro_ndjson.specs.Taken.{BlockIsWrong}
 

@@ -6,21 +6,21 @@ use Rattle.std.specs.Io.KnownBytes.{Consumes, IsAtEnd}
 use Rattle.arrow_base.specs.Outside.{RoseOrFull}
 use Rattle.arrow_core.specs.declared.error.Error.{Error}
 use Rattle.arrow_core.specs.declared.error.Error.TheVariants.{OutOfMemory}
-use Rattle.arrow_types.specs.declared.types.Field.{Field}
+use Rattle.arrow_core.specs.declared.types.Field.{Field}
 use Rattle.avro_schema.specs.declared.schema.Record.{Record, out-Record}
-use Rattle.avro_grammar.specs.Inferred.{inferred_columns}
+use Rattle.avro_schema.specs.Inferred.{inferred_columns}
 use Rattle.avro_container.specs.Laws.{told}
 use Rattle.avro_container.specs.Taking.{State, state}
-use Rattle.avro_blocks.specs.Changes.{Change, change_of}
-use Rattle.avro_blocks.specs.Written.{WithAllRows}
-use Rattle.avro_blocks.proofs.OneBlock.{AreOne, AreOneOr, or_outside, one_stop}
-use Rattle.avro_blocks.proofs.Reading.{consumed_some}
-use Rattle.avro_blocks.proofs.Results.{memory_or_not}
-use Rattle.avro_blocks.proofs.Steps.{rose_from}
+use Rattle.avro_container.specs.Changes.{Change, change_of}
+use Rattle.avro_container.specs.Written.{WithAllRows}
+use Rattle.avro_container.proofs.OneBlock.{AreOne, AreOneOr, or_outside, one_stop}
+use Rattle.avro_container.proofs.Reading.{consumed_some}
+use Rattle.avro_container.proofs.Results.{memory_or_not}
+use Rattle.avro_container.proofs.Steps.{rose_from}
 use Rattle.avro_file.specs.Laws.{IsMetadata}
 use Rattle.avro_file.specs.Metadata.{ReadsMetadata, MetadataFails}
 use Rattle.avro_file.proofs.Complete.{metadata_is_read, metadata_is_right}
-use Rattle.avro_decode.specs.Decoder.{Projected, CanBeDecoded}
+use Rattle.avro_schema.specs.Projected.{Projected, CanBeDecoded}
 use Rattle.avro_ndjson.specs.Laws.{CanBeConverted, OneErrorComes, ConvertedDoesNotFail}
 use Rattle.avro_ndjson.specs.Refusals.{CannotBeShown, HeaderNotShown, BlockNotShown, ConversionFails}
 use Rattle.avro_ndjson.specs.Shown.{CanBeShown, projected_of, ShowsBlock}

@@ -6,11 +6,11 @@ use Rattle.arrow_core.specs.declared.error.Error.TheVariants.{NotYetImplemented,
 use Rattle.arrow_core.specs.declared.error.Reason.TheVariants as reason
 use Rattle.json_tree.specs.Meaning.{IsJson}
 use Rattle.avro_schema.specs.declared.schema.Schema.{Schema}
-use Rattle.avro_text.specs.Outcome.{Outcome, wrong, reference}
-use Rattle.avro_text.specs.Reading.{schema_of, SchemaTextRefused}
-use Rattle.avro_text.specs.declared.fault.Fault.{Fault}
-use Rattle.avro_text.specs.declared.fault.Fault.TheVariants.{Form, Reference, Depth, Memory}
-use Rattle.avro_text.proofs.Answered.{only_memory}
+use Rattle.avro_file.specs.Outcome.{Outcome, wrong, reference}
+use Rattle.avro_file.specs.Reading.{schema_of, SchemaTextRefused}
+use Rattle.avro_file.specs.declared.fault.Fault.{Fault}
+use Rattle.avro_file.specs.declared.fault.Fault.TheVariants.{Form, Reference, Depth, Memory}
+use Rattle.avro_file.proofs.Answered.{only_memory}
 use Rattle.avro_container.specs.File.{Entry, HeaderParts, header_parts, Header, schema_entry, magic}
 use Rattle.avro_container.specs.FileForms.{magic_form, after_magic, header}
 use Rattle.avro_container.specs.Forms.{Form as BytesForm}
@@ -21,8 +21,8 @@ use Rattle.avro_container.proofs.Complete.{magic_cause, header_cause, codec_caus
 use Rattle.avro_container.proofs.OneFile.{header_reads}
 use Rattle.avro_container.proofs.SettledBlocks.{header_settles}
 use Rattle.avro_container.proofs.Taken.{takes_more, both_pass}
-use Rattle.avro_blocks.proofs.OneBlock.{AreOne, limit_or_end, limit_or_wrong}
-use Rattle.avro_blocks.proofs.Reading.{consumed_some}
+use Rattle.avro_container.proofs.OneBlock.{AreOne, limit_or_end, limit_or_wrong}
+use Rattle.avro_container.proofs.Reading.{consumed_some}
 use Rattle.avro_file.specs.Metadata.{RootFails, NoRecord, MetadataFails}
 
 -- ---- headers

@@ -3,15 +3,15 @@ use Rattle.std.proofs.Common.{◌≡◌, ◌∙◌, ℕ, ◌≤◌, true, List, 
 use Rattle.std.specs.Prelude.{IfSome}
 use Rattle.std.specs.List.{list_all}
 use Rattle.std.proofs.lemmas.Bool.{false≢true}
-use Rattle.arrow_types.specs.declared.types.Field.{Field}
+use Rattle.arrow_core.specs.declared.types.Field.{Field}
 use Rattle.json_text.specs.Refusals.{all_in_range}
 use Rattle.json_write.specs.Rows.{lines, names_of}
-use Rattle.avro_grammar.specs.ValidBlock.{kept, small_limit}
-use Rattle.avro_grammar.proofs.RowLaws.{rows_have}
+use Rattle.avro_schema.specs.ValidBlock.{kept, small_limit}
+use Rattle.avro_schema.proofs.RowLaws.{rows_have}
 use Rattle.avro_container.specs.File.{the_block}
-use Rattle.avro_blocks.specs.Written.{AppendsBlock}
+use Rattle.avro_container.specs.Written.{AppendsBlock}
 use Rattle.avro_line.specs.Rows.{ShowsRows, ShowsRowsOf}
-use Rattle.avro_decode.specs.Decoder.{Projected}
+use Rattle.avro_schema.specs.Projected.{Projected}
 use Rattle.avro_ndjson.specs.declared.lines.BlockEncoder.{BlockEncoder}
 use Rattle.avro_ndjson.specs.declared.plan.RowPlan.{RowPlan}
 use Rattle.avro_ndjson.specs.Encoder.{IsEncoder}

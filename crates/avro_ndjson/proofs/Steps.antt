@@ -6,14 +6,14 @@ use Rattle.std.proofs.KnownBytes.{Appends-kept, Consumes-trans}
 use Rattle.std.proofs.lemmas.List.{append-nil}
 use Rattle.std.specs.Io.KnownBytes.{Consumes}
 use Rattle.arrow_core.specs.declared.error.Error.{Error}
-use Rattle.arrow_types.specs.declared.types.Field.{Field}
+use Rattle.arrow_core.specs.declared.types.Field.{Field}
 use Rattle.avro_schema.specs.declared.schema.Record.{Record, out-Record}
 use Rattle.avro_container.specs.Taking.{State, state}
-use Rattle.avro_blocks.specs.Changes.{Change, header_of}
-use Rattle.avro_blocks.specs.Written.{AllWritten, BlockText, WithAllRows}
-use Rattle.avro_blocks.proofs.AllRows.{rows_of_blocks, texts_joined, whole_texts}
+use Rattle.avro_container.specs.Changes.{Change, header_of}
+use Rattle.avro_container.specs.Written.{AllWritten, BlockText, WithAllRows}
+use Rattle.avro_container.proofs.AllRows.{rows_of_blocks, texts_joined, whole_texts}
 use Rattle.avro_file.specs.Metadata.{ReadsMetadata}
-use Rattle.avro_decode.specs.Decoder.{Projected}
+use Rattle.avro_schema.specs.Projected.{Projected}
 use Rattle.avro_ndjson.specs.Refusals.{Converts, ConversionFails}
 use Rattle.avro_ndjson.specs.Shown.{CanBeShown, projected_of, ShowsBlock}
 use Rattle.avro_ndjson.specs.Taken.{StopsAtBlock}

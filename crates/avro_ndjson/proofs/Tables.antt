@@ -4,18 +4,18 @@ use Rattle.std.specs.List.{flat_map, range_with_len}
 use Rattle.std.proofs.lemmas.List.{length-map, get_or-map}
 use Rattle.std.proofs.lemmas.List.Elements.{All-cons}
 use Rattle.std.proofs.Math.Seq.{drop-cons}
-use Rattle.arrow_types.specs.declared.slot.Slot.{Slot}
-use Rattle.arrow_types.specs.declared.slot.Slot.TheVariants as slot
-use Rattle.arrow_types.specs.declared.types.DataType.{DataType}
+use Rattle.arrow_core.specs.declared.slot.Slot.{Slot}
+use Rattle.arrow_core.specs.declared.slot.Slot.TheVariants as slot
+use Rattle.arrow_core.specs.declared.types.DataType.{DataType}
 use Rattle.arrow_array.specs.declared.array.Array.{Array}
 use Rattle.arrow_array.specs.Arrays.{array_slots}
 use Rattle.arrow_array.specs.Slots.{slot_at}
 use Rattle.json_write.specs.Rows.{row_object, lines, row_at, table_of, row_count}
 use Rattle.avro_schema.specs.declared.schema.AvroField.{AvroField}
-use Rattle.avro_grammar.specs.Parts.{Many}
-use Rattle.avro_grammar.specs.Rows.{Pieces, Row, Rows, column}
-use Rattle.avro_grammar.specs.ValidBlock.{kept}
-use Rattle.avro_decode.specs.Columns.{columns}
+use Rattle.avro_schema.specs.Parts.{Many}
+use Rattle.avro_schema.specs.Rows.{Pieces, Row, Rows, column}
+use Rattle.avro_schema.specs.ValidBlock.{kept}
+use Rattle.avro_schema.specs.Columns.{columns}
 
 -- ---- rows of kept slots are as wide as fields are kept
 

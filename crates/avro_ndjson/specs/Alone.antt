@@ -2,7 +2,7 @@
 use Rattle.std.specs.Prelude.{List, [], ◌∷◌, Option, Some, None}
 use Rattle.arrow_core.specs.declared.error.Error.TheVariants.{NotYetImplemented}
 use Rattle.arrow_core.specs.declared.error.Reason.{Reason}
-use Rattle.arrow_types.specs.declared.types.Field.{Field}
+use Rattle.arrow_core.specs.declared.types.Field.{Field}
 use Rattle.avro_schema.specs.declared.schema.AvroField.{AvroField}
 use Rattle.avro_ndjson.specs.Refusals.{CannotBeShown}
 use Rattle.avro_ndjson.specs.Shown.{CanBeShown}

@@ -2,9 +2,9 @@
 use Rattle.std.specs.Prelude.{◌≡◌, ◌<◌, length, All, true, Some, IfSome}
 use Rattle.std.specs.List.{AllZip}
 use Rattle.json_text.specs.Refusals.{has_text, has_offsets}
-use Rattle.avro_grammar.specs.Inferred.{inferred}
-use Rattle.avro_grammar.specs.ValidBlock.{kept}
-use Rattle.avro_decode.specs.Decoder.{CanBeDecoded}
+use Rattle.avro_schema.specs.Inferred.{inferred}
+use Rattle.avro_schema.specs.ValidBlock.{kept}
+use Rattle.avro_schema.specs.Projected.{CanBeDecoded}
 use Rattle.avro_ndjson.specs.declared.lines.BlockEncoder.{BlockEncoder}
 use Rattle.avro_ndjson.specs.Plan.{IsPlan}
 

@@ -3,7 +3,7 @@ use Rattle.std.specs.Prelude.{◌≡◌, ◌≢◌, ℕ, List, ◌++◌, Option,
 use Rattle.arrow_core.specs.declared.error.Error.{Error}
 use Rattle.arrow_core.specs.declared.error.Error.TheVariants.{OutOfMemory}
 use Rattle.avro_schema.specs.declared.schema.Record.{Record, out-Record}
-use Rattle.avro_blocks.specs.Changes.{Change, Failed, IsTold, CameFromOutside}
+use Rattle.avro_container.specs.Changes.{Change, Failed, IsTold, CameFromOutside}
 use Rattle.avro_file.specs.Laws.{IsMetadata}
 use Rattle.avro_ndjson.specs.Refusals.{CannotBeShown, Converts, ConversionFails}
 use Rattle.avro_ndjson.specs.Shown.{ShowsFile}

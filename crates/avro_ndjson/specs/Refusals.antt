@@ -5,15 +5,15 @@ use Rattle.std.specs.Io.KnownBytes.{Appends, Keeps, Consumes, IsAtEnd}
 use Rattle.arrow_core.specs.declared.error.Error.{Error}
 use Rattle.arrow_core.specs.declared.error.Error.TheVariants.{InvalidArgumentError, NotYetImplemented, OutOfMemory}
 use Rattle.arrow_core.specs.declared.error.Reason.TheVariants as reason
-use Rattle.arrow_types.specs.declared.types.Field.{Field}
+use Rattle.arrow_core.specs.declared.types.Field.{Field}
 use Rattle.avro_schema.specs.declared.schema.AvroField.{AvroField}
 use Rattle.avro_schema.specs.declared.schema.Record.{Record, out-Record}
-use Rattle.avro_grammar.specs.Carried.{CarriedList}
-use Rattle.avro_grammar.specs.Inferred.{inferred_columns}
-use Rattle.avro_grammar.specs.ValidBlock.{KeepNoFloat}
+use Rattle.avro_schema.specs.Carried.{CarriedList}
+use Rattle.avro_schema.specs.Inferred.{inferred_columns}
+use Rattle.avro_schema.specs.ValidBlock.{KeepNoFloat}
 use Rattle.avro_container.specs.Taking.{state}
-use Rattle.avro_blocks.specs.Changes.{Change, header_of}
-use Rattle.avro_decode.specs.Refusals.{AreCarried}
+use Rattle.avro_container.specs.Changes.{Change, header_of}
+use Rattle.avro_schema.specs.Refusals.{AreCarried}
 use Rattle.avro_file.specs.Metadata.{ReadsMetadata, MetadataFails}
 use Rattle.avro_ndjson.specs.Keep.{NamesFields}
 use Rattle.avro_ndjson.specs.Shown.{kept_of, HaveTexts, CanBeShown, projected_of, ShowsFile}

@@ -1,19 +1,19 @@
 -- The lines of a file's rows, and which files have them.
 use Rattle.std.specs.Prelude.{◌≡◌, ◌≢◌, ℕ, ◌<◌, List, [], length, sum_by, All, Bool, true, Option, Some}
 use Rattle.std.specs.List.{list_all, AllZip, concat}
-use Rattle.arrow_types.specs.declared.slot.Slot.{Slot}
-use Rattle.arrow_types.specs.declared.types.Field.{Field}
+use Rattle.arrow_core.specs.declared.slot.Slot.{Slot}
+use Rattle.arrow_core.specs.declared.types.Field.{Field}
 use Rattle.json_text.specs.Refusals.{has_text, all_in_range}
 use Rattle.json_write.specs.Rows.{lines, names_of}
 use Rattle.avro_schema.specs.declared.schema.AvroField.{AvroField}
 use Rattle.avro_schema.specs.declared.schema.Record.{Record, out-Record}
-use Rattle.avro_grammar.specs.Carried.{CarriedList}
-use Rattle.avro_grammar.specs.Inferred.{inferred_columns}
-use Rattle.avro_grammar.specs.ValidBlock.{kept, KeepNoFloat}
+use Rattle.avro_schema.specs.Carried.{CarriedList}
+use Rattle.avro_schema.specs.Inferred.{inferred_columns}
+use Rattle.avro_schema.specs.ValidBlock.{kept, KeepNoFloat}
 use Rattle.avro_container.specs.File.{FileBlock}
 use Rattle.avro_file.specs.File.{AvroFile}
-use Rattle.avro_decode.specs.Columns.{kept_types}
-use Rattle.avro_decode.specs.Decoder.{Projected, projected, HasTable}
+use Rattle.avro_schema.specs.Columns.{kept_types}
+use Rattle.avro_schema.specs.Projected.{Projected, projected, HasTable}
 use Rattle.avro_ndjson.specs.Keep.{projection_of, NamesFields}
 
 -- ---- the fields of a record

@@ -3,13 +3,13 @@ use Rattle.std.specs.Prelude.{◌≡◌, ℕ, List, false, Option, ◌⊎◌}
 use Rattle.arrow_core.specs.declared.error.Error.{Error}
 use Rattle.arrow_core.specs.declared.error.Error.TheVariants.{InvalidArgumentError}
 use Rattle.arrow_core.specs.declared.error.Reason.TheVariants.{DateRange}
-use Rattle.arrow_types.specs.declared.slot.Slot.{Slot}
+use Rattle.arrow_core.specs.declared.slot.Slot.{Slot}
 use Rattle.avro_container.specs.File.{FileBlock}
 use Rattle.avro_container.specs.Taking.{State}
-use Rattle.avro_blocks.specs.Changes.{Change}
-use Rattle.avro_blocks.specs.Written as written
-use Rattle.avro_decode.specs.Decoder.{Projected, HasTable}
-use Rattle.avro_decode.specs.Refusals.{BlockRefused}
+use Rattle.avro_container.specs.Changes.{Change}
+use Rattle.avro_container.specs.Written as written
+use Rattle.avro_schema.specs.Projected.{Projected, HasTable}
+use Rattle.avro_schema.specs.Refusals.{BlockRefused}
 use Rattle.avro_ndjson.specs.Shown.{dates_in_range, ShowsBlock}
 
 -- one block after another was taken, and the lines of their rows, so many in all, were written

@@ -4,7 +4,7 @@ ghost use Rattle.std.specs.Prelude.{◌≡◌, length, true, All, IfOk, MatchRes
 ghost use Rattle.arrow_core.specs.declared.error.Error.TheVariants.{NotYetImplemented};
 ghost use Rattle.arrow_core.specs.declared.error.Reason.TheVariants.{NoJsonText};
 ghost use Rattle.arrow_core.specs.Errors.{OnlyOutOfMemory};
-ghost use Rattle.avro_grammar.specs.ValidBlock.{kept};
+ghost use Rattle.avro_schema.specs.ValidBlock.{kept};
 ghost use Rattle.json_text.specs.Refusals.{has_text};
 
 use arrow_base::{Error, Field, Items, Reason, Result};

@@ -4,7 +4,7 @@ ghost use Rattle.std.specs.Prelude.{◌≡◌, ◌≤◌, ◌↔◌, [], length,
 ghost use Rattle.std.specs.Option.{option_copied};
 ghost use Rattle.avro_schema.specs.declared.schema.Record.{out-Record};
 ghost use Rattle.avro_container.specs.File.{the_block};
-ghost use Rattle.avro_blocks.specs.Written.{AppendsBlock};
+ghost use Rattle.avro_container.specs.Written.{AppendsBlock};
 ghost use Rattle.avro_ndjson.specs.Encoder.{IsEncoder};
 ghost use Rattle.avro_ndjson.specs.Refusals.{CannotBeShown};
 ghost use Rattle.avro_ndjson.specs.Shown.{CanBeShown, projected_of, ShowsBlock};
@@ -14,10 +14,10 @@ use crate::fields::{check_texts, kept_fields};
 use crate::keep::projection_of;
 use crate::plan::{RowPlan, plan_rows};
 use arrow_base::{Error, Reason, Result};
-use avro_blocks::EncodesBlocks;
+use avro_container::EncodesBlocks;
 use avro_decode::{Decoder, check_carried};
-use avro_infer::infer_schema;
 use avro_schema::{Block, Record};
+use avro_types::infer_schema;
 use json_write::LineEncoder;
 use std::alloc::Global;
 
@@ -127,7 +127,7 @@ impl BlockEncoder {
 }
 
 impl EncodesBlocks for BlockEncoder {
-    ghost use Rattle.avro_blocks.specs.Written.{WithAllRows};
+    ghost use Rattle.avro_container.specs.Written.{WithAllRows};
     ghost use Rattle.avro_ndjson.specs.Encoder.{IsEncoder};
     ghost use Rattle.avro_ndjson.specs.Shown.{ShowsBlock};
     ghost use Rattle.avro_ndjson.specs.Taken.{BlockIsWrong};

@@ -2,13 +2,12 @@
 
 ghost use Rattle.std.specs.Prelude.{◌≡◌, ◌≤◌, IfOk, IfErr};
 ghost use Rattle.std.specs.Option.{option_copied};
-ghost use Rattle.avro_blocks.specs.Changes.{change_of};
+ghost use Rattle.avro_container.specs.Changes.{change_of};
 ghost use Rattle.avro_ndjson.specs.Refusals.{Converts, ConversionFails};
 
 use crate::lines::BlockEncoder;
 use arrow_base::{Result, Sink, Source};
-use avro_blocks::write_blocks;
-use avro_container::BlockReader;
+use avro_container::{BlockReader, write_blocks};
 use avro_file::{FileMetadata, read_metadata};
 use std::alloc::Global;
 

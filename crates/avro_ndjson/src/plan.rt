@@ -2,10 +2,10 @@
 
 ghost use Rattle.std.specs.Prelude.{◌≡◌, ◌≤◌, length, IfOk, IfSome, OnOk};
 ghost use Rattle.arrow_core.specs.Errors.{OnlyOutOfMemory};
-ghost use Rattle.avro_grammar.specs.ValidBlock.{small_limit};
+ghost use Rattle.avro_schema.specs.ValidBlock.{small_limit};
 ghost use Rattle.avro_line.specs.Rows.{ShowsRowsOf};
 ghost use Rattle.json_text.specs.Columns.{AreFields};
-ghost use Rattle.avro_decode.specs.Decoder.{CanBeDecoded};
+ghost use Rattle.avro_schema.specs.Projected.{CanBeDecoded};
 ghost use Rattle.avro_ndjson.specs.Plan.{IsPlan};
 
 use arrow_base::{Field, Result};

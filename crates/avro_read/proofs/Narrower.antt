@@ -12,15 +12,15 @@ use Rattle.arrow_core.specs.declared.error.Error.TheVariants.{InvalidArgumentErr
 use Rattle.arrow_core.specs.declared.error.Reason.TheVariants as reason
 use Rattle.arrow_array.specs.declared.array.Array.{Array}
 use Rattle.arrow_array.specs.Arrays.{array_type, array_slots}
-use Rattle.arrow_types.specs.declared.slot.Slot.{Slot}
-use Rattle.arrow_types.specs.declared.slot.Slot.TheVariants as slot
-use Rattle.arrow_types.specs.declared.types.DataType.{DataType}
-use Rattle.arrow_types.specs.declared.types.Field.{Field}
+use Rattle.arrow_core.specs.declared.slot.Slot.{Slot}
+use Rattle.arrow_core.specs.declared.slot.Slot.TheVariants as slot
+use Rattle.arrow_core.specs.declared.types.DataType.{DataType}
+use Rattle.arrow_core.specs.declared.types.Field.{Field}
 use Rattle.avro_schema.specs.declared.schema.AvroField.{AvroField}
-use Rattle.avro_grammar.specs.Laws.{KeepsNoMore, narrowed}
-use Rattle.avro_grammar.specs.Rows.{column}
-use Rattle.avro_grammar.specs.ValidBlock.{kept, HaveSameLength, OffsetsFit, ValidBlock, IsSmall, HasFloat, EnumsFit}
-use Rattle.avro_grammar.proofs.RowLaws.{same_table, narrower}
+use Rattle.avro_schema.specs.Laws.{KeepsNoMore, narrowed}
+use Rattle.avro_schema.specs.Rows.{column}
+use Rattle.avro_schema.specs.ValidBlock.{kept, HaveSameLength, OffsetsFit, ValidBlock, IsSmall, HasFloat, EnumsFit}
+use Rattle.avro_schema.proofs.RowLaws.{same_table, narrower}
 use Rattle.avro_container.specs.BlockReader.{NoBlock, AtEnd}
 use Rattle.avro_container.specs.File.{FileBlock}
 use Rattle.avro_container.specs.FileForms.{marked_block}
@@ -28,9 +28,9 @@ use Rattle.avro_container.specs.Laws.{told}
 use Rattle.avro_container.specs.Taking.{State, Passed}
 use Rattle.avro_container.proofs.Complete.{block_is_read, end_is_end, no_bytes_are_end}
 use Rattle.avro_container.proofs.OneFile.{block_reads, block_some, prefix_none}
-use Rattle.avro_decode.specs.Columns.{columns, AreColumns, kept_types}
-use Rattle.avro_decode.specs.Decoder.{Projected, projected, CanBeDecoded}
-use Rattle.avro_decode.specs.Refusals.{FieldsRefused}
+use Rattle.avro_schema.specs.Columns.{columns, AreColumns, kept_types}
+use Rattle.avro_schema.specs.Projected.{Projected, projected, CanBeDecoded}
+use Rattle.avro_schema.specs.Refusals.{FieldsRefused}
 use Rattle.avro_read.specs.Reader.{ReadsChunk, RefusedBlock, Next}
 use Rattle.avro_read.specs.Laws.{still_kept, IsNarrowed, NarrowerIsMade}
 use Rattle.avro_decode.proofs.Valid.{valid_blocks}

@@ -5,15 +5,15 @@ use Rattle.arrow_core.specs.declared.error.Error.{Error}
 use Rattle.arrow_core.specs.declared.error.Error.TheVariants.{OutOfMemory}
 use Rattle.arrow_array.specs.declared.array.Array.{Array}
 use Rattle.arrow_array.specs.Arrays.{array_type, array_slots}
-use Rattle.arrow_types.specs.declared.types.Field.{Field}
+use Rattle.arrow_core.specs.declared.types.Field.{Field}
 use Rattle.avro_schema.specs.declared.schema.AvroField.{AvroField}
-use Rattle.avro_grammar.specs.Laws.{KeepsNoMore}
-use Rattle.avro_grammar.specs.ValidBlock.{kept}
+use Rattle.avro_schema.specs.Laws.{KeepsNoMore}
+use Rattle.avro_schema.specs.ValidBlock.{kept}
 use Rattle.avro_container.specs.BlockReader.{AtEnd}
 use Rattle.avro_container.specs.Laws.{told}
 use Rattle.avro_container.specs.Taking.{State}
 use Rattle.avro_file.specs.declared.metadata.Compression.{Compression}
-use Rattle.avro_decode.specs.Decoder.{projected, CanBeDecoded}
+use Rattle.avro_schema.specs.Projected.{projected, CanBeDecoded}
 use Rattle.avro_read.specs.Projection.{ReaderRefused}
 use Rattle.avro_read.specs.Reader.{ReadsChunk, Next}
 

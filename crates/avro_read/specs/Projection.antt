@@ -5,7 +5,7 @@ use Rattle.arrow_core.specs.declared.error.Error.{Error}
 use Rattle.arrow_core.specs.declared.error.Error.TheVariants.{NotYetImplemented, OutOfMemory}
 use Rattle.arrow_core.specs.declared.error.Reason.TheVariants.{Codec}
 use Rattle.avro_file.specs.declared.metadata.Compression.{Compression}
-use Rattle.avro_decode.specs.Decoder.{Projected, ProjectionRefused}
+use Rattle.avro_schema.specs.Projected.{Projected, ProjectionRefused}
 
 -- the projection, or all of n fields where there is none
 abbrev pub projection_or_all : Option (Vec Bool Global) → ℕ → List Bool

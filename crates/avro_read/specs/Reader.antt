@@ -4,15 +4,15 @@ use Rattle.arrow_core.specs.declared.error.Error.{Error}
 use Rattle.arrow_array.specs.declared.array.Array.{Array}
 use Rattle.arrow_array.specs.Arrays.{array_type, array_slots}
 use Rattle.arrow_builders.specs.NormalizedArrays.{IsNormalized}
-use Rattle.avro_grammar.specs.ValidBlock.{ValidBlock}
+use Rattle.avro_schema.specs.ValidBlock.{ValidBlock}
 use Rattle.avro_container.specs.BlockReader.{NoBlock, AtEnd}
 use Rattle.avro_container.specs.BlockReader as blocks
 use Rattle.avro_container.specs.File.{FileBlock}
 use Rattle.avro_container.specs.FileForms.{marked_block}
 use Rattle.avro_container.specs.Taking.{State, Passed}
-use Rattle.avro_decode.specs.Columns.{AreColumns, kept_types}
-use Rattle.avro_decode.specs.Decoder.{Projected}
-use Rattle.avro_decode.specs.Refusals.{BelongTogether, AreCounted, BlockRefused}
+use Rattle.avro_schema.specs.Columns.{AreColumns, kept_types}
+use Rattle.avro_schema.specs.Projected.{Projected}
+use Rattle.avro_schema.specs.Refusals.{BelongTogether, AreCounted, BlockRefused}
 use Rattle.avro_decode.specs.Symbols.{dictionary_values, kept_symbols}
 use Rattle.avro_read.specs.declared.reader.Reader.{Reader}
 

@@ -9,6 +9,6 @@ pub use avro_decode::{
     Decoder, deserialize, deserialize_into, make_builders, reserved_capacity_stays,
     valid_blocks_are_read,
 };
-pub use avro_infer::{enlarge, infer_schema};
+pub use avro_types::{enlarge, infer_schema};
 pub use laws::narrower_reads;
 pub use reader::Reader;

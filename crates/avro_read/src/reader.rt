@@ -6,12 +6,11 @@ ghost use Rattle.arrow_core.specs.Errors.{OnlyOutOfMemory};
 ghost use Rattle.avro_schema.specs.declared.schema.Record.{out-Record};
 ghost use Rattle.avro_container.specs.BlockReader.{failure_of};
 ghost use Rattle.avro_read.specs.Projection.{projection_or_all, ReaderRefused};
-ghost use Rattle.avro_decode.specs.Decoder.{projected, CanBeDecoded};
+ghost use Rattle.avro_schema.specs.Projected.{projected, CanBeDecoded};
 
 use arrow_array::Chunk;
 use arrow_base::Source;
-use arrow_core::{Bytes, Error, Items, Reason, Result};
-use arrow_types::Field;
+use arrow_core::{Bytes, Error, Field, Items, Reason, Result};
 use avro_container::BlockReader;
 use avro_decode::Decoder;
 use avro_file::FileMetadata;

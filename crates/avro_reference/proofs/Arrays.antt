@@ -3,15 +3,15 @@ use Rattle.std.proofs.Common.{◌≡◌, ℕ, zero, suc, ◌+◌, ◌-◌, ◌^�
 use Rattle.std.proofs.lemmas.Bool.{ltb-true, lt-ltb, ne_eqb, false≢true}
 use Rattle.std.proofs.lemmas.List.{append-nil}
 use Rattle.std.proofs.lemmas.Option.{some_pair_parts, none-some}
-use Rattle.arrow_types.specs.declared.slot.Slot.{Slot}
-use Rattle.arrow_types.specs.declared.slot.Slot.TheVariants as slot
+use Rattle.arrow_core.specs.declared.slot.Slot.{Slot}
+use Rattle.arrow_core.specs.declared.slot.Slot.TheVariants as slot
 use Rattle.avro_schema.specs.Number.{Number}
-use Rattle.avro_grammar.specs.Parts.{Grammar, Meaning, Many, BlockOf, Blocks, last, block}
-use Rattle.avro_grammar.specs.Encodes.{Any}
-use Rattle.avro_grammar.specs.AndThen.{◌>>=◌}
+use Rattle.avro_schema.specs.Parts.{Grammar, Meaning, Many, BlockOf, Blocks, last, block}
+use Rattle.avro_schema.specs.Encodes.{Any}
+use Rattle.avro_schema.specs.AndThen.{◌>>=◌}
 use Rattle.avro_reference.specs.Prefix.{Reader, number_at, is_count}
 use Rattle.avro_reference.specs.Read.{push_one, items, block_items, blocks, array_at}
-use Rattle.avro_grammar.proofs.Basics.{bind_some}
+use Rattle.avro_schema.proofs.Basics.{bind_some}
 use Rattle.avro_reference.proofs.Prefixes.{Sound, Complete, chosen, joined_up, split_up, number_sound, number_complete, number_below, groups_long, count_is, count_of}
 
 pub push_one-some : (old all : List Slot) (o : Option (Slot × List ℕ)) (r : List ℕ) → push_one old o ≡ Some (all, r) → (x : Slot) × (o ≡ Some (x, r)) × (all ≡ old ++ x ∷ [])

@@ -1,12 +1,12 @@
 -- The reading functions at arrays, unions and records, in terms of the lists of members and of fields.
 use Rattle.std.proofs.Common.{◌≡◌, ℕ, zero, suc, nat_abs, List, [], ◌∷◌, Some, None, Ok, Err, refl, ap, ◌∙◌}
 use Rattle.std.specs.Prelude.{option_and_then, if◌then◌else◌}
-use Rattle.arrow_types.specs.declared.slot.Slot.TheVariants as slot
+use Rattle.arrow_core.specs.declared.slot.Slot.TheVariants as slot
 use Rattle.avro_schema.specs.declared.schema.Record.{Record as TheRecord, Record', out-Record, Row_of-AvroField, end_of-AvroField, more_of-AvroField, items-the_row-AvroField}
 use Rattle.avro_schema.specs.declared.schema.Schema.{Schema, Array, Union, Record}
 use Rattle.avro_schema.specs.declared.schema.Schema.TheBlock.{shape-the_row-Schema-0, hidden-the_row-Schema-0, shape-the_row-Schema-1, hidden-the_row-Schema-1}
-use Rattle.avro_grammar.proofs.ByLists.{row_fields, fields_are}
-use Rattle.avro_grammar.specs.Skips.{nothing, seen_only, both}
+use Rattle.avro_schema.proofs.ByLists.{row_fields, fields_are}
+use Rattle.avro_schema.specs.Skips.{nothing, seen_only, both}
 use Rattle.avro_reference.specs.Prefix.{number_at, is_index}
 use Rattle.avro_reference.specs.Read.{push_one, array_at, read, read_record, read_member, read_fields}
 use Rattle.avro_reference.specs.Skip.{◌>>=◌, Bad, measured_at, skip_array, skip, skip_record, skip_member, skip_fields}

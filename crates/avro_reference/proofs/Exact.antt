@@ -1,10 +1,10 @@
 -- What is sound and complete is exact: the answers where no prefix is encoded come with it.
 use Rattle.std.proofs.Common.{◌≡◌, ℕ, ◌≤◌, List, ◌++◌, length, map, Option, Some, None, Result, Ok, Err, refl, sym, ◌∙◌, ap, subst}
 use Rattle.std.proofs.lemmas.Option.{none-some}
-use Rattle.arrow_types.specs.declared.slot.Slot.{Slot}
-use Rattle.avro_grammar.specs.Parts.{Grammar, Many}
-use Rattle.avro_grammar.specs.Rows.{Pieces, Row, Rows}
-use Rattle.avro_grammar.specs.NegativeSize.{NegativeSize}
+use Rattle.arrow_core.specs.declared.slot.Slot.{Slot}
+use Rattle.avro_schema.specs.Parts.{Grammar, Many}
+use Rattle.avro_schema.specs.Rows.{Pieces, Row, Rows}
+use Rattle.avro_schema.specs.NegativeSize.{NegativeSize}
 use Rattle.avro_reference.specs.Prefix.{Reader}
 use Rattle.avro_reference.specs.Skip.{Fault, Bad, Negative, Parser}
 use Rattle.avro_reference.specs.Block.{block}
@@ -12,7 +12,7 @@ use Rattle.avro_reference.specs.Laws.{ReadsAll, ReadsNoMore, PassesAll, IsNegati
 use Rattle.avro_reference.proofs.Prefixes as prefixes
 use Rattle.avro_reference.proofs.Parsers as parsers
 use Rattle.avro_reference.proofs.Parsers.{bad-ok, negative-ok, bad-negative}
-use Rattle.avro_grammar.proofs.RowLaws.{rows_have}
+use Rattle.avro_schema.proofs.RowLaws.{rows_have}
 use Rattle.avro_reference.proofs.Rows.{block_sound, block_complete, block_breaks, block_broke}
 
 module _ {A : Type 0} (f : Reader A) (P : Grammar A) (sound : prefixes.Sound f P) (complete : prefixes.Complete f P) where

@@ -2,16 +2,16 @@
 use Rattle.std.proofs.Common.{◌≡◌, ℕ, Bool, true, false, List, [], ◌∷◌, map, Some, None, Result, Ok, Err, refl, ◌∙◌, ap}
 use Rattle.std.specs.List.{AllByRecursion}
 use Rattle.std.specs.Str.{chars, is_utf8}
-use Rattle.arrow_types.specs.declared.slot.Slot.{Slot}
-use Rattle.arrow_types.specs.declared.slot.Slot.TheVariants as slot
+use Rattle.arrow_core.specs.declared.slot.Slot.{Slot}
+use Rattle.arrow_core.specs.declared.slot.Slot.TheVariants as slot
 use Rattle.avro_schema.specs.declared.schema.AvroField.{AvroField}
 use Rattle.avro_schema.specs.declared.schema.Record.{roll-Record, out-roll-Record}
 use Rattle.avro_schema.specs.declared.schema.Schema.{Schema, Int, Long, String, Array}
 use Rattle.avro_schema.specs.declared.schema.Schema.TheBlock.{shape-the_row-Schema-0, hidden-the_row-Schema-0, shape-the_row-Schema-1, hidden-the_row-Schema-1}
-use Rattle.avro_grammar.specs.Rows.{Pieces}
-use Rattle.avro_grammar.specs.Skips.{nothing}
+use Rattle.avro_schema.specs.Rows.{Pieces}
+use Rattle.avro_schema.specs.Skips.{nothing}
 use Rattle.avro_reference.specs.Prefix.{groups_at, number_at, bytes_at, counted_at, sized_at}
-use Rattle.avro_grammar.specs.Encodes.{is_null}
+use Rattle.avro_schema.specs.Encodes.{is_null}
 use Rattle.avro_reference.specs.Read.{boolean_at, int_at, long_at, string_at, binary_at, decimal_at, bytes_logical_at, fixed_at, symbol_of, push_one, items, block_items, blocks, array_at, read}
 use Rattle.avro_reference.specs.Skip.{Fault, Bad, Negative, or_bad, measured_at, jump_at, jump_counted, skip_raw, skip_number, skip_sized, skip_items, skip_stated, skip_block_items, skip_blocks, skip_array, skip}
 use Rattle.avro_reference.specs.Listed.{read_record_of, skip_fields_of}

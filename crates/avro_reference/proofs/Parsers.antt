@@ -4,8 +4,8 @@ use Rattle.std.proofs.Common.{◌≡◌, ℕ, ◌+◌, ◌-◌, ℤ, pos, negsuc
 use Rattle.std.proofs.lemmas.Bool.{ltb-false, le-ltb}
 use Rattle.std.proofs.lemmas.List.{take-append-drop, drop_at, length-take-le}
 use Rattle.avro_schema.specs.Number.{Number}
-use Rattle.avro_grammar.specs.Parts.{Grammar, Then, Measured}
-use Rattle.avro_grammar.specs.Skips.{Passed, nothing, seen_only, both, SkipsNumber, SkipsRaw, SkipsSized}
+use Rattle.avro_schema.specs.Parts.{Grammar, Then, Measured}
+use Rattle.avro_schema.specs.Skips.{Passed, nothing, seen_only, both, SkipsNumber, SkipsRaw, SkipsSized}
 use Rattle.avro_reference.specs.Prefix.{number_at}
 use Rattle.avro_reference.specs.Skip.{◌>>=◌, Fault, Bad, Negative, Parser, or_bad, measured_at, jump_at, jump_counted, skip_raw, skip_number, skip_sized}
 use Rattle.avro_reference.proofs.Prefixes.{joined_up, split_up, number_sound, number_complete}

@@ -4,10 +4,10 @@ use Rattle.std.proofs.lemmas.Bool.{ltb-true, ltb-false, lt-ltb, le-ltb, eqb-true
 use Rattle.std.proofs.lemmas.List.{take-append-drop, take_at, drop_at, length-take-le}
 use Rattle.std.proofs.lemmas.Option.{some_pair_parts, none-some}
 use Rattle.avro_schema.specs.Number.{AreGroups, unsigned, zigzag, Number, PassesNumber}
-use Rattle.avro_grammar.specs.Parts.{Grammar, Then, Meaning, Raw, Sized}
-use Rattle.avro_grammar.specs.Encodes.{Any}
-use Rattle.avro_grammar.specs.AndThen.{◌>>=◌}
-use Rattle.avro_grammar.proofs.Basics.{bind_some}
+use Rattle.avro_schema.specs.Parts.{Grammar, Then, Meaning, Raw, Sized}
+use Rattle.avro_schema.specs.Encodes.{Any}
+use Rattle.avro_schema.specs.AndThen.{◌>>=◌}
+use Rattle.avro_schema.proofs.Basics.{bind_some}
 use Rattle.avro_reference.specs.Prefix.{Reader, groups_at, number_at, bytes_at, counted_at, sized_at, is_count}
 
 -- what f gives a prefix encodes

@@ -3,12 +3,12 @@
 use Rattle.std.proofs.Common.{◌≡◌, ℕ, zero, suc, ◌+◌, ◌-◌, ◌<◌, ◌≤◌, Bool, true, false, cond, eqb, ltb, List, [], ◌∷◌, ◌++◌, length, Result, Ok, Err, refl, sym, ◌∙◌, ap, subst, inl, inr, length-append, append_assoc, arith}
 use Rattle.std.proofs.lemmas.Bool.{ltb-false, le-ltb, eqb-true}
 use Rattle.std.proofs.lemmas.List.{append-nil}
-use Rattle.arrow_types.specs.declared.slot.Slot.{Slot}
+use Rattle.arrow_core.specs.declared.slot.Slot.{Slot}
 use Rattle.avro_schema.specs.declared.schema.AvroField.{AvroField}
-use Rattle.avro_grammar.specs.Parts.{Many}
-use Rattle.avro_grammar.specs.Skips.{Passed, both}
-use Rattle.avro_grammar.specs.Rows.{Pieces, no_pieces, with_kept, with_skipped, Row}
-use Rattle.avro_grammar.specs.NegativeSize.{BrokenRow, NegativeSize}
+use Rattle.avro_schema.specs.Parts.{Many}
+use Rattle.avro_schema.specs.Skips.{Passed, both}
+use Rattle.avro_schema.specs.Rows.{Pieces, no_pieces, with_kept, with_skipped, Row}
+use Rattle.avro_schema.specs.NegativeSize.{BrokenRow, NegativeSize}
 use Rattle.avro_reference.specs.Read.{read}
 use Rattle.avro_reference.specs.Skip.{◌>>=◌, Fault, Bad, Negative, or_bad, skip}
 use Rattle.avro_reference.specs.Block.{add_kept, add_skipped, row_after, row, rows_after, rows, block}

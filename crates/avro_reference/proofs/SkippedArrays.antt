@@ -2,9 +2,9 @@
 use Rattle.std.proofs.Common.{◌≡◌, ℕ, zero, suc, ◌^◌, ◌<◌, ◌≤◌, ℤ, pos, negsuc, Bool, true, false, cond, ltb, List, [], ◌++◌, length, Ok, Err, refl, sym, ◌∙◌, ap, subst, inl, inr, length-append, append_assoc, arith}
 use Rattle.std.proofs.lemmas.Bool.{ltb-true, lt-ltb, ne_eqb, false≢true}
 use Rattle.avro_schema.specs.Number.{Number}
-use Rattle.avro_grammar.specs.Parts.{Grammar}
-use Rattle.avro_grammar.specs.Skips.{Passed, nothing, seen_only, both, SkipsMany, SkipsBlockOf, SkipsBlocks, last, block}
-use Rattle.avro_grammar.specs.Broken.{BrokenBlocks, false_size, broken_item, whole_block}
+use Rattle.avro_schema.specs.Parts.{Grammar}
+use Rattle.avro_schema.specs.Skips.{Passed, nothing, seen_only, both, SkipsMany, SkipsBlockOf, SkipsBlocks, last, block}
+use Rattle.avro_schema.specs.Broken.{BrokenBlocks, false_size, broken_item, whole_block}
 use Rattle.avro_reference.specs.Prefix.{is_count}
 use Rattle.avro_reference.specs.Skip.{◌>>=◌, Negative, Parser, measured_at, jump_at, skip_items, skip_stated, skip_block_items, skip_blocks, skip_array}
 use Rattle.avro_reference.proofs.Prefixes.{joined_up, split_up, number_below, groups_long, count_is}

@@ -5,15 +5,15 @@ use Rattle.std.proofs.lemmas.Bool.{lt-ltb}
 use Rattle.avro_schema.specs.declared.schema.Schema.{Schema, Null, Boolean, Int, Long, Float, Double, Bytes, String, Record, Enum, Array', Map', Union', Fixed, Row_of-Schema, end_of-Schema, more_of-Schema}
 use Rattle.avro_schema.specs.declared.schema.Record.{Record as TheRecord, Record', Row_of-AvroField, end_of-AvroField, more_of-AvroField}
 use Rattle.avro_schema.specs.Number.{Number}
-use Rattle.avro_grammar.specs.Parts.{Grammar, Measured}
-use Rattle.avro_grammar.specs.Encodes.{IsNull}
-use Rattle.avro_grammar.specs.Skips.{Passed, nothing, seen_only, both, fixed_size, Skips, SkipsRecord, SkipsItem, SkipsMember, SkipsFields}
-use Rattle.avro_grammar.specs.Broken.{Broken, BrokenRecord, BrokenItem, BrokenMember, BrokenFields}
+use Rattle.avro_schema.specs.Parts.{Grammar, Measured}
+use Rattle.avro_schema.specs.Encodes.{IsNull}
+use Rattle.avro_schema.specs.Skips.{Passed, nothing, seen_only, both, fixed_size, Skips, SkipsRecord, SkipsItem, SkipsMember, SkipsFields}
+use Rattle.avro_schema.specs.Broken.{Broken, BrokenRecord, BrokenItem, BrokenMember, BrokenFields}
 use Rattle.avro_reference.specs.Prefix.{is_index}
-use Rattle.avro_grammar.specs.Encodes.{is_null}
+use Rattle.avro_schema.specs.Encodes.{is_null}
 use Rattle.avro_reference.specs.Skip.{◌>>=◌, Bad, Negative, Parser, measured_at, skip, skip_record, skip_item, skip_member, skip_fields}
 use Rattle.avro_reference.proofs.Prefixes.{joined_up, split_up}
-use Rattle.avro_grammar.proofs.Basics.{null_is, null_told}
+use Rattle.avro_schema.proofs.Basics.{null_is, null_told}
 use Rattle.avro_reference.proofs.Values.{index_is}
 use Rattle.avro_reference.proofs.Parsers.{Sound, Complete, Breaks, Broke, bad-ok, ok-negative, bad-negative, ok_pair_parts, bind_ok, bind_negative, chosen, chosen_negative, both_assoc, both-nothing, nothing-both, then_sound, then_complete, measured_sound, measured_complete, measured_never, raw_sound, raw_complete, raw_never, skip_number_sound, skip_number_complete, skip_number_never, skip_sized_sound, skip_sized_complete, skip_sized_never}
 use Rattle.avro_reference.proofs.SkippedArrays.{array_sound, array_complete, array_breaks, array_broke}

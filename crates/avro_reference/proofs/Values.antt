@@ -8,8 +8,8 @@ use Rattle.std.proofs.lemmas.List.{append-nil}
 use Rattle.std.proofs.lemmas.Option.{some_pair_parts, none-some}
 use Rattle.std.proofs.lemmas.Float.{T_from_true}
 use Rattle.std.proofs.lemmas.Str.{IsUtf8-from_is_utf8, is_utf8-from_IsUtf8}
-use Rattle.arrow_types.specs.declared.slot.Slot.{Slot}
-use Rattle.arrow_types.specs.declared.slot.Slot.TheVariants as slot
+use Rattle.arrow_core.specs.declared.slot.Slot.{Slot}
+use Rattle.arrow_core.specs.declared.slot.Slot.TheVariants as slot
 use Rattle.avro_schema.specs.declared.schema.Schema.{Schema, Null, Boolean, Int, Long, Float, Double, Bytes, String, Record, Enum, Array', Map', Union', Fixed, Row_of-Schema, end_of-Schema, more_of-Schema}
 use Rattle.avro_schema.specs.declared.schema.Record.{Record as TheRecord, Record', Row_of-AvroField, end_of-AvroField, more_of-AvroField}
 use Rattle.avro_schema.specs.declared.schema.BytesLogical.{BytesLogical}
@@ -17,12 +17,12 @@ use Rattle.avro_schema.specs.declared.schema.BytesLogical.TheVariants as bytes_l
 use Rattle.avro_schema.specs.declared.schema.FixedLogical.{FixedLogical}
 use Rattle.avro_schema.specs.declared.schema.FixedLogical.TheVariants as fixed_logical
 use Rattle.avro_schema.specs.Number.{Number}
-use Rattle.avro_grammar.specs.Parts.{Grammar, Meaning, Raw, Sized}
-use Rattle.avro_grammar.specs.Encodes.{Any, IsBooleanByte, IsInt, twos_complement, duration, IsShort, EncodesBytes, EncodesFixed, IsIndex, symbol_at, IsNull, Encodes, EncodesRecord, EncodesItem, EncodesMember, EncodesFields}
+use Rattle.avro_schema.specs.Parts.{Grammar, Meaning, Raw, Sized}
+use Rattle.avro_schema.specs.Encodes.{Any, IsBooleanByte, IsInt, twos_complement, duration, IsShort, EncodesBytes, EncodesFixed, IsIndex, symbol_at, IsNull, Encodes, EncodesRecord, EncodesItem, EncodesMember, EncodesFields}
 use Rattle.avro_reference.specs.Prefix.{Reader, number_at, bytes_at, sized_at, is_index}
-use Rattle.avro_grammar.specs.Encodes.{is_null}
+use Rattle.avro_schema.specs.Encodes.{is_null}
 use Rattle.avro_reference.specs.Read.{boolean_at, is_int, int_at, long_at, string_at, binary_at, decimal_at, bytes_logical_at, fixed_at, symbol_of, push_one, read, read_record, read_item, read_member, read_fields}
-use Rattle.avro_grammar.proofs.Basics.{bind_some, null_is, null_told}
+use Rattle.avro_schema.proofs.Basics.{bind_some, null_is, null_told}
 use Rattle.avro_reference.proofs.Prefixes.{Sound, Complete, joined_up, split_up, then_sound, then_complete, told_sound, told_complete, tested_sound, tested_complete, number_sound, number_complete, bytes_sound, bytes_complete, sized_sound, sized_complete}
 use Rattle.avro_reference.proofs.Arrays.{push_one-some, array_sound, array_complete}
 

@@ -1,10 +1,10 @@
 -- Reading rows from left to right, and a block's bytes, which are its rows and nothing else (Avro 1.11,
 -- "Object Container Files").
 use Rattle.std.specs.Prelude.{ℕ, zero, suc, ◌+◌, ◌-◌, List, [], ◌∷◌, ◌++◌, length, Bool, true, false, Result, Ok, Err, nat_lt, ◌==◌, if◌then◌else◌}
-use Rattle.arrow_types.specs.declared.slot.Slot.{Slot}
+use Rattle.arrow_core.specs.declared.slot.Slot.{Slot}
 use Rattle.avro_schema.specs.declared.schema.AvroField.{AvroField}
-use Rattle.avro_grammar.specs.Skips.{Passed, both}
-use Rattle.avro_grammar.specs.Rows.{Pieces, no_pieces}
+use Rattle.avro_schema.specs.Skips.{Passed, both}
+use Rattle.avro_schema.specs.Rows.{Pieces, no_pieces}
 use Rattle.avro_reference.specs.Read.{read}
 use Rattle.avro_reference.specs.Skip.{◌>>=◌, Fault, Bad, Parser, or_bad, skip}
 

@@ -1,16 +1,16 @@
 -- Worked examples: bytes that are rows of some fields, and bytes that are not. In names of a field's
 -- type, as in comments, a question mark says that null is the first of two members.
 use Rattle.std.specs.Prelude.{ℕ, ◌≤◌, pos, negsuc, List, [], ◌∷◌, ◌++◌, length, map, replicate, Bool, true, false, Option, Some, None, Result, Ok, Err}
-use Rattle.arrow_types.specs.declared.slot.Slot.{Slot}
-use Rattle.arrow_types.specs.declared.slot.Slot.TheVariants as slot
+use Rattle.arrow_core.specs.declared.slot.Slot.{Slot}
+use Rattle.arrow_core.specs.declared.slot.Slot.TheVariants as slot
 use Rattle.avro_schema.specs.declared.schema.Schema.{Schema, Null, Boolean, Int, Long, Float, Double, Bytes, String, Record, Enum, Array, Union, Fixed}
 use Rattle.avro_schema.specs.declared.schema.Record.{roll-Record}
 use Rattle.avro_schema.specs.declared.schema.AvroField.{AvroField}
 use Rattle.avro_schema.specs.declared.schema.BytesLogical.TheVariants as bytes_logical
 use Rattle.avro_schema.specs.declared.schema.FixedLogical.{FixedLogical}
 use Rattle.avro_schema.specs.declared.schema.FixedLogical.TheVariants as fixed_logical
-use Rattle.avro_grammar.specs.Rows.{Pieces, Rows}
-use Rattle.avro_grammar.specs.NegativeSize.{NegativeSize}
+use Rattle.avro_schema.specs.Rows.{Pieces, Rows}
+use Rattle.avro_schema.specs.NegativeSize.{NegativeSize}
 use Rattle.avro_reference.specs.Laws.{AreRows}
 use Rattle.avro_reference.specs.Skip.{Fault, Bad, Negative}
 

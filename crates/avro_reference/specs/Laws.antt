@@ -1,11 +1,11 @@
 -- Laws of the reading functions: each is sound and complete for its relation.
 use Rattle.std.specs.Prelude.{◌≡◌, ℕ, ◌<◌, ◌≤◌, ◌↔◌, List, ◌++◌, length, map, Bool, Some, None, Ok, Err}
-use Rattle.arrow_types.specs.declared.slot.Slot.{Slot}
+use Rattle.arrow_core.specs.declared.slot.Slot.{Slot}
 use Rattle.avro_schema.specs.declared.schema.AvroField.{AvroField}
-use Rattle.avro_grammar.specs.Parts.{Grammar}
-use Rattle.avro_grammar.specs.Carried.{CarriedList}
-use Rattle.avro_grammar.specs.Rows.{Pieces, Rows}
-use Rattle.avro_grammar.specs.NegativeSize.{NegativeSize}
+use Rattle.avro_schema.specs.Parts.{Grammar}
+use Rattle.avro_schema.specs.Carried.{CarriedList}
+use Rattle.avro_schema.specs.Rows.{Pieces, Rows}
+use Rattle.avro_schema.specs.NegativeSize.{NegativeSize}
 use Rattle.avro_reference.specs.Prefix.{Reader}
 use Rattle.avro_reference.specs.Skip.{Parser, Bad, Negative}
 use Rattle.avro_reference.specs.Block.{block}

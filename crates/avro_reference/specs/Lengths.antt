@@ -1,6 +1,6 @@
 -- The length of a string or of a binary value (Avro 1.11, "Primitive Types": bytes and string).
 use Rattle.std.specs.Prelude.{ℕ, ℤ, pos, negsuc, Option, Some, None}
-use Rattle.avro_grammar.specs.AndThen.{◌>>=◌}
+use Rattle.avro_schema.specs.AndThen.{◌>>=◌}
 use Rattle.avro_reference.specs.Prefix.{Reader, number_at}
 
 -- a length is a number of 0 or more

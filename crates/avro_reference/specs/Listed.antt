@@ -1,14 +1,14 @@
 -- The reading functions at arrays, unions and records, in terms of the lists of members and of fields
 -- that code sees.
 use Rattle.std.specs.Prelude.{◌≡◌, ℕ, zero, suc, nat_abs, List, [], ◌∷◌, Some, None, Ok, Err, option_and_then, if◌then◌else◌}
-use Rattle.arrow_types.specs.declared.slot.Slot.{Slot}
-use Rattle.arrow_types.specs.declared.slot.Slot.TheVariants as slot
+use Rattle.arrow_core.specs.declared.slot.Slot.{Slot}
+use Rattle.arrow_core.specs.declared.slot.Slot.TheVariants as slot
 use Rattle.avro_schema.specs.declared.schema.Schema.{Schema, Array, Union, Record}
 use Rattle.avro_schema.specs.declared.schema.Record.{Record as TheRecord, out-Record}
 use Rattle.avro_schema.specs.declared.schema.AvroField.{AvroField}
-use Rattle.avro_grammar.specs.Skips.{Passed, nothing, seen_only, both}
+use Rattle.avro_schema.specs.Skips.{Passed, nothing, seen_only, both}
 use Rattle.avro_reference.specs.Prefix.{Reader, number_at, is_index}
-use Rattle.avro_grammar.specs.Encodes.{is_null}
+use Rattle.avro_schema.specs.Encodes.{is_null}
 use Rattle.avro_reference.specs.Read.{push_one, array_at, read}
 use Rattle.avro_reference.specs.Skip.{◌>>=◌, Parser, Bad, measured_at, skip_array, skip}
 

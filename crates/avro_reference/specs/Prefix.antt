@@ -1,7 +1,7 @@
 -- What a prefix of bytes encodes, and the bytes that follow it. None: no prefix encodes any.
 use Rattle.std.specs.Prelude.{ℕ, zero, suc, ◌^◌, ℤ, pos, negsuc, Bool, false, List, [], ◌∷◌, length, take, drop, Option, Some, None, nat_lt, ◌==◌, if◌then◌else◌}
 use Rattle.avro_schema.specs.Number.{unsigned, zigzag}
-use Rattle.avro_grammar.specs.AndThen.{◌>>=◌}
+use Rattle.avro_schema.specs.AndThen.{◌>>=◌}
 
 -- a value of A that a prefix encodes, and the bytes that follow it
 abbrev pub Reader : Type 0 → Type 0

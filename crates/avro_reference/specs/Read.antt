@@ -2,16 +2,16 @@
 -- None: no prefix of the bytes encodes one.
 use Rattle.std.specs.Prelude.{ℕ, zero, suc, ◌-◌, ◌^◌, ℤ, pos, negsuc, nat_abs, int_le, Bool, true, false, ◌&&◌, List, [], ◌∷◌, ◌++◌, length, Option, Some, None, nat_lt, nat_le, ◌==◌, if◌then◌else◌}
 use Rattle.std.specs.Str.{is_utf8}
-use Rattle.arrow_types.specs.declared.slot.Slot.{Slot}
-use Rattle.arrow_types.specs.declared.slot.Slot.TheVariants as slot
+use Rattle.arrow_core.specs.declared.slot.Slot.{Slot}
+use Rattle.arrow_core.specs.declared.slot.Slot.TheVariants as slot
 use Rattle.avro_schema.specs.declared.schema.Schema.{Schema, Null, Boolean, Int, Long, Float, Double, Bytes, String, Record, Enum, Array', Map', Union', Fixed, Row_of-Schema, end_of-Schema, more_of-Schema}
 use Rattle.avro_schema.specs.declared.schema.Record.{Record as TheRecord, Record', Row_of-AvroField, end_of-AvroField, more_of-AvroField}
 use Rattle.avro_schema.specs.declared.schema.BytesLogical.{BytesLogical}
 use Rattle.avro_schema.specs.declared.schema.BytesLogical.TheVariants as bytes_logical
 use Rattle.avro_schema.specs.declared.schema.FixedLogical.{FixedLogical}
 use Rattle.avro_schema.specs.declared.schema.FixedLogical.TheVariants as fixed_logical
-use Rattle.avro_grammar.specs.Encodes.{is_null, twos_complement, duration, symbol_at}
-use Rattle.avro_grammar.specs.AndThen.{◌>>=◌}
+use Rattle.avro_schema.specs.Encodes.{is_null, twos_complement, duration, symbol_at}
+use Rattle.avro_schema.specs.AndThen.{◌>>=◌}
 use Rattle.avro_reference.specs.Prefix.{Reader, number_at, bytes_at, sized_at, is_count, is_index}
 
 -- ---- flat kinds (Avro 1.11, "Primitive Types", "Logical Types", "Enums" and "Fixed")

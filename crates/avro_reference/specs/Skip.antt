@@ -3,9 +3,9 @@
 use Rattle.std.specs.Prelude.{ℕ, zero, suc, ◌-◌, ◌^◌, ℤ, pos, negsuc, nat_abs, List, length, drop, Option, Some, None, Result, Ok, Err, nat_lt, if◌then◌else◌}
 use Rattle.avro_schema.specs.declared.schema.Schema.{Schema, Null, Boolean, Int, Long, Float, Double, Bytes, String, Record, Enum, Array', Map', Union', Fixed, Row_of-Schema, end_of-Schema, more_of-Schema}
 use Rattle.avro_schema.specs.declared.schema.Record.{Record as TheRecord, Record', Row_of-AvroField, end_of-AvroField, more_of-AvroField}
-use Rattle.avro_grammar.specs.Skips.{Passed, nothing, seen_only, both, fixed_size}
+use Rattle.avro_schema.specs.Skips.{Passed, nothing, seen_only, both, fixed_size}
 use Rattle.avro_reference.specs.Prefix.{number_at, is_count, is_index}
-use Rattle.avro_grammar.specs.Encodes.{is_null}
+use Rattle.avro_schema.specs.Encodes.{is_null}
 
 -- Negative: a block of an array states a size below 0. Bad: any other fault.
 pub data Fault : Type 0 where

@@ -3,11 +3,11 @@
 ghost use Rattle.avro_schema.specs.Number.{Number};
 ghost use Rattle.avro_schema.specs.declared.schema.AvroField.{AvroField};
 ghost use Rattle.avro_schema.specs.declared.schema.Schema.{Schema};
-ghost use Rattle.avro_grammar.specs.Broken.{Broken};
-ghost use Rattle.avro_grammar.specs.NegativeSize.{BrokenRow};
-ghost use Rattle.avro_grammar.specs.Rows.{Row};
-ghost use Rattle.avro_grammar.specs.Encodes.{Encodes};
-ghost use Rattle.avro_grammar.specs.Skips.{Skips};
+ghost use Rattle.avro_schema.specs.Broken.{Broken};
+ghost use Rattle.avro_schema.specs.NegativeSize.{BrokenRow};
+ghost use Rattle.avro_schema.specs.Rows.{Row};
+ghost use Rattle.avro_schema.specs.Encodes.{Encodes};
+ghost use Rattle.avro_schema.specs.Skips.{Skips};
 ghost use Rattle.avro_reference.specs.Block.{row};
 ghost use Rattle.avro_reference.specs.Examples.{Holds, numbers, flat_kinds, decimals, skipped_kinds, rows_of_two_fields, arrays, sizes_below_zero, false_counts};
 ghost use Rattle.avro_reference.specs.Prefix.{number_at};

@@ -5,10 +5,10 @@ use Rattle.std.proofs.lemmas.Option.{some_pair_parts}
 use Rattle.std.proofs.lemmas.Bool.{le-ltb}
 use Rattle.avro_schema.specs.Counts.{risen}
 use Rattle.avro_schema.specs.declared.schema.Schema.{Schema}
-use Rattle.avro_grammar.specs.AndThen.{◌>>=◌}
-use Rattle.avro_grammar.specs.Encodes.{IsNull}
-use Rattle.avro_grammar.specs.Skips.{Passed, nothing, seen_only, both}
-use Rattle.avro_grammar.proofs.Basics.{null_told}
+use Rattle.avro_schema.specs.AndThen.{◌>>=◌}
+use Rattle.avro_schema.specs.Encodes.{IsNull}
+use Rattle.avro_schema.specs.Skips.{Passed, nothing, seen_only, both}
+use Rattle.avro_schema.proofs.Basics.{null_told}
 use Rattle.avro_reference.specs.Prefix.{number_at}
 use Rattle.avro_reference.specs.Skip.{Bad, Negative, or_bad, measured_at, jump_at, jump_counted, skip_raw, skip_number, skip_sized, skip_stated}
 use Rattle.avro_reference.proofs.Parsers.{both_assoc, stated}

@@ -3,7 +3,7 @@ use Rattle.std.proofs.Common.{◌≡◌, ◌∙◌, ℕ, zero, suc, ℤ, pos, ne
 use mir.Val.{SFits}
 use lib.Signed.{lt_z}
 use Rattle.std.proofs.lemmas.Int.{to_z-of_z, ints}
-use Rattle.avro_grammar.specs.Skips.{Passed}
+use Rattle.avro_schema.specs.Skips.{Passed}
 use Rattle.avro_reference.specs.Skip.{Bad, Parser, skip_items, skip_block_items}
 use Rattle.avro_skip.specs.Skipping.{PassesMore, sized_items_at}
 use Rattle.avro_skip.specs.declared.fault.SkipFault.{SkipFault}

@@ -4,7 +4,7 @@ use Rattle.std.proofs.lemmas.Bool.Decides.{nat_tests}
 use Rattle.std.proofs.lemmas.Bool.{lt-ltb, le-ltb}
 use Rattle.std.proofs.Math.Seq.{drop-cons}
 use Rattle.avro_schema.specs.declared.schema.AvroField.{AvroField}
-use Rattle.avro_grammar.specs.Skips.{Passed, nothing, seen_only, both}
+use Rattle.avro_schema.specs.Skips.{Passed, nothing, seen_only, both}
 use Rattle.avro_reference.specs.Prefix.{number_at, is_count}
 use Rattle.avro_reference.specs.Skip.{Fault, Bad, Parser, or_bad, measured_at, skip_items, skip_block_items, skip_blocks, skip_array, skip}
 use Rattle.avro_reference.specs.Listed.{skip_fields_of}

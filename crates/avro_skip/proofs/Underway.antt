@@ -1,6 +1,6 @@
 -- From one call that skips to the next: what was passed so far, and what is left to pass.
 use Rattle.std.proofs.Common.{◌≡◌, ℕ, List, Result, Ok, Err, sym, ap, ◌∙◌}
-use Rattle.avro_grammar.specs.Skips.{Passed, nothing, both}
+use Rattle.avro_schema.specs.Skips.{Passed, nothing, both}
 use Rattle.avro_reference.specs.Skip.{Fault}
 use Rattle.avro_reference.proofs.Parsers.{both_assoc, both-nothing}
 use Rattle.avro_reference.specs.Costs.{Costs}

@@ -7,11 +7,11 @@ use Rattle.avro_schema.specs.declared.schema.AvroField.{AvroField}
 use Rattle.avro_schema.specs.declared.schema.Record.{Record as TheRecord, out-Record}
 use Rattle.avro_schema.specs.declared.schema.Schema.{Schema, Array, Union, Record}
 use Rattle.avro_schema.proofs.schema.Schema.TheLaws.{the_size}
-use Rattle.avro_grammar.specs.Carried.{Carried, IsNoUnion}
-use Rattle.avro_grammar.specs.Encodes.{IsNull}
-use Rattle.avro_grammar.specs.Listed.{CarriedMembersOf, CarriedFieldsOf}
-use Rattle.avro_grammar.specs.Skips.{Passed, nothing, seen_only, both}
-use Rattle.avro_grammar.proofs.ByLists.{carried_union, carried_array, carried_record, moved}
+use Rattle.avro_schema.specs.Carried.{Carried, IsNoUnion}
+use Rattle.avro_schema.specs.Encodes.{IsNull}
+use Rattle.avro_schema.specs.Listed.{CarriedMembersOf, CarriedFieldsOf}
+use Rattle.avro_schema.specs.Skips.{Passed, nothing, seen_only, both}
+use Rattle.avro_schema.proofs.ByLists.{carried_union, carried_array, carried_record, moved}
 use Rattle.avro_reference.specs.Prefix.{number_at, is_index}
 use Rattle.avro_reference.specs.Skip.{Bad, Parser, or_bad, measured_at, skip_array, skip}
 use Rattle.avro_reference.specs.Listed.{skip_union_of, skip_fields_of}

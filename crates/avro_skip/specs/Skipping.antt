@@ -1,8 +1,8 @@
 -- What a call that skips gives, in terms of a skipping function on the bytes ahead, and what it costs.
 use Rattle.std.specs.Prelude.{◌≡◌, ℕ, List, Result, Ok, Err, if◌then◌else◌}
 use Rattle.avro_schema.specs.declared.schema.Schema.{Schema}
-use Rattle.avro_grammar.specs.Encodes.{is_null}
-use Rattle.avro_grammar.specs.Skips.{Passed, nothing, seen_only, both}
+use Rattle.avro_schema.specs.Encodes.{is_null}
+use Rattle.avro_schema.specs.Skips.{Passed, nothing, seen_only, both}
 use Rattle.avro_reference.specs.Skip.{◌>>=◌, Fault, Bad, Negative, Parser, measured_at, skip_stated, skip}
 use Rattle.avro_reference.specs.Costs.{Costs}
 use Rattle.avro_skip.specs.declared.fault.SkipFault.{SkipFault}

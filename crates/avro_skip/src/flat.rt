@@ -1,7 +1,7 @@
 //! Skipped numbers, and bytes by their number.
 
 ghost use Rattle.std.specs.Prelude.{◌≡◌, ◌+◌, ◌<◌, ◌≤◌, length, Some, None, MatchResult, OnOk};
-ghost use Rattle.avro_grammar.specs.Skips.{fixed_size as fixed_size_of};
+ghost use Rattle.avro_schema.specs.Skips.{fixed_size as fixed_size_of};
 ghost use Rattle.avro_reference.specs.Skip.{jump_at, skip_raw, skip_number as skip_number_at, skip_sized as skip_sized_at};
 ghost use Rattle.avro_reference.specs.Costs.{Moves};
 ghost use Rattle.avro_reference.specs.Lengths.{as_length};

@@ -2,9 +2,9 @@
 //! of each boolean; the rest is skipped.
 
 ghost use Rattle.std.specs.Prelude.{◌≡◌, ◌≢◌, ◌⊎◌, ◌+◌, ◌<◌, ◌≤◌, length, pos, OnOk};
-ghost use Rattle.avro_grammar.specs.Carried.{Carried, CarriedList, IsNoUnion};
-ghost use Rattle.avro_grammar.specs.Encodes.{IsNull};
-ghost use Rattle.avro_grammar.specs.Listed.{CarriedMembersOf};
+ghost use Rattle.avro_schema.specs.Carried.{Carried, CarriedList, IsNoUnion};
+ghost use Rattle.avro_schema.specs.Encodes.{IsNull};
+ghost use Rattle.avro_schema.specs.Listed.{CarriedMembersOf};
 ghost use Rattle.avro_reference.specs.Skip.{skip, skip_items as skip_items_at, skip_block_items as skip_block_items_at, skip_array};
 ghost use Rattle.avro_reference.specs.Listed.{skip_union_of, skip_fields_of};
 ghost use Rattle.avro_reference.specs.Costs.{Moves};

@@ -4,18 +4,18 @@ use Rattle.std.specs.Prelude.{All, Bool}
 use Rattle.std.specs.List.{AllByRecursion}
 use Rattle.std.proofs.lemmas.List.{drop_all}
 use Rattle.std.proofs.lemmas.List.Elements.{All-from_recursion}
-use Rattle.arrow_types.specs.declared.slot.Slot.{Slot}
+use Rattle.arrow_core.specs.declared.slot.Slot.{Slot}
 use Rattle.avro_schema.specs.declared.schema.AvroField.{AvroField}
 use Rattle.avro_schema.specs.declared.schema.FixedLogical.{FixedLogical}
 use Rattle.avro_schema.specs.declared.schema.Record.{Record as TheRecord, out-Record}
 use Rattle.avro_schema.specs.declared.schema.Schema.{Schema, Null, Array, Union, Record}
-use Rattle.avro_grammar.specs.Parts.{Grammar, Many, BlockOf, Blocks, last, block}
-use Rattle.avro_grammar.specs.Encodes.{Encodes, EncodesFixed}
-use Rattle.avro_grammar.specs.Listed.{EncodesMemberOf, EncodesFieldsOf, EncodesUnionOf}
-use Rattle.avro_grammar.specs.Rows.{Pieces, Row, Rows}
-use Rattle.avro_grammar.specs.ValidBlock.{EnumsFit, KeptEnumsFit, kept}
-use Rattle.avro_grammar.proofs.ByLists.{encodes_array, encodes_union, encodes_record, moved}
-use Rattle.avro_grammar.proofs.TypeLemmas.{enum_composites}
+use Rattle.avro_schema.specs.Parts.{Grammar, Many, BlockOf, Blocks, last, block}
+use Rattle.avro_schema.specs.Encodes.{Encodes, EncodesFixed}
+use Rattle.avro_schema.specs.Listed.{EncodesMemberOf, EncodesFieldsOf, EncodesUnionOf}
+use Rattle.avro_schema.specs.Rows.{Pieces, Row, Rows}
+use Rattle.avro_schema.specs.ValidBlock.{EnumsFit, KeptEnumsFit, kept}
+use Rattle.avro_schema.proofs.ByLists.{encodes_array, encodes_union, encodes_record, moved}
+use Rattle.avro_schema.proofs.TypeLemmas.{enum_composites}
 use Rattle.avro_verbatim.specs.Alike.{AreAlike, MayBeCopied}
 
 -- ---- arrays

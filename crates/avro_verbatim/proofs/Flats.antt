@@ -4,12 +4,12 @@ use Rattle.std.specs.List.{IsSplitAt}
 use Rattle.std.specs.Str.{IsUtf8}
 use Rattle.std.proofs.lemmas.Int.{ints}
 use Rattle.std.proofs.lemmas.List.{take-append-drop}
-use Rattle.arrow_types.specs.declared.slot.Slot.TheVariants as slot
+use Rattle.arrow_core.specs.declared.slot.Slot.TheVariants as slot
 use Rattle.avro_schema.specs.Number.{zigzag}
 use Rattle.avro_schema.specs.declared.schema.Fixed.{Fixed}
 use Rattle.avro_schema.specs.declared.schema.FixedLogical.{FixedLogical}
 use Rattle.avro_schema.specs.declared.schema.Schema.{Boolean, Int, Long, Bytes, String, Fixed as FixedSchema}
-use Rattle.avro_grammar.specs.Encodes.{IsInt}
+use Rattle.avro_schema.specs.Encodes.{IsInt}
 use Rattle.avro_container.specs.Laws.{Has64Bits}
 use Rattle.avro_encode.specs.Pairs.{IsLong, PairsFixed}
 use Rattle.avro_encode.specs.Plain.{plain_fixed}

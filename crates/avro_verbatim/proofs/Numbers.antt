@@ -8,7 +8,7 @@ use Rattle.avro_schema.specs.Number.{AreGroups, Number, unsigned, zigzag}
 use Rattle.avro_container.specs.Laws.{Has64Bits}
 use Rattle.avro_container.specs.Shortest.{groups, shortest, zigzagged}
 use Rattle.avro_container.proofs.ShortestLemmas.{ends, leads_on}
-use Rattle.avro_grammar.specs.Encodes.{IsInt}
+use Rattle.avro_schema.specs.Encodes.{IsInt}
 use Rattle.avro_verbatim.specs.Begins.{BeginsWithGroups, BeginsWithLength, BeginsWithNumber, groups_limit}
 
 -- the last byte isn't 0

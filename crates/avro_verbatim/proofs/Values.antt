@@ -3,13 +3,13 @@ use Rattle.std.proofs.Common.{◌≡◌, ◌∙◌, inl, inr, ℕ, suc, ◌+◌,
 use Rattle.std.specs.List.{AllByRecursion}
 use Rattle.std.proofs.lemmas.List.{append-nil, drop_all, length-map, take_all}
 use Rattle.std.proofs.Math.Seq.{drop-append_seam}
-use Rattle.arrow_types.specs.declared.slot.Slot.{Slot}
-use Rattle.arrow_types.specs.declared.slot.Slot.TheVariants as slot
+use Rattle.arrow_core.specs.declared.slot.Slot.{Slot}
+use Rattle.arrow_core.specs.declared.slot.Slot.TheVariants as slot
 use Rattle.avro_schema.specs.declared.schema.AvroField.{AvroField}
 use Rattle.avro_schema.specs.declared.schema.Record.{Record as TheRecord, out-Record}
 use Rattle.avro_schema.specs.declared.schema.Schema.{Schema, Array, Union, Record}
-use Rattle.avro_grammar.specs.Carried.{IsNoUnion}
-use Rattle.avro_grammar.specs.Encodes.{IsNull}
+use Rattle.avro_schema.specs.Carried.{IsNoUnion}
+use Rattle.avro_schema.specs.Encodes.{IsNull}
 use Rattle.avro_container.specs.Shortest.{shortest}
 use Rattle.avro_container.proofs.ShortestLemmas.{ends}
 use Rattle.avro_encode.specs.Listed.{PairsFieldsOf, PairsUnionOf, plain_fields_of, plain_union_of}

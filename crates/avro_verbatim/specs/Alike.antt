@@ -1,12 +1,12 @@
 -- Schemas of which one reads what the other encodes (Avro 1.11, "Binary Encoding").
 use Rattle.std.specs.Prelude.{◌≡◌, ℕ, List, None}
 use Rattle.std.specs.List.{AllZip}
-use Rattle.arrow_types.specs.declared.slot.Slot.{Slot}
+use Rattle.arrow_core.specs.declared.slot.Slot.{Slot}
 use Rattle.avro_schema.specs.declared.schema.AvroField.{AvroField}
 use Rattle.avro_schema.specs.declared.schema.Fixed.{Fixed}
 use Rattle.avro_schema.specs.declared.schema.Schema.{Schema}
-use Rattle.avro_grammar.specs.Encodes.{Encodes, IsNull}
-use Rattle.avro_grammar.specs.ValidBlock.{EnumsFit}
+use Rattle.avro_schema.specs.Encodes.{Encodes, IsNull}
+use Rattle.avro_schema.specs.ValidBlock.{EnumsFit}
 
 -- What encodes a slot under the target may be copied from what was written under the source. Three facts are needed:
 -- the same bytes encode the same slot under the source; dictionaries can hold the symbols of each enum in the source, so

@@ -2,7 +2,7 @@
 -- one block with a positive count.
 use Rattle.std.specs.Prelude.{◌≡◌, ℕ, List, length, flat_map}
 use Rattle.std.specs.List.{AllByRecursion}
-use Rattle.arrow_types.specs.declared.slot.Slot.{Slot}
+use Rattle.arrow_core.specs.declared.slot.Slot.{Slot}
 use Rattle.avro_schema.specs.declared.schema.AvroField.{AvroField}
 use Rattle.avro_encode.specs.Listed.{PairsFieldsOf, plain_fields_of}
 

@@ -2,8 +2,8 @@
 
 ghost use Rattle.std.specs.Prelude.{◌≤◌, length, IfSome, IsTrue};
 ghost use Rattle.avro_schema.specs.declared.schema.Schema.{Array};
-ghost use Rattle.avro_grammar.specs.Carried.{IsNoUnion};
-ghost use Rattle.avro_grammar.specs.Encodes.{IsNull};
+ghost use Rattle.avro_schema.specs.Carried.{IsNoUnion};
+ghost use Rattle.avro_schema.specs.Encodes.{IsNull};
 ghost use Rattle.avro_verbatim.specs.Begins.{BeginsWithFields, BeginsWithItems, BeginsWithSlot, TakesRows, TakesSlot};
 ghost use Rattle.avro_verbatim.specs.Canonical.{AreCanonicalRows};
 

@@ -2,12 +2,12 @@
 
 ghost use Rattle.std.specs.Prelude.{None, IfSome, IsTrue};
 ghost use Rattle.avro_schema.specs.declared.schema.Schema.TheVariants as schemas;
-ghost use Rattle.avro_grammar.specs.Encodes.{IsInt};
+ghost use Rattle.avro_schema.specs.Encodes.{IsInt};
 ghost use Rattle.avro_verbatim.specs.Begins.{BeginsWithSlot};
 
 use crate::parts::{skip_groups, split_counted, split_number};
+use arrow_core::is_utf8;
 use avro_schema::Fixed;
-use utf8_check::is_utf8;
 
 // Each is inlined wherever a value is looked at, since the calls would cost as much as the looking.
 

@@ -4,7 +4,7 @@ use Rattle.std.specs.Bool.{OnTrue}
 use Rattle.std.specs.List.{list_any}
 use Rattle.std.specs.Prelude.{is_some}
 use Rattle.std.proofs.lemmas.Bool.{false≢true}
-use Rattle.arrow_types.specs.declared.slot.Slot.{Slot}
+use Rattle.arrow_core.specs.declared.slot.Slot.{Slot}
 use Rattle.arrow_array.specs.declared.array.Array.{Array as AnArray}
 use Rattle.arrow_array.specs.declared.array.Array.TheVariants.{Null, Dictionary}
 use Rattle.arrow_array.specs.Arrays.{TellsValidity, array_slots}
@@ -17,7 +17,7 @@ use Rattle.avro_encode.specs.Listed.{slots_across}
 use Rattle.avro_encode.specs.Plain.{parts_of}
 use Rattle.avro_encode.proofs.Appending.{across_at}
 use Rattle.avro_encode.proofs.PlainLaw.{parts_list}
-use Rattle.avro_grammar.specs.Carried.{IsNoUnion}
+use Rattle.avro_schema.specs.Carried.{IsNoUnion}
 use Rattle.avro_write.specs.declared.flaws.Flaw.{Flaw}
 use Rattle.avro_write.specs.declared.flaws.Flaw.TheVariants as flaw
 use Rattle.avro_write.specs.Flaws.{null_flaw, shows}

@@ -1,9 +1,9 @@
 -- Lists and structs of arrays, and schemas that pair with their types.
 use Rattle.std.proofs.Common.{◌≡◌, ◌∙◌, ℕ, ◌<◌, Bool, List, length, map, IsTrue, sym, ap, subst}
 use Rattle.std.specs.List.{list_any}
-use Rattle.arrow_types.specs.declared.slot.Slot.{Slot}
-use Rattle.arrow_types.specs.declared.slot.Slot.TheVariants as slot
-use Rattle.arrow_types.specs.declared.types.DataType.{DataType}
+use Rattle.arrow_core.specs.declared.slot.Slot.{Slot}
+use Rattle.arrow_core.specs.declared.slot.Slot.TheVariants as slot
+use Rattle.arrow_core.specs.declared.types.DataType.{DataType}
 use Rattle.arrow_array.specs.declared.array.Array.{Array as AnArray}
 use Rattle.arrow_array.specs.Arrays.{array_slots}
 use Rattle.arrow_array.specs.Slots.{is_held, slot_at}

@@ -1,9 +1,9 @@
 -- Which flaws slots show, in terms of the lists of members and of fields.
 use Rattle.std.proofs.Common.{◌≡◌, ◌∙◌, ℕ, zero, suc, ◌+◌, ◌-◌, ◌<◌, ◌≤◌, Bool, true, false, not, ◌&&◌, ◌||◌, List, [], ◌∷◌, length, map, take, drop, get_or, Option, Some, None, refl, sym, ap, subst, arith}
 use Rattle.std.specs.List.{list_any}
-use Rattle.arrow_types.specs.declared.slot.Slot.{Slot, Null, Boolean, Integer, String, Binary, List', Struct'}
-use Rattle.arrow_types.specs.declared.slot.Slot as the_slot
-use Rattle.arrow_types.specs.declared.slot.Slot.TheVariants as slot
+use Rattle.arrow_core.specs.declared.slot.Slot.{Slot, Null, Boolean, Integer, String, Binary, List', Struct'}
+use Rattle.arrow_core.specs.declared.slot.Slot as the_slot
+use Rattle.arrow_core.specs.declared.slot.Slot.TheVariants as slot
 use Rattle.avro_schema.specs.declared.schema.AvroField.{AvroField}
 use Rattle.avro_schema.specs.declared.schema.FixedLogical.{FixedLogical}
 use Rattle.avro_schema.specs.declared.schema.FixedLogical.TheVariants as fixed_logical
@@ -18,7 +18,7 @@ use Rattle.arrow_array.specs.Slots.{is_held, slot_at}
 use Rattle.std.proofs.Common.{inl, inr, get_or-drop}
 use Rattle.std.proofs.lemmas.Bool.{cases_lt}
 use Rattle.avro_encode.proofs.Appending.{part_length}
-use Rattle.avro_grammar.specs.Carried.{IsNoUnion}
+use Rattle.avro_schema.specs.Carried.{IsNoUnion}
 use Rattle.arrow_array.specs.declared.array.Array.{Array as AnArray}
 use Rattle.arrow_array.specs.Arrays.{array_type}
 use Rattle.avro_encode.specs.Listed.{PairsTypesOf, slots_across}

@@ -9,15 +9,15 @@ use Rattle.std.proofs.lemmas.Bool.Decides.{Decides-int_eq}
 use Rattle.std.proofs.lemmas.Int.{ints, quot-rem}
 use Rattle.std.proofs.lemmas.Option.{none-some, same_Some}
 use Rattle.std.proofs.lemmas.List.Elements.{All-from_recursion, recursion_from_All}
-use Rattle.arrow_types.specs.declared.physical.PhysicalType.TheVariants as physical
-use Rattle.arrow_types.specs.declared.physical.PrimitiveType.{PrimitiveType}
-use Rattle.arrow_types.specs.declared.physical.PrimitiveType.TheVariants as primitive
-use Rattle.arrow_types.specs.declared.slot.Slot.{Slot}
-use Rattle.arrow_types.specs.declared.slot.Slot.TheVariants as slot
-use Rattle.arrow_types.specs.declared.types.DataType.{DataType, FixedSizeBinary, List', FixedSizeList', LargeList', Struct', Dictionary', Extension', Row_of-Field, end_of-Field, more_of-Field, Row_of-DataType, end_of-DataType, more_of-DataType}
-use Rattle.arrow_types.specs.declared.types.DataType.TheVariants as types
-use Rattle.arrow_types.specs.declared.types.IntervalUnit.TheVariants as interval
-use Rattle.arrow_types.specs.Layouts.{physical_inner, physical_type}
+use Rattle.arrow_core.specs.declared.physical.PhysicalType.TheVariants as physical
+use Rattle.arrow_core.specs.declared.physical.PrimitiveType.{PrimitiveType}
+use Rattle.arrow_core.specs.declared.physical.PrimitiveType.TheVariants as primitive
+use Rattle.arrow_core.specs.declared.slot.Slot.{Slot}
+use Rattle.arrow_core.specs.declared.slot.Slot.TheVariants as slot
+use Rattle.arrow_core.specs.declared.types.DataType.{DataType, FixedSizeBinary, List', FixedSizeList', LargeList', Struct', Dictionary', Extension', Row_of-Field, end_of-Field, more_of-Field, Row_of-DataType, end_of-DataType, more_of-DataType}
+use Rattle.arrow_core.specs.declared.types.DataType.TheVariants as types
+use Rattle.arrow_core.specs.declared.types.IntervalUnit.TheVariants as interval
+use Rattle.arrow_core.specs.Layouts.{physical_inner, physical_type}
 use Rattle.arrow_array.specs.Slots.{is_held}
 use Rattle.arrow_array.specs.SlotTypes.{FieldsOf, IsFlat, IsPrimitive, ItemOf, SlotOf, ValueOf}
 use Rattle.avro_schema.specs.declared.schema.BytesLogical.{BytesLogical}
@@ -26,8 +26,8 @@ use Rattle.avro_schema.specs.declared.schema.FixedLogical.{FixedLogical}
 use Rattle.avro_schema.specs.declared.schema.FixedLogical.TheVariants as fixed_logical
 use Rattle.avro_schema.specs.declared.schema.Record.{Record as TheRecord, Record', Row_of-AvroField, end_of-AvroField, more_of-AvroField}
 use Rattle.avro_schema.specs.declared.schema.Schema.{Schema, Null, Boolean, Int, Long, Float, Double, Bytes, String, Record, Enum, Array', Map', Union', Fixed, Row_of-Schema, end_of-Schema, more_of-Schema}
-use Rattle.avro_grammar.specs.Encodes.{IsInt, is_null}
-use Rattle.avro_grammar.proofs.Basics.{null_told}
+use Rattle.avro_schema.specs.Encodes.{IsInt, is_null}
+use Rattle.avro_schema.proofs.Basics.{null_told}
 use Rattle.avro_encode.specs.Pairs.{IsCounted, IsDecimal, IsLong, Pairs, PairsBytes, PairsDuration, PairsFields, PairsFixed, PairsItem, PairsRecord, PairsUnion}
 use Rattle.avro_encode.specs.PairTypes.{PairsBytesType, PairsFieldTypes, PairsFixedType, PairsItemType, PairsMemberType, PairsRecordType, PairsType, column_types, first_type, item_type, row_types}
 use Rattle.avro_encode.specs.Plain.{milliseconds, parts_of}

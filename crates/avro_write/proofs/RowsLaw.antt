@@ -3,11 +3,11 @@ use Rattle.std.proofs.Common.{◌≡◌, ◌∙◌, ℕ, zero, suc, ◌+◌, ◌
 use Rattle.std.specs.List.{AllByRecursion, range_with_len}
 use Rattle.std.proofs.lemmas.List.{length-map}
 use Rattle.std.proofs.lemmas.List.FromFn.{length-range_with_len}
-use Rattle.arrow_types.specs.declared.slot.Slot.{Slot}
-use Rattle.arrow_types.specs.declared.slot.Slot.TheVariants as slot
+use Rattle.arrow_core.specs.declared.slot.Slot.{Slot}
+use Rattle.arrow_core.specs.declared.slot.Slot.TheVariants as slot
 use Rattle.arrow_array.specs.Slots.{slot_at}
 use Rattle.avro_schema.specs.declared.schema.AvroField.{AvroField}
-use Rattle.avro_grammar.specs.Rows.{Rows}
+use Rattle.avro_schema.specs.Rows.{Rows}
 use Rattle.avro_encode.specs.Listed.{PairsFieldsOf, plain_fields_of}
 use Rattle.avro_encode.specs.Plain.{plain}
 use Rattle.avro_write.specs.Laws.{ArePaired, RowsAreTable, RowsEncode, all_kept, plain_columns, plain_table, table_of}

@@ -1,11 +1,11 @@
 -- The canonical encoding of a table encodes that table and no other.
 use Rattle.std.proofs.Common.{◌≡◌, ℕ, List, [], ◌∷◌, length, map, refl, sym, ap, subst}
 use Rattle.std.specs.List.{AllByRecursion}
-use Rattle.arrow_types.specs.declared.slot.Slot.{Slot}
+use Rattle.arrow_core.specs.declared.slot.Slot.{Slot}
 use Rattle.avro_schema.specs.declared.schema.AvroField.{AvroField}
-use Rattle.avro_grammar.specs.Parts.{Many}
-use Rattle.avro_grammar.specs.Rows.{Pieces, Row, Rows, no_pieces, with_kept}
-use Rattle.avro_grammar.proofs.RowLaws.{same_table}
+use Rattle.avro_schema.specs.Parts.{Many}
+use Rattle.avro_schema.specs.Rows.{Pieces, Row, Rows, no_pieces, with_kept}
+use Rattle.avro_schema.proofs.RowLaws.{same_table}
 use Rattle.avro_encode.specs.Listed.{PairsFieldsOf, plain_fields_of}
 use Rattle.avro_encode.specs.Plain.{plain}
 use Rattle.avro_encode.proofs.PlainLaw.{plain_encodes}

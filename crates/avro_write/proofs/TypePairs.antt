@@ -1,11 +1,11 @@
 -- Whether types pair with schemas, in terms of the lists of members and of fields that code sees.
 use Rattle.std.proofs.Common.{◌≡◌, ◌↔◌, ◌∙◌, List, Bool, IsTrue, sym, ap}
-use Rattle.arrow_types.specs.declared.types.Field.{Field}
-use Rattle.arrow_types.specs.declared.types.DataType.{DataType, List as ListType, LargeList, Struct}
+use Rattle.arrow_core.specs.declared.types.Field.{Field}
+use Rattle.arrow_core.specs.declared.types.DataType.{DataType, List as ListType, LargeList, Struct}
 use Rattle.avro_schema.specs.declared.schema.AvroField.{AvroField}
 use Rattle.avro_schema.specs.declared.schema.Record.{Record as TheRecord, out-Record}
 use Rattle.avro_schema.specs.declared.schema.Schema.{Schema, Array, Union, Record}
-use Rattle.avro_infer.proofs.Parts.{follow}
+use Rattle.avro_types.proofs.Parts.{follow}
 use Rattle.avro_encode.specs.Listed.{PairsColumns, PairsListOf, PairsMemberTypeOf, PairsStructOf}
 use Rattle.avro_encode.specs.PairTypes.{PairsType}
 use Rattle.avro_encode.proofs.ByLists.{moved}

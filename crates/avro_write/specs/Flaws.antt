@@ -5,7 +5,7 @@ use Rattle.std.specs.Ordering.{int_eq}
 use Rattle.arrow_core.specs.declared.error.Error.{Error}
 use Rattle.arrow_core.specs.declared.error.Error.TheVariants.{InvalidArgumentError, NotYetImplemented, OutOfMemory}
 use Rattle.arrow_core.specs.declared.error.Reason.TheVariants as reason
-use Rattle.arrow_types.specs.declared.slot.Slot.{Slot}
+use Rattle.arrow_core.specs.declared.slot.Slot.{Slot}
 use Rattle.arrow_array.specs.declared.array.Array.{Array}
 use Rattle.arrow_array.specs.Arrays.{array_slots, array_type}
 use Rattle.arrow_array.specs.Slots.{is_held}
@@ -13,7 +13,7 @@ use Rattle.avro_schema.specs.declared.schema.Schema.{Schema, Record, Array', Uni
 use Rattle.avro_schema.specs.declared.schema.Record.{Record as TheRecord, Record', Row_of-AvroField, end_of-AvroField, more_of-AvroField}
 use Rattle.avro_schema.specs.declared.schema.FixedLogical.{FixedLogical}
 use Rattle.avro_schema.specs.declared.schema.FixedLogical.TheVariants as fixed_logical
-use Rattle.avro_grammar.specs.Encodes.{is_null}
+use Rattle.avro_schema.specs.Encodes.{is_null}
 use Rattle.avro_encode.specs.Plain.{integer_of, milliseconds, parts_of}
 use Rattle.avro_encode.specs.PairTypes.{PairsType}
 use Rattle.avro_write.specs.declared.flaws.Flaw.{Flaw}

@@ -1,21 +1,21 @@
 -- Laws of the pairs of columns and schemas, which are proved and need no belief.
 use Rattle.std.specs.Prelude.{◌≡◌, ℕ, Bool, true, Some, List, [], ◌∷◌, length, map, flat_map}
 use Rattle.std.specs.List.{All, AllByRecursion, AllZip, range_with_len}
-use Rattle.arrow_types.specs.declared.slot.Slot.{Slot}
+use Rattle.arrow_core.specs.declared.slot.Slot.{Slot}
 use Rattle.avro_schema.specs.declared.schema.AvroField.{AvroField}
-use Rattle.avro_grammar.specs.Rows.{Rows}
-use Rattle.arrow_types.specs.declared.types.Field.{Field}
+use Rattle.avro_schema.specs.Rows.{Rows}
+use Rattle.arrow_core.specs.declared.types.Field.{Field}
 use Rattle.arrow_array.specs.Slots.{slot_at}
 use Rattle.avro_schema.specs.declared.schema.Record.{Record as TheRecord, out-Record}
 use Rattle.avro_encode.specs.Listed.{PairsColumns, PairsFieldsOf, plain_fields_of}
 use Rattle.avro_encode.specs.Pairs.{Pairs}
 use Rattle.avro_encode.specs.Plain.{plain}
 use Rattle.avro_write.specs.Rows.{rows}
-use Rattle.arrow_types.specs.declared.types.DataType.{DataType}
+use Rattle.arrow_core.specs.declared.types.DataType.{DataType}
 use Rattle.avro_schema.specs.declared.schema.Schema.{Schema}
 use Rattle.avro_encode.specs.PairTypes.{PairsType}
-use Rattle.avro_record.specs.Named.{named, named_root}
-use Rattle.avro_record.specs.Schemas.{can_serialize, optional, record_of, schema_of}
+use Rattle.avro_types.specs.Named.{named, named_root}
+use Rattle.avro_types.specs.Schemas.{can_serialize, optional, record_of, schema_of}
 
 -- a type that can be serialized pairs with the schema that it gets, also where the column is nullable, and where
 -- its fixed types got names

@@ -2,12 +2,12 @@
 ghost use Rattle.std.specs.Prelude.{◌≡◌, ◌+◌, ◌<◌, ℕ, false, true, length, map, IsTrue};
 ghost use Rattle.std.specs.Bool.{OnTrue};
 ghost use Rattle.std.specs.List.{list_any};
-ghost use Rattle.arrow_types.specs.declared.slot.Slot.{Slot};
+ghost use Rattle.arrow_core.specs.declared.slot.Slot.{Slot};
 ghost use Rattle.arrow_array.specs.Arrays.{array_slots, array_type};
 ghost use Rattle.arrow_array.specs.Kinds.{array_kind};
 ghost use Rattle.arrow_array.specs.Slots.{is_held, slot_at};
 ghost use Rattle.arrow_array.specs.Structs.{HaveSlots};
-ghost use Rattle.avro_grammar.specs.Carried.{IsNoUnion};
+ghost use Rattle.avro_schema.specs.Carried.{IsNoUnion};
 ghost use Rattle.avro_encode.specs.Flat.{IsListKind, IsStructKind};
 ghost use Rattle.avro_encode.specs.Listed.{PairsListOf, PairsMemberTypeOf, PairsStructOf, PairsTypesOf, slots_across};
 ghost use Rattle.avro_encode.specs.PairTypes.{PairsType};

@@ -7,9 +7,9 @@ ghost use Rattle.arrow_array.specs.Parts.{IsOfKind};
 ghost use Rattle.arrow_array.specs.Lent.{IsPart, part_slots};
 ghost use Rattle.arrow_array.specs.Slots.{is_held, slot_at};
 ghost use Rattle.arrow_array.specs.Structs.{HaveSlots};
-ghost use Rattle.arrow_types.specs.declared.slot.Slot.TheVariants as slot;
-ghost use Rattle.avro_grammar.specs.Carried.{IsNoUnion};
-ghost use Rattle.avro_grammar.specs.Encodes.{is_null as is_null_schema};
+ghost use Rattle.arrow_core.specs.declared.slot.Slot.TheVariants as slot;
+ghost use Rattle.avro_schema.specs.Carried.{IsNoUnion};
+ghost use Rattle.avro_schema.specs.Encodes.{is_null as is_null_schema};
 ghost use Rattle.avro_encode.specs.Flat.{IsListKind, IsStructKind};
 ghost use Rattle.avro_encode.specs.Listed.{PairsListOf, PairsMemberTypeOf, PairsStructOf, PairsTypesOf, slots_across};
 ghost use Rattle.avro_encode.specs.PairTypes.{PairsFixedType, PairsType};
@@ -19,7 +19,7 @@ ghost use Rattle.avro_write.specs.Shown.{IsIntervalKind, fields_show_of, member_
 
 use crate::clean::is_clean;
 use arrow_array::{Array, Part, PrimitiveArray};
-use arrow_types::MonthsDaysNs;
+use arrow_core::MonthsDaysNs;
 use avro_schema::{AvroField, AvroSchema, Fixed, FixedLogical};
 
 /// What a column may show that keeps it from being written.

@@ -1,17 +1,17 @@
 //! Whether a data type pairs with a schema.
 ghost use Rattle.std.specs.Prelude.{◌≡◌, ◌↔◌, true, IsTrue};
-ghost use Rattle.arrow_types.specs.declared.physical.PhysicalType.TheVariants as physical;
-ghost use Rattle.arrow_types.specs.declared.physical.PrimitiveType.TheVariants as primitive;
-ghost use Rattle.arrow_types.specs.Layouts.{physical_type};
-ghost use Rattle.avro_grammar.specs.Carried.{IsNoUnion};
-ghost use Rattle.avro_grammar.specs.Types.{IsString};
+ghost use Rattle.arrow_core.specs.declared.physical.PhysicalType.TheVariants as physical;
+ghost use Rattle.arrow_core.specs.declared.physical.PrimitiveType.TheVariants as primitive;
+ghost use Rattle.arrow_core.specs.Layouts.{physical_type};
+ghost use Rattle.avro_schema.specs.Carried.{IsNoUnion};
+ghost use Rattle.avro_schema.specs.Types.{IsString};
 ghost use Rattle.avro_encode.specs.Flat.{HasNoParts};
 ghost use Rattle.avro_encode.specs.Listed.{PairsColumns, PairsListOf, PairsMemberTypeOf, PairsStructOf};
 ghost use Rattle.avro_encode.specs.PairTypes.{PairsBytesType, PairsFixedType, PairsType};
 
-use arrow_types::{DataType, Field, IntervalUnit, PhysicalType, PrimitiveType};
-use avro_infer::is_null;
+use arrow_core::{DataType, Field, IntervalUnit, PhysicalType, PrimitiveType};
 use avro_schema::{AvroField, AvroSchema, BytesLogical, Fixed, FixedLogical};
+use avro_types::is_null;
 
 /// Whether columns of the type can be written under the schema.
 #[cycle(pairs)]

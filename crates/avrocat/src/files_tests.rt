@@ -1,7 +1,7 @@
 //! The commands `count`, `schema`, `help` and `version` over sources and sinks in memory.
 
-use crate::help::HELP;
 use crate::tests::{FILE, HEADER, answer_of, is_answer, plain_answer, sink, source};
+use avrocat_commands::HELP;
 
 /// A file of a map of doubles and a union of three, whose schema has spaces, an alias and a default:
 /// a block of two rows, and one of none.

@@ -1,9 +1,8 @@
 //! The lines of arrays of binary values, lists, structs and intervals, made without a block.
 
-use crate::lines::Lines;
 use arrow_columns::{Array, BinaryArray, ListArray, PrimitiveArray, StructArray};
-use arrow_core::{Box, Items, Text};
-use arrow_types::{DataType, Field, IntervalUnit, MonthsDaysNs};
+use arrow_core::{Box, DataType, Field, IntervalUnit, Items, MonthsDaysNs, Text};
+use avrocat_commands::Lines;
 use std::alloc::Global;
 use std::process::Abort;
 

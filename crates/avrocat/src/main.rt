@@ -7,46 +7,29 @@ ghost use Rattle.std.specs.IoError.{error_kind};
 ghost use Rattle.std.specs.Vec.Iter.{into_iter_items, into_iter_len};
 ghost use Rattle.std.specs.declared.io.ErrorKind.TheVariants.{OutOfMemory};
 
-mod avro;
 #[cfg(test)]
 mod avro_tests;
-mod block;
-mod columns;
-mod count;
-mod fields;
 #[cfg(test)]
 mod fields_tests;
 #[cfg(test)]
 mod files_tests;
-mod help;
-mod infer;
 #[cfg(test)]
 mod infer_tests;
-mod input;
-mod laws;
-mod lines;
 #[cfg(test)]
 mod lines_tests;
-mod make;
 #[cfg(test)]
 mod make_tests;
-mod ndjson;
 #[cfg(test)]
 mod ndjson_tests;
-mod note;
-mod rewrite;
 #[cfg(test)]
 mod rewrite_tests;
-mod run;
-mod schema;
 #[cfg(test)]
 mod tests;
 #[cfg(test)]
 mod whole_files_tests;
 
 use arrow_base::{Error, StdSink, StdSource, Text};
-use run::conclude;
-pub use run::run;
+use avrocat_commands::{conclude, run};
 use std::alloc::{AllocError, Global};
 use std::env::{self, Args};
 use std::io::{self, BufReader, ErrorKind};

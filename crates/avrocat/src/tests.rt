@@ -1,7 +1,7 @@
 //! The program as a call, over sources and sinks in memory.
 
-use super::run;
 use arrow_base::{Bytes, Items, MemorySink, MemorySource, Text};
+use avrocat_commands::run;
 use std::alloc::Global;
 use std::process::Abort;
 

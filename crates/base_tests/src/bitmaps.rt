@@ -1,5 +1,5 @@
-//! Tests of what no clause of `arrow_bitmap` says.
-use arrow_bitmap::Bitmap;
+//! Tests of what no clause of `arrow_array` says.
+use arrow_array::Bitmap;
 
 /// Whether these are 64 bits that are set, and one that isn't.
 fn is_a_word_and_one_bit(bitmap: &Bitmap) -> bool {

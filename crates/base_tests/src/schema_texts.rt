@@ -1,6 +1,6 @@
 //! Texts of schemas that are read.
+use avro_file::{Fault, read_schema_text};
 use avro_schema::{AvroSchema, BytesLogical, Fixed, FixedLogical, IntLogical, LongLogical};
-use avro_text::{Fault, read_schema_text};
 use std::alloc::Global;
 
 fn told_fixed(fixed: &Fixed) -> &'static str {

@@ -1,5 +1,5 @@
 //! Tests of what no clause of the timestamps says. Times and texts are those of Python's `datetime`.
-use arrow_types::TimeUnit;
+use arrow_core::TimeUnit;
 use json_dates::{is_printed_timestamp, push_timestamp};
 use std::alloc::Global;
 

@@ -1,8 +1,7 @@
-//! Tests of what no clause of `arrow_types` says.
-use arrow_core::{Box, Items, Metadata, Text};
-use arrow_types::{
-    DataType, Field, IntegerType, IntervalUnit, MonthsDaysNs, NativeType, Offset, PhysicalType,
-    PrimitiveType, Schema, TimeUnit,
+//! Tests of what no clause of `arrow_core` says.
+use arrow_core::{
+    Box, DataType, Field, IntegerType, IntervalUnit, Items, Metadata, MonthsDaysNs, NativeType,
+    Offset, PhysicalType, PrimitiveType, Schema, Text, TimeUnit,
 };
 use std::alloc::Global;
 use std::process::Abort;

@@ -1,5 +1,5 @@
 //! Texts of schemas that are read and written again.
-use avro_text::{read_schema_text, schema_text};
+use avro_file::{read_schema_text, schema_text};
 use std::alloc::Global;
 
 /// Whether the text of the schema that one text declares is the other.

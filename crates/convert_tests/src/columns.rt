@@ -1,8 +1,7 @@
 //! Columns, and lines that are converted into files in memory.
 
 use arrow_base::{Bytes, Error, Items, MemorySink, MemorySource, Result};
-use arrow_core::{Box, Metadata, Text};
-use arrow_types::{DataType, Field, Schema};
+use arrow_core::{Box, DataType, Field, Metadata, Schema, Text};
 use ndjson_avro::ndjson_to_avro;
 use std::alloc::Global;
 use std::process::Abort;

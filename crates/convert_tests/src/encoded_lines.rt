@@ -1,7 +1,7 @@
 //! Tests of what no clause of `line_encode` says: that lines are encoded and not given up. What is
 //! expected is Avro 1.11, "Binary Encoding", worked by hand.
 use crate::plans::{field, is_encoded, lists, pairs, plan};
-use arrow_types::{DataType, TimeUnit};
+use arrow_core::{DataType, TimeUnit};
 
 #[test]
 fn values_of_each_kind_are_encoded(rt: HostRuntime) {

@@ -1,7 +1,6 @@
 //! Columns, and the rows of lines under them, encoded.
-use arrow_core::{Box, Items, Metadata, Text};
-use arrow_types::{DataType, Field, Schema};
-use avro_record::to_record;
+use arrow_core::{Box, DataType, Field, Items, Metadata, Schema, Text};
+use avro_types::to_record;
 use line_encode::LinePlan;
 use std::alloc::Global;
 use std::process::Abort;

@@ -4,8 +4,8 @@ use crate::files::{BLOCK, EVENTS, FLOAT, HEADER};
 use crate::samples::{header_of, holds, source};
 use arrow_base::{Error, MemorySource, Reason, Result};
 use avro_file::{Compression, FileMetadata};
-use avro_infer::infer_schema;
 use avro_read::Reader;
+use avro_types::infer_schema;
 use std::alloc::Global;
 use std::process::Abort;
 

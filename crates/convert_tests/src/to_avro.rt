@@ -4,7 +4,7 @@ use crate::columns::{How, PLAIN, column, field, gives, lists, schema, structs};
 use crate::files::{BLOCK, HEADER};
 use crate::line_files::{EVENT_LINES, EVENTS, FIFTEEN, MINUS_TWO, NESTED, NESTED_LINES, ONE};
 use arrow_base::Text;
-use arrow_types::{DataType, TimeUnit};
+use arrow_core::{DataType, TimeUnit};
 
 #[test]
 fn rows_of_an_int_become_a_block(rt: HostRuntime) {

@@ -4,7 +4,7 @@ use crate::columns::{How, PLAIN, column, convert, field, gives, is_refused, join
 use crate::files::{BLOCK, HEADER};
 use crate::line_files::{MINUS_TWO, ONE};
 use arrow_base::{Error, Reason};
-use arrow_types::{DataType, Schema, TimeUnit};
+use arrow_core::{DataType, Schema, TimeUnit};
 use std::alloc::Global;
 use std::process::Abort;
 

@@ -2,8 +2,7 @@
 
 use crate::samples::{avro_field, block, or_null, text};
 use arrow_array::{Array, Chunk, PrimitiveArray, Utf8Array};
-use arrow_core::{Error, Items, Reason};
-use arrow_types::{DataType, Field};
+use arrow_core::{DataType, Error, Field, Items, Reason};
 use avro_decode::{Decoder, deserialize};
 use avro_schema::{AvroField, AvroSchema, IntLogical};
 use std::alloc::Global;

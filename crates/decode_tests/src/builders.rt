@@ -7,10 +7,10 @@ ghost use Rattle.arrow_builders.specs.Nodes.{IsEmpty};
 ghost use Rattle.arrow_builders.specs.MutableArrays.{builder_type};
 ghost use Rattle.arrow_builders.specs.Shapes.{shape};
 ghost use Rattle.arrow_builders.specs.Tight.{IsTight};
-ghost use Rattle.avro_grammar.specs.Carried.{CarriedList};
-ghost use Rattle.avro_grammar.specs.ValidBlock.{kept};
-ghost use Rattle.avro_grammar.specs.Types.{Fits};
-ghost use Rattle.avro_decode.specs.Columns.{kept_types};
+ghost use Rattle.avro_schema.specs.Carried.{CarriedList};
+ghost use Rattle.avro_schema.specs.ValidBlock.{kept};
+ghost use Rattle.avro_schema.specs.Types.{Fits};
+ghost use Rattle.avro_schema.specs.Columns.{kept_types};
 ghost use Rattle.avro_decode.specs.Suits.{AllSuit};
 ghost use Rattle.avro_decode.specs.Capacity.{AtNodes};
 
@@ -18,11 +18,10 @@ use crate::blocks::{ROWS, are_columns, avro_fields, fields};
 use crate::samples::{avro_field, or_null, record};
 use arrow_array::Chunk;
 use arrow_builders::MutableArray;
-use arrow_core::{Box, Error, Reason};
-use arrow_types::{DataType, Field};
+use arrow_core::{Box, DataType, Error, Field, Reason};
 use avro_decode::{deserialize_into, make_builders};
-use avro_infer::infer_schema;
 use avro_schema::{AvroField, AvroSchema, Record, SliceCursor};
+use avro_types::infer_schema;
 use std::alloc::Global;
 use std::process::Abort;
 

@@ -3,11 +3,10 @@
 use crate::blocks::{ROWS, are_numbers, avro_fields};
 use crate::samples::{avro_field, block, or_null, record, text};
 use arrow_array::{Array, Chunk, LargeListArray, Utf8Array};
-use arrow_core::{Box, Error, Reason};
-use arrow_types::{DataType, Field};
+use arrow_core::{Box, DataType, Error, Field, Reason};
 use avro_decode::deserialize;
-use avro_infer::{enlarge, infer_schema};
 use avro_schema::{AvroField, AvroSchema};
+use avro_types::{enlarge, infer_schema};
 use std::alloc::Global;
 use std::process::Abort;
 

@@ -4,8 +4,8 @@ use crate::samples::{avro_field, block, or_null, record, text};
 use arrow_array::{Array, Chunk, DictionaryArray, Keys, ListArray, StructArray, Utf8Array};
 use arrow_core::{Box, Error, Items, Reason};
 use avro_decode::deserialize;
-use avro_infer::infer_schema;
 use avro_schema::{AvroSchema, Enum, Record};
+use avro_types::infer_schema;
 use std::alloc::Global;
 use std::process::Abort;
 

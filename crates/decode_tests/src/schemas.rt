@@ -1,10 +1,9 @@
 //! The columns of Avro schemas, by the pairs of types that arrow2 has.
 
 use crate::samples::{avro_field, or_null, record, text};
-use arrow_core::{Box, Error, Items, Metadata, Reason};
-use arrow_types::{DataType, Field, IntegerType, TimeUnit};
-use avro_infer::infer_schema;
+use arrow_core::{Box, DataType, Error, Field, IntegerType, Items, Metadata, Reason, TimeUnit};
 use avro_schema::{AvroSchema, Enum, LongLogical, Record};
+use avro_types::infer_schema;
 use std::alloc::Global;
 use std::process::Abort;
 

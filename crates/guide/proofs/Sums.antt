@@ -12,8 +12,8 @@ use Rattle.std.proofs.lemmas.List.Sums.{fold-append}
 use Rattle.std.specs.Io.KnownBytes.{Consumes, IsAtEnd}
 use Rattle.arrow_array.specs.declared.array.Array.{Array}
 use Rattle.arrow_array.specs.Arrays.{array_slots}
-use Rattle.arrow_types.specs.declared.slot.Slot.{Slot}
-use Rattle.arrow_types.specs.declared.types.Field.{Field}
+use Rattle.arrow_core.specs.declared.slot.Slot.{Slot}
+use Rattle.arrow_core.specs.declared.types.Field.{Field}
 use Rattle.avro_schema.specs.declared.schema.Record.{Record, out-Record}
 use Rattle.avro_schema.specs.declared.schema.Schema as schema
 use Rattle.avro_container.specs.File.{IsFileBlock, none}
@@ -21,12 +21,12 @@ use Rattle.avro_container.specs.ReadHeader.{Change}
 use Rattle.avro_container.specs.Taking.{State, state}
 use Rattle.avro_container.proofs.Sequences.{one_more}
 use Rattle.avro_container.proofs.Taken.{takes_nothing, takes_more}
-use Rattle.avro_decode.specs.Columns.{AreColumns}
-use Rattle.avro_decode.specs.Decoder.{Projected, projected}
+use Rattle.avro_schema.specs.Columns.{AreColumns}
+use Rattle.avro_schema.specs.Projected.{Projected, projected}
 use Rattle.avro_file.specs.Metadata.{ReadsMetadata}
 use Rattle.avro_file.specs.declared.metadata.Compression.{Compression}
-use Rattle.avro_grammar.specs.Inferred.{inferred_columns, HasMapOrUnion}
-use Rattle.avro_infer.specs.Inference.{SchemaRefused}
+use Rattle.avro_schema.specs.Inferred.{inferred_columns, HasMapOrUnion}
+use Rattle.avro_types.specs.Inference.{SchemaRefused}
 use Rattle.avro_read.specs.Projection.{ReaderRefused}
 use Rattle.avro_read.specs.Reader.{ReadsChunk, Next}
 use Rattle.guide.specs.Sum.{only, long_of, added, AddsColumn, SumsSoFar, SumsBlocks, IsSumOfFile, PassesBits, ColumnFails, StopsAtBlock, FieldFails, SumFails}

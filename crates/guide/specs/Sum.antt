@@ -9,21 +9,21 @@ use Rattle.arrow_core.specs.declared.error.Reason.TheVariants.{KeepNumber, NotCa
 use Rattle.arrow_array.specs.declared.array.Array.{Array}
 use Rattle.arrow_array.specs.declared.array.Array.TheVariants.{Int64}
 use Rattle.arrow_array.specs.Arrays.{array_slots}
-use Rattle.arrow_types.specs.declared.types.Field.{Field}
-use Rattle.arrow_types.specs.declared.slot.Slot.{Slot}
-use Rattle.arrow_types.specs.declared.slot.Slot.TheVariants as slot
+use Rattle.arrow_core.specs.declared.types.Field.{Field}
+use Rattle.arrow_core.specs.declared.slot.Slot.{Slot}
+use Rattle.arrow_core.specs.declared.slot.Slot.TheVariants as slot
 use Rattle.avro_schema.specs.declared.schema.Schema as schema
 use Rattle.avro_schema.specs.declared.schema.Record.{Record, out-Record}
 use Rattle.avro_schema.specs.declared.schema.AvroField.{AvroField}
 use Rattle.avro_container.specs.File.{FileBlock, IsFileBlock, Sequence}
 use Rattle.avro_container.specs.ReadHeader.{Change}
 use Rattle.avro_container.specs.Taking.{State, state, Takes}
-use Rattle.avro_decode.specs.Columns.{AreColumns}
-use Rattle.avro_decode.specs.Decoder.{Projected, projected}
+use Rattle.avro_schema.specs.Columns.{AreColumns}
+use Rattle.avro_schema.specs.Projected.{Projected, projected}
 use Rattle.avro_file.specs.File.{AvroFile}
 use Rattle.avro_file.specs.Metadata.{ReadsMetadata, MetadataFails}
-use Rattle.avro_grammar.specs.Inferred.{inferred_columns, HasMapOrUnion}
-use Rattle.avro_infer.specs.Inference.{SchemaRefused}
+use Rattle.avro_schema.specs.Inferred.{inferred_columns, HasMapOrUnion}
+use Rattle.avro_types.specs.Inference.{SchemaRefused}
 use Rattle.avro_read.specs.Projection.{ReaderRefused}
 use Rattle.avro_read.specs.Reader.{ReadsChunk, Next}
 

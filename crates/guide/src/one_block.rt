@@ -2,7 +2,7 @@
 
 ghost use Rattle.std.specs.Prelude.{[], ◌∷◌, true, false, map, IfOk};
 ghost use Rattle.arrow_array.specs.Arrays.{array_slots};
-ghost use Rattle.avro_decode.specs.Columns.{AreColumns};
+ghost use Rattle.avro_schema.specs.Columns.{AreColumns};
 ghost use Rattle.avro_schema.specs.declared.schema.Record.{out-Record};
 
 use arrow_array::Chunk;

@@ -8,16 +8,15 @@ ghost use Rattle.arrow_builders.specs.Nodes.{IsEmpty, KeepsCapacity, HasSpare, E
 ghost use Rattle.arrow_builders.specs.Shapes.{shape};
 ghost use Rattle.arrow_builders.specs.Tight.{IsTight};
 ghost use Rattle.avro_decode.specs.Capacity.{AtNodes, BetweenNodes};
-ghost use Rattle.avro_decode.specs.Columns.{kept_types};
+ghost use Rattle.avro_schema.specs.Columns.{kept_types};
 ghost use Rattle.avro_decode.specs.Masks.{BytesBoundContent};
 ghost use Rattle.avro_decode.specs.Suits.{AllSuit};
-ghost use Rattle.avro_grammar.specs.Carried.{CarriedList};
-ghost use Rattle.avro_grammar.specs.Types.{Fits};
-ghost use Rattle.avro_grammar.specs.ValidBlock.{kept};
+ghost use Rattle.avro_schema.specs.Carried.{CarriedList};
+ghost use Rattle.avro_schema.specs.Types.{Fits};
+ghost use Rattle.avro_schema.specs.ValidBlock.{kept};
 
 use arrow_builders::MutableArray;
-use arrow_core::{Error, Result};
-use arrow_types::Field;
+use arrow_core::{Error, Field, Result};
 use avro_read::{deserialize_into, reserved_capacity_stays};
 use avro_schema::{AvroField, Block, SliceCursor};
 

@@ -7,7 +7,7 @@ ghost use Rattle.json_write.specs.Rows.{names_of, objects};
 
 use arrow_array::Chunk;
 use arrow_base::{Result, Sink};
-use arrow_types::Schema;
+use arrow_core::Schema;
 use json_write::{RecordSerializer, write};
 use std::alloc::Global;
 

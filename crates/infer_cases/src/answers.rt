@@ -2,8 +2,7 @@
 use crate::lines::{append_failing, append_first, append_given, append_lines};
 use crate::many::append_many;
 use crate::types::{append_fields, append_type};
-use arrow_core::{Error, Result};
-use arrow_types::DataType;
+use arrow_core::{DataType, Error, Result};
 use json_infer::{RowTypes, coerce_data_type, infer, infer_records_schema};
 use json_tree::{Value, parse};
 use std::alloc::{AllocError, Global};

@@ -3,7 +3,7 @@ use crate::answers::append_inferred;
 use crate::sources::{bytes_of, source_of};
 use arrow_base::{MemorySource, Source};
 use arrow_core::Result;
-use ndjson_infer::{infer, infer_iter};
+use ndjson_read::{infer, infer_iter};
 use std::alloc::Global;
 
 /// How many bytes lines may have.

@@ -1,7 +1,6 @@
 //! Texts that are too long for a line.
 use crate::answers::append_of_text;
-use arrow_core::{Error, Result};
-use arrow_types::{DataType, Field};
+use arrow_core::{DataType, Error, Field, Result};
 use json_infer::infer;
 use json_tree::{Number, Object, Value, parse};
 use std::alloc::Global;

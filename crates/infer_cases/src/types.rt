@@ -1,6 +1,5 @@
 //! The texts of types, with the names and the nullability of their fields.
-use arrow_core::{Metadata, Result};
-use arrow_types::{DataType, Field};
+use arrow_core::{DataType, Field, Metadata, Result};
 use std::alloc::Global;
 
 fn push(out: &mut String, text: &str) -> Result<()> {

@@ -7,10 +7,10 @@ use Rattle.arrow_array.specs.declared.keys.Keys.{Keys}
 use Rattle.arrow_array.specs.Dictionaries.{DictionaryFits, IsDictionaryOf, IsKeyInto, keys_slots, keys_type, looked_up}
 use Rattle.arrow_core.specs.declared.error.Error.{Error}
 use Rattle.arrow_dictionaries.specs.Encoding.{EncodesSlots, FirstSlots, HasFirstValues, HasTooManyDistinct, IsEncodingFault}
-use Rattle.arrow_types.specs.declared.slot.Slot.{Slot}
-use Rattle.arrow_types.specs.declared.slot.Slot.TheVariants as slot
-use Rattle.arrow_types.specs.declared.types.DataType.{DataType}
-use Rattle.arrow_types.specs.declared.types.IntegerType.{IntegerType}
+use Rattle.arrow_core.specs.declared.slot.Slot.{Slot}
+use Rattle.arrow_core.specs.declared.slot.Slot.TheVariants as slot
+use Rattle.arrow_core.specs.declared.types.DataType.{DataType}
+use Rattle.arrow_core.specs.declared.types.IntegerType.{IntegerType}
 use Rattle.json_tree.specs.Tree.{Json}
 use Rattle.json_flat.specs.Meaning.{Layer, Meaning}
 use Rattle.json_flat.specs.Columns.{AreSlotsOf, IsColumnFault}

@@ -8,7 +8,7 @@ use Rattle.arrow_array.specs.declared.array.Array.{Array}
 use Rattle.arrow_core.specs.declared.error.Error.{Error}
 use Rattle.arrow_core.specs.declared.error.Error.TheVariants.{NotYetImplemented, OutOfMemory, Overflow}
 use Rattle.arrow_core.specs.declared.error.Reason.TheVariants.{TextTimestamp}
-use Rattle.arrow_types.specs.declared.types.Field.{Field}
+use Rattle.arrow_core.specs.declared.types.Field.{Field}
 use Rattle.json_tree.specs.Tree.{Json}
 use Rattle.json_tree.specs.declared.value.Value.{out-Value}
 use Rattle.json_flat.specs.Meaning.{slot_of, text_timestamp}

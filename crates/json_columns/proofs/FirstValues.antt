@@ -6,7 +6,7 @@ use Rattle.arrow_array.specs.Arrays.{all_dictionaries, dictionaries_of}
 use Rattle.arrow_array.specs.declared.array.Array.{Array}
 use Rattle.arrow_core.specs.declared.error.Error.{Error}
 use Rattle.arrow_dictionaries.specs.Encoding.{FirstSlots, HasFirstValues, HaveFirstValues}
-use Rattle.arrow_types.specs.declared.slot.Slot.{Slot}
+use Rattle.arrow_core.specs.declared.slot.Slot.{Slot}
 
 abbrev IsFirst : List Slot × List Slot → Type 0
 IsFirst d = FirstSlots d.0 d.1

@@ -3,12 +3,12 @@ pub mod ByFields
 pub mod Counting
 pub mod DictionaryColumns
 pub mod FieldColumns
+pub mod FieldNames
 pub mod FirstValues
 pub mod Gathering
 pub mod Layers
 pub mod ListColumns
 pub mod Lists
-pub mod FieldNames
 pub mod Nulls
 pub mod RecordLaws
 pub mod Refusing

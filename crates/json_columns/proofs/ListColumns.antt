@@ -7,10 +7,10 @@ use Rattle.arrow_core.specs.Errors.{OnlyOutOfMemory}
 use Rattle.arrow_core.specs.declared.error.Error.{Error}
 use Rattle.arrow_flat.specs.Nested.{items_of, list_len, list_slot, lists_from, slots_from}
 use Rattle.arrow_flat.proofs.ListOffsets.{slots_from-cut}
-use Rattle.arrow_types.specs.Numbers.{greatest_offset}
-use Rattle.arrow_types.specs.declared.slot.Slot.{Slot}
-use Rattle.arrow_types.specs.declared.slot.Slot.TheVariants as slot
-use Rattle.arrow_types.specs.declared.types.Field.{Field}
+use Rattle.arrow_core.specs.Numbers.{greatest_offset}
+use Rattle.arrow_core.specs.declared.slot.Slot.{Slot}
+use Rattle.arrow_core.specs.declared.slot.Slot.TheVariants as slot
+use Rattle.arrow_core.specs.declared.types.Field.{Field}
 use Rattle.json_tree.specs.Tree.{Json}
 use Rattle.json_tree.specs.declared.value.Value.{out-Value}
 use Rattle.json_tree.specs.declared.value.Value.TheOpen as layer

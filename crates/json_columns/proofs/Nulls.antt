@@ -1,7 +1,7 @@
 -- `null` is a null under any type.
 use Rattle.std.proofs.Common.{◌≡◌, refl, ap, ◌∙◌}
-use Rattle.arrow_types.specs.declared.slot.Slot.TheVariants as slot
-use Rattle.arrow_types.specs.declared.types.DataType.{DataType, Null, Boolean, Int8, Int16, Int32, Int64, UInt8, UInt16, UInt32, UInt64, Float16, Float32, Float64, Timestamp, Date32, Date64, Time32, Time64, Duration, Interval, Binary, FixedSizeBinary, LargeBinary, Utf8, LargeUtf8, List', FixedSizeList', LargeList', Struct', Map', Union', Dictionary', Decimal, Decimal256, Extension', Row_of-DataType, end_of-DataType, more_of-DataType}
+use Rattle.arrow_core.specs.declared.slot.Slot.TheVariants as slot
+use Rattle.arrow_core.specs.declared.types.DataType.{DataType, Null, Boolean, Int8, Int16, Int32, Int64, UInt8, UInt16, UInt32, UInt64, Float16, Float32, Float64, Timestamp, Date32, Date64, Time32, Time64, Duration, Interval, Binary, FixedSizeBinary, LargeBinary, Utf8, LargeUtf8, List', FixedSizeList', LargeList', Struct', Map', Union', Dictionary', Decimal, Decimal256, Extension', Row_of-DataType, end_of-DataType, more_of-DataType}
 use Rattle.json_tree.specs.Tree.{null}
 use Rattle.json_tree.specs.declared.value.Value.TheOpen as layer
 use Rattle.json_tree.specs.declared.value.Value.TheVariants as variant

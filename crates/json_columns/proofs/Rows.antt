@@ -8,9 +8,9 @@ use Rattle.arrow_array.specs.Slots.{slot_at}
 use Rattle.arrow_array.specs.Structs.{record_at}
 use Rattle.arrow_array.specs.declared.array.Array.{Array}
 use Rattle.arrow_flat.specs.Builders.{slots_where}
-use Rattle.arrow_types.specs.declared.slot.Slot.{Slot}
-use Rattle.arrow_types.specs.declared.slot.Slot.TheVariants as slot
-use Rattle.arrow_types.specs.declared.types.Field.{Field}
+use Rattle.arrow_core.specs.declared.slot.Slot.{Slot}
+use Rattle.arrow_core.specs.declared.slot.Slot.TheVariants as slot
+use Rattle.arrow_core.specs.declared.types.Field.{Field}
 use Rattle.json_tree.specs.Tree.{Json, null}
 use Rattle.json_tree.specs.declared.value.Value.{out-Value}
 use Rattle.json_tree.specs.declared.value.Value.TheOpen as layer

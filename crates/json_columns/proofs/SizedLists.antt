@@ -9,16 +9,16 @@ use Rattle.arrow_array.specs.Arrays.{array_slots}
 use Rattle.arrow_array.specs.FixedLists.{fixed_list_at, FixedListFits, IsFixedListOf, list_size}
 use Rattle.arrow_array.specs.Slots.{slots_of}
 use Rattle.arrow_array.specs.declared.array.Array.{Array}
-use Rattle.arrow_bitmap.specs.Bits.{Packed}
+use Rattle.arrow_array.specs.Bits.{Packed}
 use Rattle.arrow_core.specs.declared.error.Error.{Error}
 use Rattle.arrow_flat.specs.Builders.{slots_where}
 use Rattle.arrow_flat.proofs.Bits.{made_alike}
-use Rattle.arrow_types.specs.declared.slot.Slot.{Slot}
-use Rattle.arrow_types.specs.declared.slot.Slot.TheVariants as slot
-use Rattle.arrow_types.specs.declared.types.DataType.{DataType}
-use Rattle.arrow_types.specs.declared.types.DataType.TheBlock.{shape-the_row-Field-0, hidden-the_row-Field-0}
-use Rattle.arrow_types.specs.declared.types.DataType.TheVariants as types
-use Rattle.arrow_types.specs.declared.types.Field.{Field}
+use Rattle.arrow_core.specs.declared.slot.Slot.{Slot}
+use Rattle.arrow_core.specs.declared.slot.Slot.TheVariants as slot
+use Rattle.arrow_core.specs.declared.types.DataType.{DataType}
+use Rattle.arrow_core.specs.declared.types.DataType.TheBlock.{shape-the_row-Field-0, hidden-the_row-Field-0}
+use Rattle.arrow_core.specs.declared.types.DataType.TheVariants as types
+use Rattle.arrow_core.specs.declared.types.Field.{Field}
 use Rattle.json_tree.specs.Tree.{Json, null}
 use Rattle.json_tree.specs.declared.value.Value.{out-Value}
 use Rattle.json_tree.specs.declared.value.Value.TheOpen as layer

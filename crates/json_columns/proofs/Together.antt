@@ -1,6 +1,6 @@
 -- Several meanings together.
 use Rattle.std.proofs.Common.{◌≡◌, inl, inr, List, [], ◌∷◌, map, refl, ap, ◌∙◌}
-use Rattle.arrow_types.specs.declared.slot.Slot.{Slot}
+use Rattle.arrow_core.specs.declared.slot.Slot.{Slot}
 use Rattle.json_flat.specs.Meaning.{Meaning, slot_of, text_timestamp, unfit}
 use Rattle.json_flat.specs.Columns.{IsNoSlot}
 use Rattle.json_flat.specs.Reading.{Together, all_slots, some_text, some_unfit, beside, together, made_of}

@@ -1,6 +1,6 @@
 pub mod Dictionaries
-pub mod Gathered
 pub mod Faults
+pub mod Gathered
 pub mod Names
 pub mod Records
 pub mod Refusals

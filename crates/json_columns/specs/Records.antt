@@ -7,9 +7,9 @@ use Rattle.arrow_core.specs.declared.error.Error.{Error}
 use Rattle.arrow_core.specs.declared.error.Error.TheVariants.{ExternalFormat, InvalidArgumentError, NotYetImplemented, OutOfMemory, Overflow}
 use Rattle.arrow_core.specs.declared.error.Reason.{Reason}
 use Rattle.arrow_core.specs.declared.error.Reason.TheVariants as reason
-use Rattle.arrow_types.specs.declared.types.DataType.{DataType, Row_of-Field, end_of-Field, more_of-Field}
-use Rattle.arrow_types.specs.declared.types.DataType as types
-use Rattle.arrow_types.specs.declared.types.Field.{Field}
+use Rattle.arrow_core.specs.declared.types.DataType.{DataType, Row_of-Field, end_of-Field, more_of-Field}
+use Rattle.arrow_core.specs.declared.types.DataType as types
+use Rattle.arrow_core.specs.declared.types.Field.{Field}
 use Rattle.json_tree.specs.Keys.{value_of}
 use Rattle.json_tree.specs.Tree.{Json, array}
 use Rattle.json_tree.specs.declared.value.Value.{out-Value}

@@ -3,10 +3,10 @@ use Rattle.std.specs.Prelude.{◌≡◌, ◌⊎◌, true, false, List}
 use Rattle.arrow_core.specs.declared.error.Error.{Error}
 use Rattle.arrow_core.specs.declared.error.Error.TheVariants.{InvalidArgumentError, NotYetImplemented, OutOfMemory, Overflow}
 use Rattle.arrow_core.specs.declared.error.Reason.TheVariants as reason
-use Rattle.arrow_types.specs.declared.slot.Slot.{Slot}
-use Rattle.arrow_types.specs.declared.types.DataType.{DataType}
-use Rattle.arrow_types.specs.declared.types.DataType as types
-use Rattle.arrow_types.specs.declared.types.Field.{Field}
+use Rattle.arrow_core.specs.declared.slot.Slot.{Slot}
+use Rattle.arrow_core.specs.declared.types.DataType.{DataType}
+use Rattle.arrow_core.specs.declared.types.DataType as types
+use Rattle.arrow_core.specs.declared.types.Field.{Field}
 use Rattle.json_tree.specs.Tree.{Json, array}
 use Rattle.json_flat.specs.Meaning.{text_timestamp, unfit}
 use Rattle.json_flat.specs.Columns.{AreSlotsOf, Has}

@@ -1,8 +1,8 @@
 -- Texts under timestamps. Contracts of private functions alone cite this file.
 use Rattle.std.specs.Prelude.{ℕ, Bool, true, false, List}
 use Rattle.std.specs.List.{list_any}
-use Rattle.arrow_types.specs.declared.types.DataType.{DataType, Timestamp}
-use Rattle.arrow_types.specs.declared.types.Field.{Field}
+use Rattle.arrow_core.specs.declared.types.DataType.{DataType, Timestamp}
+use Rattle.arrow_core.specs.declared.types.Field.{Field}
 use Rattle.json_tree.specs.Keys.{value_of}
 use Rattle.json_tree.specs.Tree.{Json}
 use Rattle.json_flat.specs.Meaning.{Layer, Meaning, slot_of, text_timestamp, unfit}

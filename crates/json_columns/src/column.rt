@@ -2,7 +2,7 @@
 ghost use Rattle.std.specs.Prelude.{◌≡◌, ◌<◌, [], false, true, IfOk, IfErr, OnOk};
 ghost use Rattle.arrow_array.specs.Arrays.{array_slots, array_type};
 ghost use Rattle.arrow_dictionaries.specs.Encoding.{HasFirstValues, HaveFirstValues};
-ghost use Rattle.arrow_types.specs.declared.types.DataType.TheVariants.{FixedSizeList as FixedSizeListType, LargeList as LargeListType, List as ListType, Struct as StructType};
+ghost use Rattle.arrow_core.specs.declared.types.DataType.TheVariants.{FixedSizeList as FixedSizeListType, LargeList as LargeListType, List as ListType, Struct as StructType};
 ghost use Rattle.json_tree.specs.Tree.{null as null_value};
 ghost use Rattle.json_flat.specs.Columns.{AreSlotsOf, lent, means};
 ghost use Rattle.json_columns.specs.Faults.{AreMemberColumns, IsFault, IsFieldsFault, IsListFault, IsMemberColumn, IsMemberFault, IsSizedFault, IsStructFault, TooMany, TooManyFields, TooManyListed};
@@ -14,9 +14,8 @@ use crate::flat::read_flat;
 use crate::gather::{list_items, members_named, object_marks, sized_list_items};
 use crate::parts::{fixed_list_array, large_list_array, list_array, struct_array};
 use arrow_array::Array;
-use arrow_core::Result;
+use arrow_core::{DataType, Field, Result};
 use arrow_flat::{MutableLists, MutableMarks};
-use arrow_types::{DataType, Field};
 use json_tree::Value;
 use std::alloc::Global;
 

@@ -2,7 +2,7 @@
 ghost use Rattle.std.specs.Prelude.{◌≡◌, [], true, IfOk, IfErr, OnOk};
 ghost use Rattle.arrow_array.specs.Arrays.{array_slots, array_type, dictionaries_of};
 ghost use Rattle.arrow_array.specs.Parts.{IsPlain};
-ghost use Rattle.arrow_types.specs.declared.physical.PrimitiveType.TheVariants.{Int32 as Int32Layout, Int64 as Int64Layout};
+ghost use Rattle.arrow_core.specs.declared.physical.PrimitiveType.TheVariants.{Int32 as Int32Layout, Int64 as Int64Layout};
 ghost use Rattle.json_flat.specs.Columns.{AreSlotsOf, IsColumnFault, lent};
 ghost use Rattle.json_flat.specs.Meaning.{int64_in};
 ghost use Rattle.json_columns.specs.Faults.{IsFault, TooMany};
@@ -10,8 +10,7 @@ ghost use Rattle.json_columns.specs.Gathered.{HasNoFields};
 ghost use Rattle.json_flat.specs.Reading.{has_reading, int32_in, reading};
 
 use arrow_array::Array;
-use arrow_core::Result;
-use arrow_types::{DataType, IntervalUnit};
+use arrow_core::{DataType, IntervalUnit, Result};
 use json_flat::{
     read_binaries, read_booleans, read_integers, read_moments, read_nulls, read_strings,
 };

@@ -2,16 +2,15 @@
 ghost use Rattle.std.specs.Prelude.{◌≡◌, ◌≤◌, ◌++◌, ◌∷◌, [], ◌+◌, length, true, false, IfOk, IfErr, OnOk, MatchOption};
 ghost use Rattle.arrow_core.specs.Errors.{OnlyOutOfMemory};
 ghost use Rattle.arrow_flat.specs.Nested.{items_of};
-ghost use Rattle.arrow_types.specs.Numbers.{greatest_offset};
+ghost use Rattle.arrow_core.specs.Numbers.{greatest_offset};
 ghost use Rattle.json_tree.specs.Tree.{null as null_value};
 ghost use Rattle.json_tree.specs.declared.value.Value.{out-Value};
 ghost use Rattle.json_flat.specs.Columns.{lent};
 ghost use Rattle.json_columns.specs.Faults.{IsCountFault};
 ghost use Rattle.json_columns.specs.Gathered.{all_items, all_sized, are_objects, are_sized, is_object as is_object_of, is_sized, items_in, len_in, list_lens, member_in, members_named as members_named_of, nulls, sized_items as sized_items_of};
 
-use arrow_core::Result;
+use arrow_core::{DataType, Offset, Result};
 use arrow_flat::{MutableLists, MutableMarks};
-use arrow_types::{DataType, Offset};
 use json_tree::Value;
 use std::alloc::Global;
 

@@ -1,4 +1,4 @@
-//! JSON values (RFC 8259) into columns of any type that has a JSON reading.
+//! JSON values (RFC 8259) into columns of any type that has a JSON reading, and chunks of them.
 #![tactic(auto)]
 
 mod column;
@@ -12,6 +12,8 @@ mod texts;
 mod types;
 mod values;
 
+pub use json_flat::{read_whole, read_whole_text};
+pub use json_infer::{coerce_data_type, infer, infer_records_schema};
 pub use names::names_twice;
 pub use records::deserialize_records;
 pub use types::has_json_reading;

@@ -3,8 +3,7 @@ ghost use Rattle.std.specs.Prelude.{◌≡◌, IfOk};
 ghost use Rattle.arrow_core.specs.Errors.{OnlyOutOfMemory};
 ghost use Rattle.json_columns.specs.Names.{any_names_twice as any_names_twice_of, AreNames, names_twice as names_twice_of, repeats as repeats_of, struct_names_twice as struct_names_twice_of};
 
-use arrow_core::{Result, Text};
-use arrow_types::{DataType, Field};
+use arrow_core::{DataType, Field, Result, Text};
 use first_seen::FirstSeen;
 use json_flat::have_distinct_names;
 use std::alloc::Global;

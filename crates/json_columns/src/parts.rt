@@ -12,9 +12,8 @@ ghost use Rattle.arrow_flat.specs.Nested.{items_of, lists_from};
 use arrow_array::{
     Array, DictionaryArray, FixedSizeListArray, Keys, LargeListArray, ListArray, StructArray,
 };
-use arrow_core::Result;
+use arrow_core::{DataType, Result};
 use arrow_flat::{MutableLists, MutableMarks};
-use arrow_types::DataType;
 use std::alloc::Global;
 
 /// The array of the lists, each of which has the child's slots from the end of the one before.

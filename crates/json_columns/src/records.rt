@@ -2,7 +2,7 @@
 ghost use Rattle.std.specs.Prelude.{◌≡◌, true, false, List, IfOk, IfErr, OnOk};
 ghost use Rattle.arrow_core.specs.Errors.{OnlyOutOfMemory};
 ghost use Rattle.arrow_core.specs.declared.error.Error.TheVariants.{Overflow};
-ghost use Rattle.arrow_types.specs.declared.types.Field.{Field};
+ghost use Rattle.arrow_core.specs.declared.types.Field.{Field};
 ghost use Rattle.json_tree.specs.declared.value.Value.{out-Value};
 ghost use Rattle.json_columns.specs.Faults.{AreMemberColumns, IsStructFault, TooManyFields};
 ghost use Rattle.json_columns.specs.Gathered.{all_have_reading};
@@ -15,8 +15,7 @@ use crate::names::{names_of, struct_names_twice};
 use crate::texts::any_row_has_text;
 use crate::types::has_json_reading;
 use arrow_array::Chunk;
-use arrow_core::{Error, Reason, Result, Text};
-use arrow_types::{DataType, Field, Schema};
+use arrow_core::{DataType, Error, Field, Reason, Result, Schema, Text};
 use first_seen::FirstSeen;
 use json_tree::{Object, Value};
 use std::alloc::Global;

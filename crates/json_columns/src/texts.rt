@@ -7,7 +7,7 @@ ghost use Rattle.json_flat.specs.Reading.{list_in, or_null, reading, sized_list_
 ghost use Rattle.json_columns.specs.Texts.{IsNoTimestamp, is_text, item_is_text, member_is_text};
 ghost use Rattle.json_tree.specs.Keys.{value_of};
 
-use arrow_types::{DataType, Field};
+use arrow_core::{DataType, Field};
 use json_tree::{Object, Value};
 
 fn is_string(value: &Value) -> bool

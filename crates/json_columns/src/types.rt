@@ -3,7 +3,7 @@ ghost use Rattle.std.specs.Prelude.{◌≡◌};
 ghost use Rattle.json_columns.specs.Gathered.{all_have_reading as all_have_reading_of, sized_list_has_reading as sized_list_has_reading_of, struct_has_reading as struct_has_reading_of};
 ghost use Rattle.json_flat.specs.Reading.{has_reading, is_value_type as is_value_type_of};
 
-use arrow_types::{DataType, Field, IntervalUnit};
+use arrow_core::{DataType, Field, IntervalUnit};
 
 /// Whether values are read under a dictionary over this type.
 fn is_value_type(data_type: &DataType) -> bool

@@ -16,8 +16,7 @@ use crate::names::names_twice;
 use crate::texts::any_has_text;
 use crate::types::has_json_reading;
 use arrow_array::Array;
-use arrow_core::{Error, Reason, Result};
-use arrow_types::DataType;
+use arrow_core::{DataType, Error, Reason, Result};
 use json_tree::Value;
 use std::alloc::Global;
 

@@ -3,7 +3,7 @@ use Rattle.std.proofs.Common.{◌≡◌, ℕ, List, [], ◌∷◌, ◌++◌, ref
 use Rattle.std.specs.Int.{int_div_euclid}
 use Rattle.jiff_core.proofs.SignedLemmas.{signed_arith}
 use Rattle.json_dates.specs.Civil.{is_printed_day, date_text}
-use Rattle.arrow_types.specs.declared.types.TimeUnit.{TimeUnit}
+use Rattle.arrow_core.specs.declared.types.TimeUnit.{TimeUnit}
 use Rattle.json_dates.specs.Times.{date_json, timestamp_json, timestamp_text, is_printed_timestamp, local_day, second_of_day, nanoseconds, separator, time_text, fraction_text, zone_text}
 
 pub date_json-printed : (day : ℤ) → IsTrue (is_printed_day day) → date_json day ≡ 34 ∷ (date_text day ++ 34 ∷ [])

@@ -4,7 +4,7 @@ ghost use Rattle.std.specs.Int.{int_div_euclid};
 ghost use Rattle.json_dates.specs.Civil.{is_printed_day};
 ghost use Rattle.json_dates.specs.Times.{whole_seconds, nanoseconds, local_seconds, local_day, second_of_day, is_printed_timestamp};
 
-use arrow_types::TimeUnit;
+use arrow_core::TimeUnit;
 
 // 0000-01-01 00:00:00 and 9999-12-31 23:59:59.
 const FIRST_SECOND: i64 = -62_167_219_200;

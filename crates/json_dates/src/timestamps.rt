@@ -7,8 +7,7 @@ ghost use Rattle.json_dates.specs.Times.{is_printed_timestamp, timestamp_json, t
 use crate::dates::{date_digits, push_null};
 use crate::digits::digit;
 use crate::local::{LocalSecond, local_second, nanoseconds};
-use arrow_core::Result;
-use arrow_types::TimeUnit;
+use arrow_core::{Result, TimeUnit};
 
 // The length of the longest text, which has nine digits of a fraction and an offset.
 const LONGEST: usize = 37;

@@ -6,8 +6,8 @@ use Rattle.std.proofs.lemmas.List.Sums.{sum_by_more_le}
 use Rattle.std.proofs.lemmas.List.{map-append, map_more, length-map, get_or-map, take-map}
 use Rattle.arrow_core.specs.declared.error.Error.{Error}
 use Rattle.arrow_core.specs.declared.error.Error.TheVariants.{OutOfMemory, Overflow}
-use Rattle.arrow_types.specs.declared.slot.Slot.{Slot}
-use Rattle.arrow_types.specs.declared.types.DataType.{DataType}
+use Rattle.arrow_core.specs.declared.slot.Slot.{Slot}
+use Rattle.arrow_core.specs.declared.types.DataType.{DataType}
 use Rattle.json_tree.specs.Tree.{Json}
 use Rattle.json_flat.specs.Meaning.{Meaning, Layer, slot_of, unfit}
 use Rattle.json_flat.specs.Columns.{AreSlotsOf, Has, IsNoSlot, Pushes, IsPushFault, IsColumnFault, IsTextFault, IsTooLong, lent, means, size_of, total_size}

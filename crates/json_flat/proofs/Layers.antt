@@ -1,6 +1,6 @@
 -- What a value means, by its outermost part.
 use Rattle.std.proofs.Common.{◌≡◌, ℕ, ℤ, Bool, List, refl, sym, ap, ◌∙◌}
-use Rattle.arrow_types.specs.declared.slot.Slot.TheVariants as slot
+use Rattle.arrow_core.specs.declared.slot.Slot.TheVariants as slot
 use Rattle.json_tree.specs.Tree.{Json}
 use Rattle.json_tree.specs.declared.value.Value.{out-Value, roll-Value, roll-out-Value}
 use Rattle.json_tree.specs.declared.value.Value.TheOpen as layer

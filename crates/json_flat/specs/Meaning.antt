@@ -1,7 +1,7 @@
 -- The slot that a JSON value (RFC 8259, section 3) stands for in a column of a type.
 use Rattle.std.specs.Prelude.{ℕ, ℤ, pos, negsuc, Bool, cond, List, ◌∷◌, ◌++◌, ◌==◌, length, Option, Some, None}
-use Rattle.arrow_types.specs.declared.slot.Slot.{Slot}
-use Rattle.arrow_types.specs.declared.slot.Slot.TheVariants as slot
+use Rattle.arrow_core.specs.declared.slot.Slot.{Slot}
+use Rattle.arrow_core.specs.declared.slot.Slot.TheVariants as slot
 use Rattle.arrow_flat.specs.Builders.{optional_slot}
 use Rattle.json_tree.specs.Grammar.{text_true, text_false}
 use Rattle.json_tree.specs.declared.value.Value.{Value, Value-F}

@@ -1,6 +1,6 @@
 -- Names of fields.
 use Rattle.std.specs.Prelude.{ℕ, List, map}
-use Rattle.arrow_types.specs.declared.types.Field.{Field}
+use Rattle.arrow_core.specs.declared.types.Field.{Field}
 
 -- the fields' names, in order
 abbrev pub names_of : List Field → List (List ℕ)

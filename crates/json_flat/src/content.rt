@@ -4,17 +4,16 @@ ghost use Rattle.std.specs.Option.{option_copied};
 ghost use Rattle.arrow_array.specs.Parts.{binary_type, utf8_type};
 ghost use Rattle.arrow_core.specs.Errors.{OnlyOutOfMemory};
 ghost use Rattle.arrow_core.specs.declared.error.Error.TheVariants.{OutOfMemory, Overflow};
-ghost use Rattle.arrow_types.specs.Numbers.{greatest_offset};
-ghost use Rattle.arrow_types.specs.declared.slot.Slot.TheVariants.{Binary as BinarySlot, String as StringSlot};
+ghost use Rattle.arrow_core.specs.Numbers.{greatest_offset};
+ghost use Rattle.arrow_core.specs.declared.slot.Slot.TheVariants.{Binary as BinarySlot, String as StringSlot};
 ghost use Rattle.arrow_flat.specs.Builders.{optional_slot};
 ghost use Rattle.json_tree.specs.Grammar.{text_false, text_true};
 ghost use Rattle.json_flat.specs.Meaning.{bytes_in, slot_of, text_in, with_exponent};
 ghost use Rattle.json_flat.specs.Columns.{AreSlotsOf, IsColumnFault, IsTextFault, IsTooLong, Pushes, lent, means, size_of};
 
 use arrow_array::{BinaryArray, Utf8Array};
-use arrow_core::Result;
+use arrow_core::{Offset, Result};
 use arrow_flat::{Container, MutableBinaryArray, MutableUtf8Array};
-use arrow_types::Offset;
 use json_tree::{Number, Value};
 use std::alloc::Global;
 

@@ -2,7 +2,7 @@
 ghost use Rattle.std.specs.Prelude.{◌≡◌, ◌≤ℤ◌, ◌+◌, ◌*◌, ◌<◌, ◌==◌, ◌||◌, ℤ, [], true, not, length, slice_index, Some, None, IfSome, MatchOption};
 ghost use Rattle.std.specs.Char.{digit_value, is_ascii_digit};
 ghost use Rattle.std.specs.Str.Parse.{digits_value, starts_with_minus};
-ghost use Rattle.arrow_types.specs.declared.slot.Slot.TheVariants.{Integer as IntegerSlot};
+ghost use Rattle.arrow_core.specs.declared.slot.Slot.TheVariants.{Integer as IntegerSlot};
 ghost use Rattle.json_flat.specs.Whole.{is_int, signed, whole_value, within, without_minus};
 
 use crate::native::WholeNumber;

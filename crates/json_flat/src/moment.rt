@@ -1,16 +1,15 @@
 //! Columns of timestamps.
 ghost use Rattle.std.specs.Prelude.{◌≡◌, OnOk, IfOk, IfErr};
 ghost use Rattle.arrow_array.specs.Parts.{IsPlain};
-ghost use Rattle.arrow_types.specs.declared.physical.PrimitiveType.TheVariants.{Int64 as Int64Layout};
+ghost use Rattle.arrow_core.specs.declared.physical.PrimitiveType.TheVariants.{Int64 as Int64Layout};
 ghost use Rattle.arrow_core.specs.declared.error.Error.TheVariants.{Overflow as OverflowFault};
 ghost use Rattle.json_flat.specs.Meaning.{moment_in, unfit};
 ghost use Rattle.json_flat.specs.Columns.{AreSlotsOf, Has, IsColumnFault, IsPushFault, Pushes, lent};
 
 use crate::native::WholeNumber;
 use arrow_array::PrimitiveArray;
-use arrow_core::{Error, Reason, Result};
+use arrow_core::{DataType, Error, Reason, Result};
 use arrow_flat::{Container, MutablePrimitiveArray};
-use arrow_types::DataType;
 use json_tree::Value;
 use std::alloc::Global;
 

@@ -4,8 +4,7 @@ ghost use Rattle.arrow_core.specs.Errors.{OnlyOutOfMemory};
 ghost use Rattle.json_tree.specs.Layout.{distinct, meets};
 ghost use Rattle.json_flat.specs.Names.{names_of};
 
-use arrow_core::Result;
-use arrow_types::Field;
+use arrow_core::{Field, Result};
 use first_seen::FirstSeen;
 use std::alloc::Global;
 

@@ -1,10 +1,10 @@
 //! The integers that columns keep, from JSON numbers.
 ghost use Rattle.std.specs.Prelude.{◌≡◌, ◌≤ℤ◌, ℤ, pos, cond, Some, None, MatchOption};
-ghost use Rattle.arrow_types.specs.declared.slot.Slot.TheVariants.{Integer as IntegerSlot};
+ghost use Rattle.arrow_core.specs.declared.slot.Slot.TheVariants.{Integer as IntegerSlot};
 ghost use Rattle.json_flat.specs.Whole.{number_value, within};
 
 use crate::whole::read_whole;
-use arrow_types::NativeType;
+use arrow_core::NativeType;
 use json_tree::Number;
 
 /// An integer of a column, which is from `low` to `high`.

@@ -2,15 +2,14 @@
 ghost use Rattle.std.specs.Prelude.{◌≡◌, OnOk, IfOk, IfErr};
 ghost use Rattle.arrow_array.specs.Parts.{IsPlain};
 ghost use Rattle.arrow_core.specs.Errors.{OnlyOutOfMemory};
-ghost use Rattle.arrow_types.specs.declared.types.DataType.TheVariants.{Boolean, Null};
+ghost use Rattle.arrow_core.specs.declared.types.DataType.TheVariants.{Boolean, Null};
 ghost use Rattle.json_flat.specs.Meaning.{boolean_meaning, null_in, boolean_in, whole_in};
 ghost use Rattle.json_flat.specs.Columns.{AreSlotsOf, IsColumnFault, IsPushFault, Pushes, lent, means};
 
 use crate::native::WholeNumber;
 use arrow_array::{BooleanArray, NullArray, PrimitiveArray};
-use arrow_core::{Error, Result};
+use arrow_core::{DataType, Error, Result};
 use arrow_flat::{Container, MutableBooleanArray, MutableNullArray, MutablePrimitiveArray};
-use arrow_types::DataType;
 use json_tree::Value;
 use std::alloc::Global;
 

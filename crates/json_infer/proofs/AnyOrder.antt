@@ -1,8 +1,8 @@
 -- Types in another order are coerced to the same type, but for the order of fields.
 use Rattle.std.proofs.Common.{◌≡◌, refl, sym, ap, subst, ◌∙◌, ℕ, zero, suc, List, [], ◌∷◌, map, Bool, true, false, cond, ◌||◌, ◌&&◌, inl, inr, arith, Option, Some, None, is_some}
-use Rattle.arrow_types.specs.declared.types.DataType.{DataType}
-use Rattle.arrow_types.specs.declared.types.DataType as data_type
-use Rattle.arrow_types.specs.declared.types.Field.{Field}
+use Rattle.arrow_core.specs.declared.types.DataType.{DataType}
+use Rattle.arrow_core.specs.declared.types.DataType as data_type
+use Rattle.arrow_core.specs.declared.types.Field.{Field}
 use Rattle.json_infer.specs.Lists.{Among, EachOnce, SameMembers, total}
 use Rattle.std.specs.Str.{bytes_eq}
 use Rattle.json_infer.specs.Parts.{same, item_of, fields_of, members_of, nullable, item_name, size_of, sizes}

@@ -6,7 +6,7 @@ use Rattle.std.specs.List.{position_from, slice_get, zip}
 use Rattle.std.specs.Str.{bytes_eq}
 use Rattle.first_seen.specs.Keys.{index_of}
 use Rattle.first_seen.proofs.Indices.{grown, kept}
-use Rattle.arrow_types.specs.declared.types.DataType.{DataType}
+use Rattle.arrow_core.specs.declared.types.DataType.{DataType}
 use Rattle.json_infer.specs.Lists.{with_one}
 use Rattle.json_infer.specs.Parts.{same}
 use Rattle.json_infer.specs.Columns.{Column, types_named, with_type}

@@ -1,8 +1,8 @@
 -- The tests of equality are right.
 use Rattle.std.proofs.Common.{◌≡◌, ℕ, List, true, ◌↔◌, rules}
 use Rattle.std.specs.Str.{bytes_eq}
-use Rattle.arrow_types.specs.declared.types.DataType.{DataType}
-use Rattle.arrow_types.proofs.EqualTypes.{types_equal}
+use Rattle.arrow_core.specs.declared.types.DataType.{DataType}
+use Rattle.arrow_core.proofs.EqualTypes.{types_equal}
 use Rattle.json_infer.specs.Parts.{same}
 
 pub exact : (t u : DataType) → (same t u ≡ true) ↔ (t ≡ u)

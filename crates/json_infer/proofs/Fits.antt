@@ -1,7 +1,7 @@
 -- What is kept of types is no larger than they are, so coercion ends.
 use Rattle.std.proofs.Common.{◌≡◌, refl, sym, ap, ◌∙◌, ℕ, zero, suc, ◌+◌, ◌≤◌, List, [], ◌∷◌, ◌++◌, take, Bool, true, false, cond, ◌||◌, Option, Some, None, is_some, slice_get, arith}
-use Rattle.arrow_types.specs.declared.types.DataType.{DataType}
-use Rattle.arrow_types.specs.declared.types.Field.{Field}
+use Rattle.arrow_core.specs.declared.types.DataType.{DataType}
+use Rattle.arrow_core.specs.declared.types.Field.{Field}
 use Rattle.json_infer.specs.declared.seen.Seen.{Seen}
 use Rattle.json_infer.specs.declared.seen.Seen.TheVariants as seen
 use Rattle.json_infer.specs.Lists.{distinct, total}

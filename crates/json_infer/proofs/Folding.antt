@@ -1,6 +1,6 @@
 -- How often a type stands among the types plays no part in names and types of members.
 use Rattle.std.proofs.Common.{◌≡◌, refl, sym, ap, subst, ◌∙◌, ℕ, List, [], ◌∷◌, ◌++◌, append_assoc, map, Bool, true, false, cond, inl, inr, ◌↔◌}
-use Rattle.arrow_types.specs.declared.types.DataType.{DataType}
+use Rattle.arrow_core.specs.declared.types.DataType.{DataType}
 use Rattle.std.specs.List.{list_any}
 use Rattle.std.specs.Str.{bytes_eq}
 use Rattle.json_infer.specs.Lists.{with_one, with_all, distinct, Among}

@@ -2,8 +2,8 @@
 use Rattle.std.proofs.Common.{◌≡◌, refl, sym, ap, subst, ◌∙◌, ℕ, ◌+◌, ◌≤◌, List, [], ◌∷◌, ◌++◌, append_assoc, map, Bool, true, false, cond, ◌||◌, inl, inr, arith}
 use Rattle.std.specs.List.{list_any}
 use Rattle.std.specs.Str.{bytes_eq}
-use Rattle.arrow_types.specs.declared.types.DataType.{DataType}
-use Rattle.arrow_types.specs.declared.types.Field.{Field}
+use Rattle.arrow_core.specs.declared.types.DataType.{DataType}
+use Rattle.arrow_core.specs.declared.types.Field.{Field}
 use Rattle.json_infer.specs.Lists.{with_one, with_all, distinct, EachOnce, Among, total}
 use Rattle.json_infer.specs.Parts.{same, nullable, size_of}
 use Rattle.json_infer.specs.Coercion.{types_in, coerce}

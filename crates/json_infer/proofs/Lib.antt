@@ -2,6 +2,7 @@ pub mod AnyOrder
 pub mod ArrayTypes
 pub mod Entries
 pub mod Equality
+pub mod FieldTexts
 pub mod Fits
 pub mod Folding
 pub mod Grouping

@@ -1,8 +1,8 @@
 -- Types that are given again play a part in the rule on more than two types alone.
 use Rattle.std.proofs.Common.{◌≡◌, refl, sym, ap, subst, ◌∙◌, ℕ, ◌≤◌, ◌<◌, length, List, [], ◌∷◌, Bool, true, false, cond, ◌||◌, ◌&&◌, nat_lt, inl, inr, arith}
 use Rattle.std.proofs.lemmas.Bool.Decides.{nat_tests}
-use Rattle.arrow_types.specs.declared.types.DataType.{DataType}
-use Rattle.arrow_types.specs.declared.types.DataType as data_type
+use Rattle.arrow_core.specs.declared.types.DataType.{DataType}
+use Rattle.arrow_core.specs.declared.types.DataType as data_type
 use Rattle.json_infer.specs.declared.seen.Seen.{Seen}
 use Rattle.json_infer.specs.declared.seen.Seen.TheVariants as seen
 use Rattle.json_infer.specs.Lists.{distinct, Among}

@@ -1,7 +1,7 @@
 -- Rows that come one at a time.
 use Rattle.std.proofs.Common.{◌≡◌, refl, sym, ap, ◌∙◌, List, [], ◌∷◌, ◌++◌, map, Bool, true, false, cond}
-use Rattle.arrow_types.specs.declared.types.DataType.{DataType}
-use Rattle.arrow_types.specs.declared.types.DataType as data_type
+use Rattle.arrow_core.specs.declared.types.DataType.{DataType}
+use Rattle.arrow_core.specs.declared.types.DataType as data_type
 use Rattle.json_tree.specs.declared.value.Value.{Value}
 use Rattle.json_infer.specs.declared.seen.Seen.{Seen}
 use Rattle.json_infer.specs.declared.seen.Seen.TheVariants as seen

@@ -1,7 +1,7 @@
 -- Rows in another order.
 use Rattle.std.proofs.Common.{◌≡◌, refl, ap, subst, ◌∙◌, List, [], ◌∷◌, map, Bool, true, false, cond, ◌⊎◌, inl, inr}
-use Rattle.arrow_types.specs.declared.types.DataType.{DataType}
-use Rattle.arrow_types.specs.declared.types.DataType as data_type
+use Rattle.arrow_core.specs.declared.types.DataType.{DataType}
+use Rattle.arrow_core.specs.declared.types.DataType as data_type
 use Rattle.json_tree.specs.declared.value.Value.{Value}
 use Rattle.json_infer.specs.Lists.{distinct, Among, SameMembers}
 use Rattle.json_infer.specs.Parts.{same}

@@ -1,11 +1,11 @@
 -- The rules go into parts of smaller size, so `coerce` meets them at each level.
 use Rattle.std.proofs.Common.{◌≡◌, refl, sym, ap, ◌∙◌, ℕ, zero, suc, ◌+◌, ◌≤◌, ◌<◌, List, [], ◌∷◌, ◌++◌, map, Bool, true, false, cond, arith, Option, Some, None, is_some, option_map}
-use Rattle.arrow_types.specs.declared.types.DataType.{DataType, out-DataType, roll-DataType, roll-out-DataType}
-use Rattle.arrow_types.specs.declared.types.DataType as data_type
-use Rattle.arrow_types.specs.declared.types.DataType.TheOpen as layer
-use Rattle.arrow_types.specs.declared.types.DataType.TheBlock.{shape-the_row-Field-0, hidden-the_row-Field-0, shape-the_row-Field-1, hidden-the_row-Field-1}
-use Rattle.arrow_types.specs.declared.types.DataType.TheViews.{rolls-List, rolls-Struct}
-use Rattle.arrow_types.specs.declared.types.Field.{Field}
+use Rattle.arrow_core.specs.declared.types.DataType.{DataType, out-DataType, roll-DataType, roll-out-DataType}
+use Rattle.arrow_core.specs.declared.types.DataType as data_type
+use Rattle.arrow_core.specs.declared.types.DataType.TheOpen as layer
+use Rattle.arrow_core.specs.declared.types.DataType.TheBlock.{shape-the_row-Field-0, hidden-the_row-Field-0, shape-the_row-Field-1, hidden-the_row-Field-1}
+use Rattle.arrow_core.specs.declared.types.DataType.TheViews.{rolls-List, rolls-Struct}
+use Rattle.arrow_core.specs.declared.types.Field.{Field}
 use Rattle.std.specs.List.{list_any}
 use Rattle.std.specs.Str.{bytes_eq}
 use Rattle.json_infer.specs.Lists.{with_one, with_all, total}

@@ -1,7 +1,7 @@
 -- One turn of the rules, by what the tests say.
 use Rattle.std.proofs.Common.{◌≡◌, ap, ◌∙◌, List, [], ◌∷◌, Bool, true, false, cond}
-use Rattle.arrow_types.specs.declared.types.DataType.{DataType}
-use Rattle.arrow_types.specs.declared.types.DataType as data_type
+use Rattle.arrow_core.specs.declared.types.DataType.{DataType}
+use Rattle.arrow_core.specs.declared.types.DataType as data_type
 use Rattle.json_infer.specs.Coercion.{all_same, all_structs, columns, of_two, coerce}
 use Rattle.json_infer.proofs.Sizes.{coerce_is}
 

@@ -2,8 +2,8 @@
 -- `Seen`, what contracts see of a `RowTypes` and the law that it suffices: nobody has to read it to believe another public contract.
 use Rattle.std.specs.Prelude.{ℕ, List, [], ◌∷◌, map, if◌then◌else◌}
 use Rattle.std.specs.Str.{bytes_eq}
-use Rattle.arrow_types.specs.declared.types.DataType.{DataType}
-use Rattle.arrow_types.specs.declared.types.Field.{Field}
+use Rattle.arrow_core.specs.declared.types.DataType.{DataType}
+use Rattle.arrow_core.specs.declared.types.Field.{Field}
 use Rattle.json_infer.specs.Lists.{distinct, with_one, total}
 use Rattle.json_infer.specs.Parts.{same, nullable, sizes}
 use Rattle.json_infer.specs.Coercion.{coerce}

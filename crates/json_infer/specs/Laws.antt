@@ -1,6 +1,6 @@
 -- Laws of the definitions.
 use Rattle.std.specs.Prelude.{◌≡◌, List}
-use Rattle.arrow_types.specs.declared.types.DataType.{DataType}
+use Rattle.arrow_core.specs.declared.types.DataType.{DataType}
 use Rattle.json_tree.specs.declared.value.Value.{Value}
 use Rattle.json_infer.specs.declared.seen.Seen.TheVariants as seen
 use Rattle.json_infer.specs.Lists.{distinct, EachOnce, SameMembers}

@@ -7,4 +7,5 @@ pub mod Lists
 pub mod Parts
 pub mod RowsSeen
 pub mod Seen
+pub mod Texts
 pub mod UpToOrder

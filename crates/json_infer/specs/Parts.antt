@@ -1,10 +1,10 @@
 -- What data types are made of.
 use Rattle.std.specs.Prelude.{ℕ, suc, ◌+◌, List, [], ◌∷◌, Bool, true, Option, Some, None}
-use Rattle.arrow_types.specs.declared.types.DataType.{DataType, out-DataType, List', Struct', Row_of-Field, end_of-Field, more_of-Field}
-use Rattle.arrow_types.specs.declared.types.DataType as data_type
-use Rattle.arrow_types.specs.declared.types.DataType.TheOpen as layer
-use Rattle.arrow_types.specs.declared.types.Field.{Field}
-use Rattle.arrow_types.specs.contracts.types.DataTypePartialEq.TheImpl as type_comparison
+use Rattle.arrow_core.specs.declared.types.DataType.{DataType, out-DataType, List', Struct', Row_of-Field, end_of-Field, more_of-Field}
+use Rattle.arrow_core.specs.declared.types.DataType as data_type
+use Rattle.arrow_core.specs.declared.types.DataType.TheOpen as layer
+use Rattle.arrow_core.specs.declared.types.Field.{Field}
+use Rattle.arrow_core.specs.contracts.types.DataTypePartialEq.TheImpl as type_comparison
 use Rattle.json_infer.specs.Lists.{total}
 
 -- `==` of types, which is true exactly where they are equal

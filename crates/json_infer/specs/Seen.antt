@@ -1,8 +1,8 @@
 -- What is kept of types that come one at a time. Contracts of private functions and what contracts see of a `RowTypes` cite this
 -- file, and the law that it suffices: nobody has to read it to believe another public contract.
 use Rattle.std.specs.Prelude.{ℕ, suc, ◌+◌, List, [], ◌∷◌, Bool, true, false, ◌||◌, if◌then◌else◌}
-use Rattle.arrow_types.specs.declared.types.DataType.{DataType}
-use Rattle.arrow_types.specs.declared.types.DataType as data_type
+use Rattle.arrow_core.specs.declared.types.DataType.{DataType}
+use Rattle.arrow_core.specs.declared.types.DataType as data_type
 use Rattle.json_infer.specs.declared.seen.Seen.{Seen}
 use Rattle.json_infer.specs.declared.seen.Seen.TheVariants as seen
 use Rattle.json_infer.specs.Parts.{same, item_of, members_of, size_of}

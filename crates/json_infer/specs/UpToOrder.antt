@@ -1,8 +1,8 @@
 -- Types that are the same but for the order of fields.
 use Rattle.std.specs.Prelude.{◌≡◌, List, map}
-use Rattle.arrow_types.specs.declared.types.DataType.{DataType}
-use Rattle.arrow_types.specs.declared.types.DataType as data_type
-use Rattle.arrow_types.specs.declared.types.Field.{Field}
+use Rattle.arrow_core.specs.declared.types.DataType.{DataType}
+use Rattle.arrow_core.specs.declared.types.DataType as data_type
+use Rattle.arrow_core.specs.declared.types.Field.{Field}
 use Rattle.json_infer.specs.Lists.{Among, EachOnce, SameMembers}
 
 -- They are equal; or both are Lists, whose item types are the same in this way; or both are Structs with the same names, each

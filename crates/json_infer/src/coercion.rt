@@ -11,8 +11,7 @@ ghost use Rattle.json_infer.specs.declared.seen.Seen.TheVariants as variants;
 use crate::columns::Columns;
 use crate::parts::{are_same, item, list_type};
 use crate::seen::Seen;
-use arrow_core::{Items, Result, Text};
-use arrow_types::{DataType, Field};
+use arrow_core::{DataType, Field, Items, Result, Text};
 use std::alloc::Global;
 
 /// The type that several types are coerced to, by the first of these rules that applies:

@@ -7,8 +7,7 @@ ghost use Rattle.json_infer.specs.Columns.{types_named, with_fields, with_type};
 ghost use Rattle.json_infer.specs.Lists.{with_one};
 ghost use Rattle.json_infer.specs.Parts.{same};
 
-use arrow_core::{Result, Text};
-use arrow_types::{DataType, Field};
+use arrow_core::{DataType, Field, Result, Text};
 use first_seen::FirstSeen;
 use std::alloc::Global;
 use std::marker::Model;
@@ -30,7 +29,7 @@ impl Model for Columns {
     ghost use Rattle.std.specs.List.{zip};
     ghost use Rattle.json_infer.specs.Columns.{Column};
     ghost use Rattle.std.specs.Coded.{codes};
-    ghost use Rattle.arrow_types.specs.contracts.types.DataType as data_type;
+    ghost use Rattle.arrow_core.specs.contracts.types.DataType as data_type;
 
     ghost Value = { List Column };
 

@@ -9,8 +9,7 @@ ghost use Rattle.json_infer.specs.Seen.{seen_after, result_of};
 use crate::coercion::coerced;
 use crate::parts::{is_null, list_type};
 use crate::seen::Seen;
-use arrow_core::{Error, Items, Metadata, Reason, Result};
-use arrow_types::{DataType, Field, Schema};
+use arrow_core::{DataType, Error, Field, Items, Metadata, Reason, Result, Schema};
 use json_tree::{Number, Object, Value};
 use std::alloc::Global;
 

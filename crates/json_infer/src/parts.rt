@@ -1,12 +1,11 @@
 //! What data types are made of.
 ghost use Rattle.std.specs.Prelude.{◌≡◌, [], ◌∷◌, option_map, IfOk};
 ghost use Rattle.arrow_core.specs.Errors.{OnlyOutOfMemory};
-ghost use Rattle.arrow_types.specs.declared.types.DataType as types;
+ghost use Rattle.arrow_core.specs.declared.types.DataType as types;
 ghost use Rattle.json_infer.specs.Coercion.{all_structs};
 ghost use Rattle.json_infer.specs.Parts.{item_of, list_of, members_of, same};
 
-use arrow_core::{Box, Result, Text};
-use arrow_types::{DataType, Field};
+use arrow_core::{Box, DataType, Field, Result, Text};
 use std::alloc::Global;
 
 /// Whether two types are equal.

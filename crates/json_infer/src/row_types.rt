@@ -10,8 +10,7 @@ use crate::coercion::coerced;
 use crate::columns::Columns;
 use crate::infer_schema::{add_kept, infer};
 use crate::seen::Seen;
-use arrow_core::Result;
-use arrow_types::DataType;
+use arrow_core::{DataType, Result};
 use json_tree::Value;
 use std::alloc::Global;
 use std::marker::Model;
@@ -30,7 +29,7 @@ pub struct RowTypes {
 impl Model for RowTypes {
     ghost use Rattle.json_infer.specs.declared.seen.Seen.{Seen};
     ghost use Rattle.std.specs.Coded.{codes};
-    ghost use Rattle.arrow_types.specs.contracts.types.DataType as data_type;
+    ghost use Rattle.arrow_core.specs.contracts.types.DataType as data_type;
 
     ghost Value = { Seen };
 

@@ -8,8 +8,7 @@ ghost use Rattle.json_infer.specs.declared.seen.Seen.TheVariants as seen;
 
 use crate::columns::Columns;
 use crate::parts::{are_same, fields, is_struct};
-use arrow_core::Result;
-use arrow_types::DataType;
+use arrow_core::{DataType, Result};
 use std::alloc::Global;
 use std::mem::replace;
 

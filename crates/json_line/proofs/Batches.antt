@@ -10,8 +10,8 @@ use Rattle.arrow_builders.specs.MutableArrays.{builder_slots, builder_type}
 use Rattle.arrow_builders.specs.Shapes.{Shape, shape, shape_type}
 use Rattle.arrow_builders.proofs.Heads.{type_is}
 use Rattle.arrow_builders.specs.declared.array.MutableArray.{MutableArray}
-use Rattle.arrow_types.specs.declared.slot.Slot.{Slot}
-use Rattle.arrow_types.specs.declared.types.Field.{Field}
+use Rattle.arrow_core.specs.declared.slot.Slot.{Slot}
+use Rattle.arrow_core.specs.declared.types.Field.{Field}
 use Rattle.json_tree.specs.Layout.{distinct}
 use Rattle.json_tree.specs.Meaning.{IsJson}
 use Rattle.json_tree.specs.Reading.{found, skip, value_at, First}

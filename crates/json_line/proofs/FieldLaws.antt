@@ -5,11 +5,11 @@ use Rattle.arrow_core.specs.declared.error.Error.{Error}
 use Rattle.arrow_array.specs.FixedLists.{list_size}
 use Rattle.arrow_builders.specs.Children.{fields_of}
 use Rattle.arrow_builders.specs.Shapes.{Shape, fixed_lists, lists, records}
-use Rattle.arrow_types.specs.declared.physical.PhysicalType.{PhysicalType}
-use Rattle.arrow_types.specs.declared.physical.PhysicalType.TheVariants as physical
-use Rattle.arrow_types.specs.declared.types.DataType.{DataType}
-use Rattle.arrow_types.specs.declared.types.DataType.TheVariants as types
-use Rattle.arrow_types.specs.declared.types.Field.{Field}
+use Rattle.arrow_core.specs.declared.physical.PhysicalType.{PhysicalType}
+use Rattle.arrow_core.specs.declared.physical.PhysicalType.TheVariants as physical
+use Rattle.arrow_core.specs.declared.types.DataType.{DataType}
+use Rattle.arrow_core.specs.declared.types.DataType.TheVariants as types
+use Rattle.arrow_core.specs.declared.types.Field.{Field}
 use Rattle.json_tree.specs.Layout.{distinct}
 use Rattle.json_line.specs.declared.field_names.FieldNames.{FieldNames, Fields}
 use Rattle.json_line.specs.Builders.{line_shape, shapes_of, AllSuit, Suits}

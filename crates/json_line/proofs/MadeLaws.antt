@@ -5,11 +5,11 @@ use Rattle.arrow_core.specs.declared.error.Error.{Error}
 use Rattle.arrow_builders.specs.Children.{fields_of}
 use Rattle.arrow_builders.specs.Shapes.{Shape, fixed_lists, flat, lists, records, shape}
 use Rattle.arrow_builders.specs.declared.array.MutableArray.{MutableArray}
-use Rattle.arrow_types.specs.Layouts.{physical_type}
-use Rattle.arrow_types.specs.declared.physical.PhysicalType.TheVariants as physical
-use Rattle.arrow_types.specs.declared.types.DataType.{DataType}
-use Rattle.arrow_types.specs.declared.types.DataType.TheVariants as types
-use Rattle.arrow_types.specs.declared.types.Field.{Field}
+use Rattle.arrow_core.specs.Layouts.{physical_type}
+use Rattle.arrow_core.specs.declared.physical.PhysicalType.TheVariants as physical
+use Rattle.arrow_core.specs.declared.types.DataType.{DataType}
+use Rattle.arrow_core.specs.declared.types.DataType.TheVariants as types
+use Rattle.arrow_core.specs.declared.types.Field.{Field}
 use Rattle.json_line.specs.Builders.{line_shape, shapes_of, IsNotNested}
 use Rattle.json_line.proofs.Shapes.{flat_shape, large_list_shape, list_shape, sized_list_shape, struct_shape}
 

@@ -9,9 +9,9 @@ use Rattle.arrow_builders.specs.declared.large_list.DynMutableLargeListArray.{Dy
 use Rattle.arrow_builders.specs.declared.fixed_size_list.MutableFixedSizeListArray.{MutableFixedSizeListArray}
 use Rattle.arrow_builders.specs.declared.structs.DynMutableStructArray.{DynMutableStructArray}
 use Rattle.arrow_builders.proofs.Rows.{shape-record}
-use Rattle.arrow_types.specs.declared.physical.PhysicalType.TheVariants as physical
-use Rattle.arrow_types.specs.declared.types.DataType.{DataType}
-use Rattle.arrow_types.specs.declared.types.Field.{Field}
+use Rattle.arrow_core.specs.declared.physical.PhysicalType.TheVariants as physical
+use Rattle.arrow_core.specs.declared.types.DataType.{DataType}
+use Rattle.arrow_core.specs.declared.types.Field.{Field}
 use Rattle.json_line.specs.declared.field_names.FieldNames.{FieldNames}
 use Rattle.json_line.specs.Builders.{line_shape, shapes_of, AllSuit, Suits}
 use Rattle.json_line.specs.Lines.{have_line_readings}

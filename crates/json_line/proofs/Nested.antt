@@ -15,11 +15,11 @@ use Rattle.arrow_builders.specs.declared.array.MutableArray.{MutableArray, Struc
 use Rattle.arrow_builders.specs.declared.structs.DynMutableStructArray.{DynMutableStructArray}
 use Rattle.arrow_builders.proofs.Rows.{shape-record, slots-record, tight-record}
 use Rattle.arrow_builders.proofs.Staying.{drop_prefix, grown, lists_stay, record_last, records_stay, tight_long}
-use Rattle.arrow_types.specs.declared.physical.PhysicalType.{PhysicalType}
-use Rattle.arrow_types.specs.declared.physical.PhysicalType.TheVariants as physical
-use Rattle.arrow_types.specs.declared.physical.PrimitiveType.TheVariants as primitive
-use Rattle.arrow_types.specs.declared.slot.Slot.{Slot}
-use Rattle.arrow_types.specs.declared.slot.Slot.TheVariants as slot
+use Rattle.arrow_core.specs.declared.physical.PhysicalType.{PhysicalType}
+use Rattle.arrow_core.specs.declared.physical.PhysicalType.TheVariants as physical
+use Rattle.arrow_core.specs.declared.physical.PrimitiveType.TheVariants as primitive
+use Rattle.arrow_core.specs.declared.slot.Slot.{Slot}
+use Rattle.arrow_core.specs.declared.slot.Slot.TheVariants as slot
 use Rattle.json_tree.specs.Reading.{Outcome, found}
 use Rattle.json_tree.specs.Tree.{Json, null, array, object}
 use Rattle.json_tree.specs.declared.value.Value.{out-Value}

@@ -16,8 +16,8 @@ use Rattle.arrow_builders.specs.declared.array.MutableArray.{MutableArray, Fixed
 use Rattle.arrow_builders.specs.declared.fixed_size_list.MutableFixedSizeListArray.{MutableFixedSizeListArray}
 use Rattle.arrow_builders.proofs.NestedSlots.{slots_of-alike}
 use Rattle.arrow_builders.proofs.Staying.{drop_prefix}
-use Rattle.arrow_types.specs.declared.slot.Slot.{Slot}
-use Rattle.arrow_types.specs.declared.slot.Slot.TheVariants as slot
+use Rattle.arrow_core.specs.declared.slot.Slot.{Slot}
+use Rattle.arrow_core.specs.declared.slot.Slot.TheVariants as slot
 use Rattle.json_tree.specs.Tree.{Json, array}
 use Rattle.json_tree.specs.declared.value.Value.{out-Value}
 use Rattle.json_tree.specs.declared.value.Value.TheVariants as variant

@@ -6,13 +6,13 @@ use Rattle.arrow_builders.specs.MutableArrays.{builder_slots}
 use Rattle.arrow_builders.specs.Shapes.{Shape, flat, lists, fixed_lists, records, no_field, field, shape as shape_of}
 use Rattle.arrow_builders.specs.Tight.{IsTight}
 use Rattle.arrow_builders.specs.declared.array.MutableArray.{MutableArray}
-use Rattle.arrow_types.specs.Layouts.{physical_type}
-use Rattle.arrow_types.specs.declared.physical.PhysicalType.{PhysicalType}
-use Rattle.arrow_types.specs.declared.physical.PhysicalType.TheVariants as physical
-use Rattle.arrow_types.specs.declared.physical.PrimitiveType.TheVariants as primitive
-use Rattle.arrow_types.specs.declared.slot.Slot.{Slot}
-use Rattle.arrow_types.specs.declared.types.DataType.{DataType, Timestamp, List', LargeList', FixedSizeList', Struct', Row_of-Field, end_of-Field, more_of-Field}
-use Rattle.arrow_types.specs.declared.types.Field.{Field}
+use Rattle.arrow_core.specs.Layouts.{physical_type}
+use Rattle.arrow_core.specs.declared.physical.PhysicalType.{PhysicalType}
+use Rattle.arrow_core.specs.declared.physical.PhysicalType.TheVariants as physical
+use Rattle.arrow_core.specs.declared.physical.PrimitiveType.TheVariants as primitive
+use Rattle.arrow_core.specs.declared.slot.Slot.{Slot}
+use Rattle.arrow_core.specs.declared.types.DataType.{DataType, Timestamp, List', LargeList', FixedSizeList', Struct', Row_of-Field, end_of-Field, more_of-Field}
+use Rattle.arrow_core.specs.declared.types.Field.{Field}
 use Rattle.json_tree.specs.Layout.{distinct}
 use Rattle.json_tree.specs.Reading.{Outcome, found, array_at, object_at, value_at}
 use Rattle.json_tree.specs.Tree.{Json, null, array, object}

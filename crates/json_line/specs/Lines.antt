@@ -3,7 +3,7 @@ use Rattle.std.specs.Prelude.{◌≡◌, ◌&&◌, ◌==◌, not, ℕ, Bool, Lis
 use Rattle.std.specs.List.{AllZip, list_all}
 use Rattle.arrow_array.specs.Arrays.{array_slots, array_type}
 use Rattle.arrow_array.specs.declared.array.Array.{Array}
-use Rattle.arrow_types.specs.declared.types.Field.{Field}
+use Rattle.arrow_core.specs.declared.types.Field.{Field}
 use Rattle.json_tree.specs.Layout.{distinct}
 use Rattle.json_tree.specs.Tree.{Json, object}
 use Rattle.json_tree.specs.Meaning.{IsJson}

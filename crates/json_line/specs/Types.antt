@@ -1,10 +1,10 @@
 -- The types of columns that lines of JSON are read into without a tree. What a value means under one of them is told by `reading` (`json_flat`).
 use Rattle.std.specs.Prelude.{Bool, true, false, not, ◌&&◌, ◌==◌, List, [], ◌∷◌, ℕ}
-use Rattle.arrow_types.specs.Layouts.{physical_type}
-use Rattle.arrow_types.specs.declared.types.DataType.{DataType, List', LargeList', FixedSizeList', Struct', Row_of-Field, end_of-Field, more_of-Field}
-use Rattle.arrow_types.specs.declared.physical.PhysicalType.{PhysicalType}
-use Rattle.arrow_types.specs.declared.physical.PhysicalType.TheVariants as physical
-use Rattle.arrow_types.specs.declared.physical.PrimitiveType.TheVariants as primitive
+use Rattle.arrow_core.specs.Layouts.{physical_type}
+use Rattle.arrow_core.specs.declared.types.DataType.{DataType, List', LargeList', FixedSizeList', Struct', Row_of-Field, end_of-Field, more_of-Field}
+use Rattle.arrow_core.specs.declared.physical.PhysicalType.{PhysicalType}
+use Rattle.arrow_core.specs.declared.physical.PhysicalType.TheVariants as physical
+use Rattle.arrow_core.specs.declared.physical.PrimitiveType.TheVariants as primitive
 use Rattle.arrow_array.specs.Parts.{is_extension}
 use Rattle.json_tree.specs.Layout.{distinct}
 use Rattle.json_flat.specs.Reading.{has_field}

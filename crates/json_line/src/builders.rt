@@ -1,6 +1,6 @@
 //! Builders that are kept from lines to lines.
 ghost use Rattle.std.specs.Prelude.{◌≡◌, [], true, false, List, map, All, IfOk, MatchOption};
-ghost use Rattle.arrow_types.specs.declared.types.Field.{Field};
+ghost use Rattle.arrow_core.specs.declared.types.Field.{Field};
 ghost use Rattle.arrow_array.specs.Arrays.{array_slots, array_type};
 ghost use Rattle.arrow_builders.specs.MutableArrays.{builder_slots, builder_type};
 ghost use Rattle.arrow_builders.specs.Shapes.{shape};
@@ -15,8 +15,7 @@ use crate::made::make_builders;
 use crate::types::are_line_fields;
 use arrow_array::Array;
 use arrow_builders::MutableArray;
-use arrow_core::{Result, Text};
-use arrow_types::Field;
+use arrow_core::{Field, Result, Text};
 use json_lend::{GivenUp, Name};
 use std::alloc::Global;
 use std::marker::Model;
@@ -36,8 +35,8 @@ pub struct LineBuilders {
 impl Model for LineBuilders {
     ghost use Rattle.std.specs.Prelude.{List};
     ghost use Rattle.std.specs.Coded.{coded_list};
-    ghost use Rattle.arrow_types.specs.declared.types.Field.{Field};
-    ghost use Rattle.arrow_types.specs.contracts.types.Field as the_fields;
+    ghost use Rattle.arrow_core.specs.declared.types.Field.{Field};
+    ghost use Rattle.arrow_core.specs.contracts.types.Field as the_fields;
     ghost use Rattle.json_line.specs.Builders.{AreLineBuilders};
 
     ghost Value = { List Field };

@@ -1,13 +1,13 @@
 //! Strings and bytes that are lent.
 ghost use Rattle.std.specs.Prelude.{◌≡◌, ◌++◌, ◌∷◌, [], cond, OnOk};
-ghost use Rattle.arrow_types.specs.declared.slot.Slot.TheVariants.{Binary as BinarySlot, Null as NullSlot, String as StringSlot};
+ghost use Rattle.arrow_core.specs.declared.slot.Slot.TheVariants.{Binary as BinarySlot, Null as NullSlot, String as StringSlot};
 ghost use Rattle.json_tree.specs.Grammar.{text_false, text_true};
 ghost use Rattle.json_flat.specs.Meaning.{bytes_in, text_in};
 ghost use Rattle.json_flat.specs.Columns.{Pushes};
 ghost use Rattle.json_lend.specs.Standing.{lent_value};
 
 use arrow_builders::{Content, MutableBinaryArray, MutableContentArray, MutableUtf8Array};
-use arrow_types::Offset;
+use arrow_core::Offset;
 use json_lend::{EscapedString, GivenUp, Lent};
 
 #[inline(always)]

@@ -7,7 +7,7 @@ ghost use Rattle.arrow_builders.specs.Shapes.{shape};
 ghost use Rattle.arrow_builders.specs.Tight.{IsTight};
 ghost use Rattle.arrow_builders.specs.declared.array.MutableArray.{FixedSizeList, LargeList, List, Struct};
 ghost use Rattle.arrow_flat.specs.Nested.{items_of};
-ghost use Rattle.arrow_types.specs.declared.slot.Slot.TheVariants.{List as ListSlot, Null as NullSlot};
+ghost use Rattle.arrow_core.specs.declared.slot.Slot.TheVariants.{List as ListSlot, Null as NullSlot};
 
 use arrow_builders::{
     DynMutableLargeListArray, DynMutableListArray, DynMutableStructArray, MutableArray,

@@ -4,16 +4,15 @@ ghost use Rattle.arrow_array.specs.FixedLists.{list_size};
 ghost use Rattle.arrow_builders.specs.Children.{fields_of};
 ghost use Rattle.arrow_builders.specs.Shapes.{fixed_lists, lists, records};
 ghost use Rattle.arrow_core.specs.Errors.{OnlyOutOfMemory};
-ghost use Rattle.arrow_types.specs.declared.physical.PhysicalType.{PhysicalType};
-ghost use Rattle.arrow_types.specs.declared.types.DataType.{DataType};
-ghost use Rattle.arrow_types.specs.declared.types.DataType.TheVariants.{Struct};
+ghost use Rattle.arrow_core.specs.declared.physical.PhysicalType.{PhysicalType};
+ghost use Rattle.arrow_core.specs.declared.types.DataType.{DataType};
+ghost use Rattle.arrow_core.specs.declared.types.DataType.TheVariants.{Struct};
 ghost use Rattle.json_line.specs.Builders.{line_shape, shapes_of, AllSuit, Suits};
 ghost use Rattle.json_flat.specs.Names.{names_of as names_of_fields};
 ghost use Rattle.json_line.specs.Lines.{are_line_fields as are_line_fields_of, have_line_readings as have_line_readings_of};
 ghost use Rattle.json_line.specs.Types.{has_line_reading as has_line_reading_of};
 
-use arrow_core::Result;
-use arrow_types::{DataType, Field};
+use arrow_core::{DataType, Field, Result};
 use json_lend::Name;
 use std::alloc::Global;
 

@@ -5,8 +5,8 @@ ghost use Rattle.arrow_array.specs.Parts.{IsPlain};
 ghost use Rattle.arrow_builders.specs.Children.{fields_of};
 ghost use Rattle.arrow_builders.specs.Shapes.{shape, fixed_lists, flat, lists, records};
 ghost use Rattle.arrow_core.specs.Errors.{OnlyOutOfMemory};
-ghost use Rattle.arrow_types.specs.Layouts.{physical_type};
-ghost use Rattle.arrow_types.specs.declared.physical.PhysicalType.TheVariants.{List as ListKind, LargeList as LargeListKind};
+ghost use Rattle.arrow_core.specs.Layouts.{physical_type};
+ghost use Rattle.arrow_core.specs.declared.physical.PhysicalType.TheVariants.{List as ListKind, LargeList as LargeListKind};
 ghost use Rattle.json_line.specs.Builders.{line_shape, shapes_of, IsNotNested};
 ghost use Rattle.json_line.specs.Lines.{have_line_readings as have_line_readings_of};
 ghost use Rattle.json_line.specs.Types.{has_line_reading as has_line_reading_of};
@@ -16,8 +16,7 @@ use arrow_builders::{
     MutableBinaryArray, MutableBooleanArray, MutableFixedSizeListArray, MutableNullArray,
     MutablePrimitiveArray, MutableUtf8Array,
 };
-use arrow_core::Result;
-use arrow_types::{DataType, Field, IntervalUnit, NativeType};
+use arrow_core::{DataType, Field, IntervalUnit, NativeType, Result};
 use std::alloc::Global;
 
 // A builder of values of one size.

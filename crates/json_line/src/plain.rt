@@ -1,7 +1,7 @@
 //! Values that are lent, under Null, as booleans and as integers.
 ghost use Rattle.std.specs.Prelude.{◌≡◌, ◌++◌, ◌∷◌, [], cond, true, IfOk, OnOk};
 ghost use Rattle.arrow_flat.specs.Builders.{optional_slot};
-ghost use Rattle.arrow_types.specs.declared.slot.Slot.TheVariants.{Null as NullSlot};
+ghost use Rattle.arrow_core.specs.declared.slot.Slot.TheVariants.{Null as NullSlot};
 ghost use Rattle.json_flat.specs.Meaning.{boolean_meaning, int64_in, moment_in, slot_of, boolean_in, whole_in};
 ghost use Rattle.json_flat.specs.Columns.{Pushes, means};
 ghost use Rattle.json_lend.specs.Standing.{lent_value};
@@ -9,7 +9,7 @@ ghost use Rattle.json_line.specs.Builders.{is_timestamp as is_timestamp_of};
 
 use crate::types::is_timestamp;
 use arrow_builders::{MutableBooleanArray, MutableNullArray, MutablePrimitiveArray};
-use arrow_types::DataType;
+use arrow_core::DataType;
 use json_flat::IntegerText;
 use json_lend::{GivenUp, Lent};
 

@@ -5,8 +5,7 @@ ghost use Rattle.json_line.specs.Builders.{is_timestamp as is_timestamp_of};
 ghost use Rattle.json_line.specs.Lines.{are_line_fields as are_line_fields_of, are_sized_items as are_sized_items_of, are_struct_fields as are_struct_fields_of, have_line_readings as have_line_readings_of};
 ghost use Rattle.json_line.specs.Types.{has_line_reading as has_line_reading_of};
 
-use arrow_core::Result;
-use arrow_types::{DataType, Field, IntervalUnit};
+use arrow_core::{DataType, Field, IntervalUnit, Result};
 use json_flat::have_distinct_names;
 use std::alloc::Global;
 

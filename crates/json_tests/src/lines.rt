@@ -5,8 +5,7 @@ use crate::samples::{
 };
 use arrow_base::Field;
 use arrow_columns::{Array, Chunk};
-use arrow_core::{Error, Items, Reason};
-use arrow_types::DataType;
+use arrow_core::{DataType, Error, Items, Reason};
 use json_write::LineEncoder;
 use std::alloc::Global;
 use std::process::Abort;

@@ -2,9 +2,9 @@
 
 use arrow_base::{Error, Items, MemorySink, Result};
 use arrow_columns::{Array, Bitmap, PrimitiveArray};
-use arrow_types::DataType;
+use arrow_core::DataType;
 use lending::FallibleStreamingIterator;
-use ndjson_write::{FileWriter, Serializer};
+use ndjson::{FileWriter, Serializer};
 use std::alloc::Global;
 use std::process::Abort;
 

@@ -2,8 +2,7 @@
 
 use crate::samples::{days, hidden_day, list_of_days, longs, numbers, struct_of, timestamp};
 use arrow_columns::Array;
-use arrow_core::{Error, Reason, Result};
-use arrow_types::{DataType, TimeUnit};
+use arrow_core::{DataType, Error, Reason, Result, TimeUnit};
 use json_text::check;
 
 fn outcome(array: Array) -> Result<()> {

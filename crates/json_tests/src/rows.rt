@@ -3,8 +3,7 @@
 use crate::samples::{booleans, chunk, days, field, longs, numbers};
 use arrow_base::MemorySink;
 use arrow_columns::{Array, Chunk};
-use arrow_core::{Error, Items, Metadata, Reason, Result};
-use arrow_types::{DataType, Schema, TimeUnit};
+use arrow_core::{DataType, Error, Items, Metadata, Reason, Result, Schema, TimeUnit};
 use json_write::{RecordSerializer, write};
 use lending::FallibleStreamingIterator;
 use std::alloc::Global;

@@ -4,8 +4,7 @@ use arrow_columns::{
     Array, Bitmap, BooleanArray, Chunk, DictionaryArray, FixedSizeListArray, Keys, LargeListArray,
     ListArray, NullArray, PrimitiveArray, StructArray, Utf8Array,
 };
-use arrow_core::{Box, Items, Text};
-use arrow_types::{DataType, Field, IntegerType, NativeType, TimeUnit};
+use arrow_core::{Box, DataType, Field, IntegerType, Items, NativeType, Text, TimeUnit};
 use json_text::{push_slot, push_slots};
 use std::alloc::Global;
 use std::process::Abort;

@@ -6,7 +6,7 @@ use crate::samples::{
     short_string, slot_is, slots_are, string, struct_of, structs, timestamp,
 };
 use arrow_columns::Array;
-use arrow_types::DataType;
+use arrow_core::DataType;
 
 #[test]
 fn nulls_and_booleans_are_words(rt: HostRuntime) {

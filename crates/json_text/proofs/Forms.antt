@@ -1,16 +1,16 @@
 -- How slots of each type are written.
 use Rattle.std.proofs.Common.{◌≡◌, ◌++◌, ℕ, Bool, true, false, ℤ, List, [], ◌∷◌, map, refl, sym, ap, ◌∙◌, if◌then◌else◌, IsTrue, true≢false, Result, Ok, Err, OnOk}
 use Rattle.std.specs.Fmt.{signed_decimal}
-use Rattle.arrow_types.specs.declared.slot.Slot.{Slot, Null, Boolean, Integer, String, Binary, List', Struct', items_hidden-the_row-Slot-0}
-use Rattle.arrow_types.specs.declared.slot.Slot.TheVariants as slot
-use Rattle.arrow_types.specs.declared.types.DataType.{DataType}
-use Rattle.arrow_types.specs.declared.types.DataType as data_type
-use Rattle.arrow_types.specs.declared.types.DataType.TheVariants as types
-use Rattle.arrow_types.specs.declared.types.DataType.TheBlock.{shape-the_row-Field-0, hidden-the_row-Field-0, shape-the_row-Field-1, hidden-the_row-Field-1, shape-the_row-DataType-2, hidden-the_row-DataType-2}
-use Rattle.arrow_types.specs.declared.types.Field.{Field}
-use Rattle.arrow_types.specs.declared.types.IntegerType.{IntegerType}
-use Rattle.arrow_types.specs.declared.physical.PrimitiveType.{PrimitiveType}
-use Rattle.arrow_types.specs.declared.physical.PrimitiveType.TheVariants as primitive
+use Rattle.arrow_core.specs.declared.slot.Slot.{Slot, Null, Boolean, Integer, String, Binary, List', Struct', items_hidden-the_row-Slot-0}
+use Rattle.arrow_core.specs.declared.slot.Slot.TheVariants as slot
+use Rattle.arrow_core.specs.declared.types.DataType.{DataType}
+use Rattle.arrow_core.specs.declared.types.DataType as data_type
+use Rattle.arrow_core.specs.declared.types.DataType.TheVariants as types
+use Rattle.arrow_core.specs.declared.types.DataType.TheBlock.{shape-the_row-Field-0, hidden-the_row-Field-0, shape-the_row-Field-1, hidden-the_row-Field-1, shape-the_row-DataType-2, hidden-the_row-DataType-2}
+use Rattle.arrow_core.specs.declared.types.Field.{Field}
+use Rattle.arrow_core.specs.declared.types.IntegerType.{IntegerType}
+use Rattle.arrow_core.specs.declared.physical.PrimitiveType.{PrimitiveType}
+use Rattle.arrow_core.specs.declared.physical.PrimitiveType.TheVariants as primitive
 use Rattle.arrow_array.specs.FixedLists.{IsFixedListOf, list_size}
 use Rattle.arrow_array.specs.Lists.{list_type, IsListOf}
 use Rattle.arrow_array.specs.Dictionaries.{IsDictionaryOf}

@@ -1,18 +1,18 @@
 -- Structs of the slots of several children at one index.
 use Rattle.std.proofs.Common.{◌≡◌, ℕ, zero, suc, ◌+◌, ◌<◌, ◌≤◌, Bool, true, false, ◌&&◌, IsTrue, take, add-one, List, [], ◌∷◌, length, map, get_or, pos, refl, sym, ap, ◌∙◌, arith, subst}
-use Rattle.arrow_types.specs.declared.slot.Slot.{Slot}
-use Rattle.arrow_types.specs.declared.slot.Slot.TheVariants as slot
+use Rattle.arrow_core.specs.declared.slot.Slot.{Slot}
+use Rattle.arrow_core.specs.declared.slot.Slot.TheVariants as slot
 use Rattle.arrow_array.specs.Dictionaries.{looked_up}
-use Rattle.arrow_types.specs.declared.types.Field.{Field}
+use Rattle.arrow_core.specs.declared.types.Field.{Field}
 use Rattle.arrow_array.specs.declared.array.Array.{Array}
 use Rattle.arrow_array.specs.Arrays.{array_type, array_slots}
 use Rattle.arrow_array.specs.Slots.{slot_at, is_held}
 use Rattle.arrow_array.specs.Depths.{children_depth}
 use Rattle.arrow_array.specs.Structs.{AreChildren, IsStructOf}
-use Rattle.arrow_types.specs.declared.types.DataType.{DataType, out-DataType, size-DataType}
-use Rattle.arrow_types.specs.declared.types.DataType.TheOpen as open_type
-use Rattle.arrow_types.specs.declared.types.DataType.TheVariants as types
-use Rattle.arrow_types.specs.declared.types.DataType.TheViews.{outs-Struct}
+use Rattle.arrow_core.specs.declared.types.DataType.{DataType, out-DataType, size-DataType}
+use Rattle.arrow_core.specs.declared.types.DataType.TheOpen as open_type
+use Rattle.arrow_core.specs.declared.types.DataType.TheVariants as types
+use Rattle.arrow_core.specs.declared.types.DataType.TheViews.{outs-Struct}
 use Rattle.json_text.specs.JsonText.{text, field_members, member}
 use Rattle.json_text.specs.Refusals.{in_range, all_in_range}
 use Rattle.std.proofs.Math.Seq.{take-length}

@@ -5,10 +5,10 @@ use Rattle.std.specs.List.{list_all}
 use Rattle.arrow_core.specs.declared.error.Error.{Error}
 use Rattle.arrow_core.specs.declared.error.Error.TheVariants.{NotYetImplemented, InvalidArgumentError}
 use Rattle.arrow_core.specs.declared.error.Reason.TheVariants.{NoJsonText, ZoneOffset, DateRange}
-use Rattle.arrow_types.specs.declared.slot.Slot.{Slot, Integer, List', Struct', items-the_row-Slot}
-use Rattle.arrow_types.specs.declared.types.DataType.{DataType, Row_of-Field, end_of-Field, more_of-Field, Row_of-DataType, end_of-DataType, more_of-DataType}
-use Rattle.arrow_types.specs.declared.types.DataType as types
-use Rattle.arrow_types.specs.declared.types.Field.{Field}
+use Rattle.arrow_core.specs.declared.slot.Slot.{Slot, Integer, List', Struct', items-the_row-Slot}
+use Rattle.arrow_core.specs.declared.types.DataType.{DataType, Row_of-Field, end_of-Field, more_of-Field, Row_of-DataType, end_of-DataType, more_of-DataType}
+use Rattle.arrow_core.specs.declared.types.DataType as types
+use Rattle.arrow_core.specs.declared.types.Field.{Field}
 use Rattle.json_dates.specs.Civil.{is_printed_day}
 use Rattle.json_dates.specs.Times.{day_of_milliseconds, is_printed_timestamp, offset_of}
 use Rattle.json_text.specs.JsonText.{zone_offset}

@@ -2,12 +2,12 @@
 ghost use Rattle.std.specs.Prelude.{◌≡◌, ◌++◌, [], ◌∷◌, ◌==◌, codes, length, map, IfOk, OnOk, if◌then◌else◌};
 ghost use Rattle.std.specs.Io.{StartsWith};
 ghost use Rattle.arrow_base.specs.WrittenString.{json_string};
-ghost use Rattle.arrow_types.specs.declared.types.Field.{Field as TheField};
+ghost use Rattle.arrow_core.specs.declared.types.Field.{Field as TheField};
 ghost use Rattle.json_text.specs.Columns.{AddsColumn, AreWithin, AreFields, key_bytes, key_of};
 
 use crate::bytes::{Appended, push, push_prefix, push_string};
 use crate::integers::{IntegerForm, integer_form};
-use arrow_types::{DataType, Field};
+use arrow_core::{DataType, Field};
 use std::alloc::{AllocError, Global};
 
 /// What stands before the value of a member. A short key is copied in one step of constant length.

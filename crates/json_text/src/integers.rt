@@ -6,8 +6,7 @@ ghost use Rattle.json_text.specs.Columns.{IsForm, integer_in_range, integer_text
 ghost use Rattle.json_text.specs.JsonText.{null, zone_offset};
 
 use crate::bytes::{Appended, push_null, push_signed};
-use arrow_core::Text;
-use arrow_types::{DataType, TimeUnit};
+use arrow_core::{DataType, Text, TimeUnit};
 use json_dates::{
     day_of_milliseconds, is_printed_day, is_printed_timestamp, parse_offset, push_date,
     push_timestamp,

@@ -10,7 +10,7 @@ use crate::numbers::Printed;
 use arrow_array::{
     BinaryArray, BooleanArray, FixedSizeBinaryArray, NullArray, PrimitiveArray, Utf8Array,
 };
-use arrow_types::Offset;
+use arrow_core::Offset;
 
 /// Appends the texts of the values from `start` to `end`, of integers of this form, with commas
 /// between them.

@@ -1,14 +1,14 @@
 //! The texts of the values that primitive columns keep.
 ghost use Rattle.std.specs.Prelude.{◌≡◌, ◌++◌, OnOk, if◌then◌else◌};
 ghost use Rattle.std.specs.Io.{StartsWith};
-ghost use Rattle.arrow_types.specs.declared.types.DataType.{DataType as TheDataType};
+ghost use Rattle.arrow_core.specs.declared.types.DataType.{DataType as TheDataType};
 ghost use Rattle.arrow_array.specs.Parts.{IsPlain};
 ghost use Rattle.json_text.specs.Columns.{IsForm};
 ghost use Rattle.json_text.specs.JsonText.{text, null};
 
 use crate::bytes::{Appended, push_null, push_signed_if, push_unsigned_if, push_wide_if};
 use crate::integers::{IntegerForm, push_integer_if};
-use arrow_types::{MonthsDaysNs, NativeType};
+use arrow_core::{MonthsDaysNs, NativeType};
 
 /// A value of a primitive column, with its text.
 pub(crate) trait Printed: NativeType {

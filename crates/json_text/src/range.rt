@@ -12,7 +12,7 @@ use crate::integers::{IntegerForm, integer_form, integer_in_range};
 use crate::slots::fields_of;
 use crate::types::holds_dates;
 use arrow_array::{Array, StructArray};
-use arrow_types::Field;
+use arrow_core::Field;
 
 /// Whether the structs have no validity bitmap, so that none is null. Where they have one it isn't
 /// looked at, whether or not a struct is null.

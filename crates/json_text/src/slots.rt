@@ -1,7 +1,7 @@
 //! The text of slots of an array.
 ghost use Rattle.std.specs.Prelude.{◌≡◌, ◌+◌, ◌-◌, ◌<◌, ◌≤◌, ◌++◌, length, map, take, drop, OnOk, if◌then◌else◌};
 ghost use Rattle.std.specs.Io.{StartsWith};
-ghost use Rattle.arrow_types.specs.declared.types.DataType.TheVariants.{Struct as StructType};
+ghost use Rattle.arrow_core.specs.declared.types.DataType.TheVariants.{Struct as StructType};
 ghost use Rattle.arrow_array.specs.Arrays.{array_type, array_slots};
 ghost use Rattle.arrow_array.specs.Kinds.{IsStructType};
 ghost use Rattle.arrow_array.specs.Lent.{IsPart, part_slots};
@@ -22,7 +22,7 @@ use crate::items::{
 use arrow_array::{
     Array, DictionaryArray, FixedSizeListArray, LargeListArray, ListArray, Part, StructArray,
 };
-use arrow_types::{DataType, Field};
+use arrow_core::{DataType, Field};
 
 /// Appends the JSON text of slot `i` of the array, by its type. Meant for arrays that `check`
 /// accepts. Of others, binary values and month-day-nanosecond intervals are `null`, and so are dates

@@ -2,12 +2,11 @@
 ghost use Rattle.std.specs.Prelude.{◌≡◌, List, true};
 ghost use Rattle.std.specs.Bool.{OnFalse};
 ghost use Rattle.std.specs.List.{list_all};
-ghost use Rattle.arrow_types.specs.declared.slot.Slot.{Slot};
-ghost use Rattle.arrow_types.specs.declared.types.Field.{Field as TheField};
+ghost use Rattle.arrow_core.specs.declared.slot.Slot.{Slot};
+ghost use Rattle.arrow_core.specs.declared.types.Field.{Field as TheField};
 ghost use Rattle.json_text.specs.Refusals.{all_in_range, has_text, has_offsets, in_range, is_offset, is_string_type};
 
-use arrow_core::Text;
-use arrow_types::{DataType, Field};
+use arrow_core::{DataType, Field, Text};
 use json_dates::parse_offset;
 
 fn is_string_type(data_type: &DataType) -> bool

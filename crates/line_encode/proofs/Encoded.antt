@@ -2,8 +2,8 @@
 use Rattle.std.proofs.Common.{◌≡◌, ◌∙◌, ℕ, List, [], ◌∷◌, ◌++◌, refl, sym, ap, subst}
 use Rattle.std.specs.Prelude.{Result, Ok, Err, OnOk}
 use Rattle.std.proofs.lemmas.List.Elements.{All-cons, All-nil}
-use Rattle.arrow_types.specs.declared.types.DataType.TheVariants as types
-use Rattle.arrow_types.specs.declared.types.Field.{Field}
+use Rattle.arrow_core.specs.declared.types.DataType.TheVariants as types
+use Rattle.arrow_core.specs.declared.types.Field.{Field}
 use Rattle.avro_encode.specs.Pairs.{Pairs}
 use Rattle.avro_schema.specs.declared.schema.Record.{Record as TheRecord, out-Record}
 use Rattle.avro_schema.specs.declared.schema.Schema.{Record}

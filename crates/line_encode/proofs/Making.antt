@@ -4,12 +4,12 @@ use Rattle.std.specs.Global.{Box}
 use Rattle.std.specs.List.{AllByRecursion}
 use Rattle.std.specs.Prelude.{Option, Some, None, IfSome}
 use Rattle.std.proofs.lemmas.List.{take_more}
-use Rattle.arrow_types.specs.declared.slot.Slot.{Slot}
-use Rattle.arrow_types.specs.declared.slot.Slot.TheVariants as slot
-use Rattle.arrow_types.specs.declared.types.DataType.{DataType}
-use Rattle.arrow_types.specs.declared.types.DataType.TheVariants as types
-use Rattle.arrow_types.specs.declared.types.DataType.TheBlock.{shape-the_row-Field-0, hidden-the_row-Field-0, shape-the_row-Field-1, hidden-the_row-Field-1}
-use Rattle.arrow_types.specs.declared.types.Field.{Field}
+use Rattle.arrow_core.specs.declared.slot.Slot.{Slot}
+use Rattle.arrow_core.specs.declared.slot.Slot.TheVariants as slot
+use Rattle.arrow_core.specs.declared.types.DataType.{DataType}
+use Rattle.arrow_core.specs.declared.types.DataType.TheVariants as types
+use Rattle.arrow_core.specs.declared.types.DataType.TheBlock.{shape-the_row-Field-0, hidden-the_row-Field-0, shape-the_row-Field-1, hidden-the_row-Field-1}
+use Rattle.arrow_core.specs.declared.types.Field.{Field}
 use Rattle.avro_container.specs.Shortest.{shortest}
 use Rattle.avro_encode.proofs.ByLists.{pairs_array_back, pairs_record_back, pairs_union_back, plain_array, plain_record_is, plain_union_is}
 use Rattle.avro_encode.proofs.Groups.{one_group}
@@ -17,7 +17,7 @@ use Rattle.avro_encode.proofs.PlainLaw.{parts_list, parts_struct}
 use Rattle.avro_encode.specs.Listed.{plain_fields_of, plain_union_of, PairsFieldsOf}
 use Rattle.avro_encode.specs.Pairs.{Pairs}
 use Rattle.avro_encode.specs.Plain.{one_block, plain}
-use Rattle.avro_grammar.specs.Carried.{IsNoUnion}
+use Rattle.avro_schema.specs.Carried.{IsNoUnion}
 use Rattle.avro_schema.specs.declared.schema.AvroField.{AvroField}
 use Rattle.avro_schema.specs.declared.schema.Record.{Record as TheRecord, out-Record}
 use Rattle.avro_schema.specs.declared.schema.Schema.{Schema, Array, Null, Record, Union}

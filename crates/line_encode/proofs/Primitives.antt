@@ -3,11 +3,11 @@ use Rattle.std.proofs.Common.{◌≡◌, ◌∙◌, inl, inr, ℕ, ℤ, pos, neg
 use Rattle.std.specs.Prelude.{◌≤ℤ◌, ◌&&◌, int_le, Option}
 use Rattle.std.proofs.lemmas.Bool.{and_parts}
 use Rattle.std.proofs.lemmas.Int.{ints}
-use Rattle.arrow_types.specs.declared.slot.Slot.{Slot}
-use Rattle.arrow_types.specs.declared.slot.Slot.TheVariants as slot
-use Rattle.arrow_types.specs.declared.types.DataType.{DataType}
+use Rattle.arrow_core.specs.declared.slot.Slot.{Slot}
+use Rattle.arrow_core.specs.declared.slot.Slot.TheVariants as slot
+use Rattle.arrow_core.specs.declared.types.DataType.{DataType}
 use Rattle.avro_container.specs.Shortest.{shortest}
-use Rattle.avro_grammar.specs.Carried.{IsNoUnion}
+use Rattle.avro_schema.specs.Carried.{IsNoUnion}
 use Rattle.avro_schema.specs.declared.schema.Schema.{Schema, Boolean, Int, Long, String, Bytes}
 use Rattle.json_flat.specs.Columns.{means}
 use Rattle.json_flat.specs.Meaning.{Layer, Meaning, bytes_in, int64_in, moment_in, slot_of, text_in, boolean_in, whole_in}

@@ -1,9 +1,9 @@
 -- Lines as rows of a block: what `encode_lines` has appended where it gives nothing up.
 use Rattle.std.specs.Prelude.{◌≡◌, ℕ, true, List, ◌++◌, flat_map, All}
 use Rattle.std.specs.List.{AllZip}
-use Rattle.arrow_types.specs.declared.slot.Slot.{Slot}
-use Rattle.arrow_types.specs.declared.types.DataType.{Struct}
-use Rattle.arrow_types.specs.declared.types.Field.{Field}
+use Rattle.arrow_core.specs.declared.slot.Slot.{Slot}
+use Rattle.arrow_core.specs.declared.types.DataType.{Struct}
+use Rattle.arrow_core.specs.declared.types.Field.{Field}
 use Rattle.avro_encode.specs.Pairs.{Pairs}
 use Rattle.avro_encode.specs.Plain.{plain}
 use Rattle.avro_schema.specs.declared.schema.Record.{Record as TheRecord}

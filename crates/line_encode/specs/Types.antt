@@ -1,6 +1,6 @@
 -- Types whose structs have no two fields of the same name.
 use Rattle.std.specs.Prelude.{ℕ, Bool, true, ◌&&◌, List, [], ◌∷◌}
-use Rattle.arrow_types.specs.declared.types.DataType.{DataType, List', LargeList', FixedSizeList', Struct', Row_of-Field, end_of-Field, more_of-Field}
+use Rattle.arrow_core.specs.declared.types.DataType.{DataType, List', LargeList', FixedSizeList', Struct', Row_of-Field, end_of-Field, more_of-Field}
 use Rattle.json_tree.specs.Layout.{distinct}
 
 abbrev pub row_names : {m : _} → Row_of-Field m → List (List ℕ)

@@ -1,6 +1,6 @@
 //! Lines as rows of a block.
 ghost use Rattle.std.specs.Prelude.{◌≡◌, List, ℕ, length, true, IfSome, OnOk};
-ghost use Rattle.arrow_types.specs.declared.types.Field.{Field};
+ghost use Rattle.arrow_core.specs.declared.types.Field.{Field};
 ghost use Rattle.avro_schema.specs.declared.schema.Record.{Record};
 ghost use Rattle.json_tree.specs.Layout.{distinct};
 ghost use Rattle.line_encode.specs.Plans.{PushesLine, PushesLines};
@@ -11,8 +11,7 @@ use crate::make::{make_names, make_plans};
 use crate::names::Names;
 use crate::plan::Plan;
 use crate::push::push_record;
-use arrow_core::Text;
-use arrow_types::Field;
+use arrow_core::{Field, Text};
 use avro_schema::Record;
 use json_lend::{GivenUp, Name};
 use json_tree::reader::Reader;

@@ -6,8 +6,7 @@ ghost use Rattle.line_encode.specs.Makes.{AreNamed, ArePlansOf, IsHeldPlanOf, Is
 
 use crate::names::Names;
 use crate::plan::{Plan, Primitive};
-use arrow_core::Result;
-use arrow_types::{DataType, Field};
+use arrow_core::{DataType, Field, Result};
 use avro_schema::{AvroField, AvroSchema};
 use json_flat::have_distinct_names;
 use json_lend::Name;

@@ -11,14 +11,14 @@ use Rattle.arrow_base.specs.Outside.{RoseOrFull}
 use Rattle.arrow_core.specs.declared.error.Error.{Error}
 use Rattle.arrow_core.specs.declared.error.Error.TheVariants.{ExternalFormat, InvalidArgumentError, LimitExceeded, NotYetImplemented, Overflow, ReadFault, WriteFault, OutOfMemory}
 use Rattle.arrow_core.specs.declared.error.Reason.TheVariants as reason
-use Rattle.arrow_types.specs.declared.slot.Slot.{Slot}
-use Rattle.arrow_types.specs.declared.types.DataType.{DataType}
-use Rattle.arrow_types.specs.declared.types.DataType as types
-use Rattle.arrow_types.specs.declared.types.Field.{Field}
-use Rattle.avro_blocks.specs.Changes.{Change, change_of, CameFromOutside, IsTold}
-use Rattle.avro_blocks.proofs.Steps.{rose_from}
+use Rattle.arrow_core.specs.declared.slot.Slot.{Slot}
+use Rattle.arrow_core.specs.declared.types.DataType.{DataType}
+use Rattle.arrow_core.specs.declared.types.DataType as types
+use Rattle.arrow_core.specs.declared.types.Field.{Field}
+use Rattle.avro_container.specs.Changes.{Change, change_of, CameFromOutside, IsTold}
+use Rattle.avro_container.proofs.Steps.{rose_from}
 use Rattle.avro_file.specs.Metadata.{WriteFails}
-use Rattle.avro_record.specs.Named.{named_root}
+use Rattle.avro_types.specs.Named.{named_root}
 use Rattle.avro_schema.specs.declared.schema.Record.{Record}
 use Rattle.avro_schema.specs.declared.schema.Schema.{Schema}
 use Rattle.avro_schema.specs.declared.schema.Schema as schema

@@ -5,15 +5,15 @@ use Rattle.std.specs.List.{AllByRecursion, list_any}
 use Rattle.std.specs.Prelude.{if◌then◌else◌, is_ok, IfSome, Result, Ok, Err, OnOk}
 use Rattle.std.proofs.lemmas.List.Elements.{All-head, All-tail, All-weaker}
 use Rattle.arrow_array.specs.Slots.{is_held}
-use Rattle.arrow_types.specs.declared.slot.Slot.{Slot}
-use Rattle.arrow_types.specs.declared.types.DataType as types
-use Rattle.arrow_types.specs.declared.types.DataType.{DataType}
-use Rattle.arrow_types.specs.declared.types.Field.{Field}
+use Rattle.arrow_core.specs.declared.slot.Slot.{Slot}
+use Rattle.arrow_core.specs.declared.types.DataType as types
+use Rattle.arrow_core.specs.declared.types.DataType.{DataType}
+use Rattle.arrow_core.specs.declared.types.Field.{Field}
 use Rattle.avro_container.specs.File.{the_block}
 use Rattle.avro_encode.proofs.PlainLaw.{parts_list, parts_struct}
 use Rattle.avro_encode.specs.Pairs.{Pairs, PairsBytes, PairsFields, PairsFixed, PairsItem, PairsRecord, PairsUnion}
 use Rattle.avro_encode.specs.Plain.{parts_of}
-use Rattle.avro_grammar.specs.Encodes.{is_null, IsNull}
+use Rattle.avro_schema.specs.Encodes.{is_null, IsNull}
 use Rattle.avro_schema.specs.declared.schema.BytesLogical.{BytesLogical}
 use Rattle.avro_schema.specs.declared.schema.BytesLogical.TheVariants as bytes_logical
 use Rattle.avro_schema.specs.declared.schema.FixedLogical.{FixedLogical}

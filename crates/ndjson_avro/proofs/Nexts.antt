@@ -6,14 +6,14 @@ use Rattle.std.proofs.lemmas.List.{append-nil}
 use Rattle.arrow_base.specs.Outside.{AppendsPrefix, RoseOrFull}
 use Rattle.arrow_core.specs.declared.error.Error.{Error}
 use Rattle.arrow_core.specs.declared.error.Error.TheVariants.{WriteFault}
-use Rattle.arrow_types.specs.declared.slot.Slot.{Slot}
-use Rattle.arrow_types.specs.declared.types.DataType.{DataType}
+use Rattle.arrow_core.specs.declared.slot.Slot.{Slot}
+use Rattle.arrow_core.specs.declared.types.DataType.{DataType}
 use Rattle.avro_container.specs.Canonical.{canonical_block, canonical_blocks}
 use Rattle.avro_container.specs.File.{FileBlock, the_block}
 use Rattle.avro_schema.specs.declared.schema.Schema.{Schema}
 use Rattle.ndjson_read.specs.Reading.{State}
 use Rattle.ndjson_read.proofs.RowLemmas.{rose_after}
-use Rattle.avro_blocks.specs.Changes.{change_of}
+use Rattle.avro_container.specs.Changes.{change_of}
 use Rattle.ndjson_avro.specs.Batches.{BatchFails, StopsAtBatch}
 use Rattle.ndjson_avro.specs.Rows.{AreRows, rows_block, rows_blocks}
 use Rattle.ndjson_avro.specs.Steps.{EncodesRows, NextWritten, WrittenSoFar, as_batch}

@@ -3,10 +3,10 @@ use Rattle.std.proofs.Common.{◌≡◌, ◌∙◌, inl, inr, ℕ, zero, suc, �
 use Rattle.std.specs.List.{AllZip, list_any, sum_by}
 use Rattle.std.proofs.lemmas.Bool.{false≢true}
 use Rattle.std.proofs.lemmas.List.Sums.{sum_by-append}
-use Rattle.arrow_types.specs.Numbers.{greatest_offset}
-use Rattle.arrow_types.specs.declared.slot.Slot.{Slot}
-use Rattle.arrow_types.specs.declared.types.DataType.{DataType, Row_of-Field, end_of-Field, more_of-Field}
-use Rattle.arrow_types.specs.declared.types.DataType as types
+use Rattle.arrow_core.specs.Numbers.{greatest_offset}
+use Rattle.arrow_core.specs.declared.slot.Slot.{Slot}
+use Rattle.arrow_core.specs.declared.types.DataType.{DataType, Row_of-Field, end_of-Field, more_of-Field}
+use Rattle.arrow_core.specs.declared.types.DataType as types
 use Rattle.json_columns.specs.Faults.{TooMany, TooManyFields, TooManyItems, TooManyMembers}
 use Rattle.json_columns.specs.Gathered.{all_items, items_in, members_named, member_in}
 use Rattle.json_flat.specs.Columns.{AreSlotsOf, Has, IsTooLong, means, size_of, total_size}
@@ -16,11 +16,11 @@ use Rattle.json_tree.specs.Tree.{Json}
 use Rattle.avro_schema.specs.declared.schema.AvroField.{AvroField}
 use Rattle.avro_schema.specs.declared.schema.Record.{Record as TheRecord}
 use Rattle.avro_schema.specs.declared.schema.Schema.{Schema, Record, Array}
-use Rattle.avro_grammar.specs.AndThen.{◌>>=◌}
-use Rattle.avro_grammar.proofs.Basics.{bind_some}
-use Rattle.avro_record.specs.Schemas.{column_schema, columns_fields, item_schema, optional, plain_field, plain_record, record_name, record_of, row_schemas, schema_of, structs_in}
+use Rattle.avro_schema.specs.AndThen.{◌>>=◌}
+use Rattle.avro_schema.proofs.Basics.{bind_some}
+use Rattle.avro_types.specs.Schemas.{column_schema, columns_fields, item_schema, optional, plain_field, plain_record, record_name, record_of, row_schemas, schema_of, structs_in}
 use Rattle.std.proofs.lemmas.Option.{none-some}
-use Rattle.arrow_types.specs.declared.types.Field.{Field}
+use Rattle.arrow_core.specs.declared.types.Field.{Field}
 use Rattle.json_columns.proofs.ByFields.{struct_too_many}
 use Rattle.json_tree.specs.declared.value.Value.{out-Value}
 use Rattle.json_tree.proofs.TextLaws.{one_value}

@@ -9,10 +9,10 @@ use Rattle.arrow_array.specs.Arrays.{array_slots, array_type}
 use Rattle.arrow_core.specs.declared.error.Error.{Error}
 use Rattle.arrow_core.specs.declared.error.Error.TheVariants.{InvalidArgumentError, NotYetImplemented, Overflow, OutOfMemory}
 use Rattle.arrow_core.specs.declared.error.Reason.TheVariants as reason
-use Rattle.arrow_types.specs.declared.slot.Slot.{Slot}
-use Rattle.arrow_types.specs.declared.types.DataType.{DataType}
-use Rattle.arrow_types.specs.declared.types.Field.{Field}
-use Rattle.avro_record.specs.Schemas.{NoAvroTypeWhere, record_of}
+use Rattle.arrow_core.specs.declared.slot.Slot.{Slot}
+use Rattle.arrow_core.specs.declared.types.DataType.{DataType}
+use Rattle.arrow_core.specs.declared.types.Field.{Field}
+use Rattle.avro_types.specs.Schemas.{NoAvroTypeWhere, record_of}
 use Rattle.avro_schema.specs.declared.schema.Schema.{Schema}
 use Rattle.avro_write.specs.declared.flaws.Flaw.TheVariants as flaw
 use Rattle.avro_write.specs.Flaws.{IsRefused, shows}
@@ -22,7 +22,7 @@ use Rattle.json_tree.specs.Tree.{Json}
 use Rattle.avro_container.specs.File.{FileBlock}
 use Rattle.avro_encode.specs.Pairs.{Pairs}
 use Rattle.ndjson_read.specs.Reading.{State}
-use Rattle.avro_blocks.specs.Changes.{change_of}
+use Rattle.avro_container.specs.Changes.{change_of}
 use Rattle.ndjson_avro.specs.Batches.{BatchFails}
 use Rattle.ndjson_avro.specs.Rows.{lacks_value, rows_block, AreNotWritten, AreRefused}
 use Rattle.ndjson_avro.specs.Steps.{AreNotEncoded, AreNotRead, AreRead, EncodesRows, HoldOther, IsNotEncoded, IsRootOf}

@@ -4,11 +4,11 @@ use Rattle.std.proofs.lemmas.Bool.{false≢true}
 use Rattle.arrow_core.specs.declared.error.Error.{Error}
 use Rattle.arrow_core.specs.declared.error.Error.TheVariants.{InvalidArgumentError, NotYetImplemented, OutOfMemory}
 use Rattle.arrow_core.specs.declared.error.Reason.TheVariants as reason
-use Rattle.arrow_types.specs.declared.types.DataType as types
-use Rattle.arrow_types.specs.declared.types.Field.{Field}
-use Rattle.avro_blocks.specs.Changes.{Change}
-use Rattle.avro_blocks.proofs.Results.{memory_or_not}
-use Rattle.avro_record.specs.Schemas.{record_of}
+use Rattle.arrow_core.specs.declared.types.DataType as types
+use Rattle.arrow_core.specs.declared.types.Field.{Field}
+use Rattle.avro_container.specs.Changes.{Change}
+use Rattle.avro_container.proofs.Results.{memory_or_not}
+use Rattle.avro_types.specs.Schemas.{record_of}
 use Rattle.avro_schema.specs.declared.schema.Record.{Record}
 use Rattle.ndjson_avro.specs.Conversion.{Converts, ConversionFails}
 use Rattle.ndjson_avro.specs.Nulls.{holds_null}

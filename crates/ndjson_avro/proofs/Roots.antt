@@ -3,23 +3,23 @@ use Rattle.std.proofs.Common.{◌≡◌, ◌∙◌, inl, inr, ℕ, ◌+◌, Bool
 use Rattle.std.specs.List.{list_any}
 use Rattle.std.proofs.lemmas.Bool.{and_parts, false≢true}
 use Rattle.std.proofs.lemmas.Option.{none-some, same_Some}
-use Rattle.arrow_types.specs.declared.slot.Slot.{Slot}
-use Rattle.arrow_types.specs.declared.types.DataType.{DataType, Row_of-Field, end_of-Field, more_of-Field}
-use Rattle.arrow_types.specs.declared.types.DataType as types
-use Rattle.arrow_types.specs.declared.types.Field.{Field}
-use Rattle.arrow_types.specs.declared.types.TimeUnit.TheVariants as unit
-use Rattle.arrow_types.specs.declared.types.IntervalUnit.TheVariants as interval
+use Rattle.arrow_core.specs.declared.slot.Slot.{Slot}
+use Rattle.arrow_core.specs.declared.types.DataType.{DataType, Row_of-Field, end_of-Field, more_of-Field}
+use Rattle.arrow_core.specs.declared.types.DataType as types
+use Rattle.arrow_core.specs.declared.types.Field.{Field}
+use Rattle.arrow_core.specs.declared.types.TimeUnit.TheVariants as unit
+use Rattle.arrow_core.specs.declared.types.IntervalUnit.TheVariants as interval
 use Rattle.arrow_array.specs.Slots.{is_held}
 use Rattle.avro_schema.specs.declared.schema.AvroField.{AvroField}
 use Rattle.avro_schema.specs.declared.schema.Record.{Record as TheRecord, out-Record, out-roll-Record}
 use Rattle.avro_schema.specs.declared.schema.Schema.{Schema, Null, Long, Record, Array, Union}
-use Rattle.avro_grammar.specs.AndThen.{◌>>=◌}
-use Rattle.avro_grammar.specs.Carried.{IsNoUnion}
-use Rattle.avro_grammar.proofs.Basics.{bind_some}
-use Rattle.avro_record.specs.Listed.{named_all}
-use Rattle.avro_record.specs.Named.{named, named_record, named_root, nameless_in}
-use Rattle.avro_record.specs.Schemas.{column_schema, columns_fields, item_schema, optional, plain_field, plain_record, record_name, row_schemas, schema_of, structs_in, timestamp}
-use Rattle.avro_record.proofs.Renamed.{array_named, record_named, union_named}
+use Rattle.avro_schema.specs.AndThen.{◌>>=◌}
+use Rattle.avro_schema.specs.Carried.{IsNoUnion}
+use Rattle.avro_schema.proofs.Basics.{bind_some}
+use Rattle.avro_types.specs.Listed.{named_all}
+use Rattle.avro_types.specs.Named.{named, named_record, named_root, nameless_in}
+use Rattle.avro_types.specs.Schemas.{column_schema, columns_fields, item_schema, optional, plain_field, plain_record, record_name, row_schemas, schema_of, structs_in, timestamp}
+use Rattle.avro_types.proofs.Renamed.{array_named, record_named, union_named}
 use Rattle.avro_encode.specs.Listed.{PairsColumns, PairsItemOf, PairsTypesOf}
 use Rattle.avro_encode.specs.PairTypes.{PairsType, first_type, row_types}
 use Rattle.avro_encode.specs.Plain.{parts_of}

@@ -9,11 +9,11 @@ use Rattle.arrow_array.specs.Slots.{slots_of}
 use Rattle.arrow_array.specs.declared.array.Array.{Array}
 use Rattle.arrow_core.specs.declared.error.Error.{Error}
 use Rattle.arrow_flat.specs.Builders.{slots_where}
-use Rattle.arrow_types.specs.declared.slot.Slot.{Slot}
-use Rattle.arrow_types.specs.declared.slot.Slot.TheVariants as slot
-use Rattle.arrow_types.specs.declared.types.DataType as types
-use Rattle.arrow_types.specs.declared.types.DataType.{DataType}
-use Rattle.arrow_types.specs.declared.types.Field.{Field}
+use Rattle.arrow_core.specs.declared.slot.Slot.{Slot}
+use Rattle.arrow_core.specs.declared.slot.Slot.TheVariants as slot
+use Rattle.arrow_core.specs.declared.types.DataType as types
+use Rattle.arrow_core.specs.declared.types.DataType.{DataType}
+use Rattle.arrow_core.specs.declared.types.Field.{Field}
 use Rattle.json_tree.specs.Keys.{value_of}
 use Rattle.json_tree.specs.Meaning.{IsJson}
 use Rattle.json_tree.specs.Tree.{Json, object}

@@ -3,9 +3,9 @@ use Rattle.std.proofs.Common.{◌≡◌, inr, ℕ, ◌≤◌, List, Option, Some
 use Rattle.std.specs.Io.KnownBytes.{Appends}
 use Rattle.std.proofs.KnownBytes.{Appends-trans}
 use Rattle.arrow_core.specs.declared.error.Error.{Error}
-use Rattle.arrow_types.specs.declared.types.DataType as types
-use Rattle.arrow_types.specs.declared.types.DataType.{DataType}
-use Rattle.arrow_types.specs.declared.types.Field.{Field}
+use Rattle.arrow_core.specs.declared.types.DataType as types
+use Rattle.arrow_core.specs.declared.types.DataType.{DataType}
+use Rattle.arrow_core.specs.declared.types.Field.{Field}
 use Rattle.avro_container.specs.Canonical.{canonical_blocks}
 use Rattle.avro_file.specs.File.{metadata_bytes}
 use Rattle.avro_schema.specs.declared.schema.Record.{Record}
@@ -13,7 +13,7 @@ use Rattle.avro_schema.specs.declared.schema.Schema as schema
 use Rattle.avro_schema.specs.declared.schema.Schema.{Schema}
 use Rattle.ndjson_read.specs.Lines.{rows_of}
 use Rattle.ndjson_read.specs.Reading.{State, state}
-use Rattle.avro_blocks.specs.Changes.{Change, change_of}
+use Rattle.avro_container.specs.Changes.{Change, change_of}
 use Rattle.ndjson_avro.specs.Batches.{StopsAtBatch}
 use Rattle.ndjson_avro.specs.Conversion.{BatchNotWritten, ConversionFails, Converts}
 use Rattle.ndjson_avro.specs.Rows.{rows_blocks}

@@ -3,10 +3,10 @@
 use Rattle.std.specs.Prelude.{◌≡◌, ◌≢◌, ◌⊎◌, ℕ, List, All, IsUtf8}
 use Rattle.arrow_core.specs.declared.error.Error.{Error}
 use Rattle.arrow_core.specs.declared.error.Error.TheVariants.{OutOfMemory}
-use Rattle.arrow_types.specs.declared.slot.Slot.{Slot}
-use Rattle.arrow_types.specs.declared.types.DataType as types
-use Rattle.arrow_types.specs.declared.types.Field.{Field}
-use Rattle.avro_blocks.specs.Changes.{Change, CameFromOutside, IsTold}
+use Rattle.arrow_core.specs.declared.slot.Slot.{Slot}
+use Rattle.arrow_core.specs.declared.types.DataType as types
+use Rattle.arrow_core.specs.declared.types.Field.{Field}
+use Rattle.avro_container.specs.Changes.{Change, CameFromOutside, IsTold}
 use Rattle.avro_schema.specs.declared.schema.Record.{Record}
 use Rattle.avro_schema.specs.declared.schema.Schema as schema
 use Rattle.json_columns.specs.Faults.{TooMany}

@@ -5,12 +5,12 @@ use Rattle.std.specs.Io.KnownBytes.{Appends, IsAtEnd, Keeps}
 use Rattle.arrow_base.specs.Outside.{AppendsPrefix}
 use Rattle.arrow_core.specs.declared.error.Error.{Error}
 use Rattle.arrow_core.specs.declared.error.Error.TheVariants.{WriteFault, OutOfMemory}
-use Rattle.arrow_types.specs.declared.slot.Slot.{Slot}
-use Rattle.arrow_types.specs.declared.types.DataType.{DataType}
+use Rattle.arrow_core.specs.declared.slot.Slot.{Slot}
+use Rattle.arrow_core.specs.declared.types.DataType.{DataType}
 use Rattle.avro_container.specs.Canonical.{canonical_block, canonical_blocks}
 use Rattle.avro_schema.specs.declared.schema.Schema.{Schema}
 use Rattle.ndjson_read.specs.Reading.{State}
-use Rattle.avro_blocks.specs.Changes.{Change, change_of, Failed}
+use Rattle.avro_container.specs.Changes.{Change, change_of, Failed}
 use Rattle.ndjson_avro.specs.Rows.{all_rows, AreRefused, AreRows, rows_block, rows_blocks}
 use Rattle.ndjson_avro.specs.Taken.{RowsFail, TakesRows}
 

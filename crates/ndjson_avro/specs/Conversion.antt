@@ -3,9 +3,9 @@
 use Rattle.std.specs.Prelude.{◌≡◌, ◌⊎◌, ℕ, ◌≤◌, List, length, IfSome, Option}
 use Rattle.std.specs.Io.KnownBytes.{Appends, Consumes, IsAtEnd}
 use Rattle.arrow_core.specs.declared.error.Error.{Error}
-use Rattle.arrow_types.specs.declared.slot.Slot.{Slot}
-use Rattle.arrow_types.specs.declared.types.DataType as types
-use Rattle.arrow_types.specs.declared.types.Field.{Field}
+use Rattle.arrow_core.specs.declared.slot.Slot.{Slot}
+use Rattle.arrow_core.specs.declared.types.DataType as types
+use Rattle.arrow_core.specs.declared.types.Field.{Field}
 use Rattle.avro_file.specs.File.{canonical_file, metadata_bytes}
 use Rattle.avro_file.specs.Metadata.{WriteFails}
 use Rattle.avro_schema.specs.declared.schema.Record.{Record}
@@ -13,7 +13,7 @@ use Rattle.avro_schema.specs.declared.schema.Schema as schema
 use Rattle.ndjson_read.specs.Lines.{rows_of}
 use Rattle.ndjson_read.specs.Reading.{state}
 use Rattle.ndjson_avro.specs.Batches.{StopsAtBatch}
-use Rattle.avro_blocks.specs.Changes.{Change, change_of}
+use Rattle.avro_container.specs.Changes.{Change, change_of}
 use Rattle.ndjson_avro.specs.Rows.{all_rows, AreBatches, AreRows, rows_blocks}
 use Rattle.ndjson_avro.specs.Target.{HasNoTarget, HasTarget}
 

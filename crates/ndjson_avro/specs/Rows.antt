@@ -4,8 +4,8 @@ use Rattle.std.specs.List.{AllZip, Any, list_any}
 use Rattle.arrow_core.specs.declared.error.Error.{Error}
 use Rattle.arrow_core.specs.declared.error.Error.TheVariants.{ExternalFormat, InvalidArgumentError, NotYetImplemented, Overflow, OutOfMemory}
 use Rattle.arrow_core.specs.declared.error.Reason.TheVariants as reason
-use Rattle.arrow_types.specs.declared.slot.Slot.{Slot}
-use Rattle.arrow_types.specs.declared.types.DataType.{DataType}
+use Rattle.arrow_core.specs.declared.slot.Slot.{Slot}
+use Rattle.arrow_core.specs.declared.types.DataType.{DataType}
 use Rattle.avro_container.specs.File.{FileBlock, the_block}
 use Rattle.avro_encode.specs.Pairs.{Pairs}
 use Rattle.avro_encode.specs.Plain.{plain}

@@ -3,11 +3,11 @@ use Rattle.std.specs.Prelude.{◌≡◌, ◌⊎◌, ℕ, ◌<◌, true, false, L
 use Rattle.arrow_core.specs.declared.error.Error.{Error}
 use Rattle.arrow_core.specs.declared.error.Error.TheVariants.{InvalidArgumentError, NotYetImplemented, OutOfMemory}
 use Rattle.arrow_core.specs.declared.error.Reason.TheVariants as reason
-use Rattle.arrow_types.specs.declared.types.DataType as types
-use Rattle.arrow_types.specs.declared.types.Field.{Field}
+use Rattle.arrow_core.specs.declared.types.DataType as types
+use Rattle.arrow_core.specs.declared.types.Field.{Field}
 use Rattle.avro_schema.specs.declared.schema.Record.{Record}
-use Rattle.avro_record.specs.Named.{named_root}
-use Rattle.avro_record.specs.Schemas.{record_of}
+use Rattle.avro_types.specs.Named.{named_root}
+use Rattle.avro_types.specs.Schemas.{record_of}
 use Rattle.json_columns.specs.Names.{names_twice}
 use Rattle.json_flat.specs.Reading.{has_reading}
 use Rattle.ndjson_avro.specs.Nulls.{holds_null}

@@ -2,7 +2,7 @@
 ghost use Rattle.std.specs.Prelude.{◌≡◌, ◌<◌, ◌≤◌, IfOk, IfErr, OnOk};
 ghost use Rattle.arrow_base.specs.Outside.{last_count};
 ghost use Rattle.ndjson_read.specs.FileReader.{byte_limit_of, source_of, state_of};
-ghost use Rattle.avro_blocks.specs.Changes.{change_of};
+ghost use Rattle.avro_container.specs.Changes.{change_of};
 ghost use Rattle.ndjson_avro.specs.Batches.{BatchFails, StopsAtBatch};
 ghost use Rattle.ndjson_avro.specs.Steps.{AllWritten, AreBuildersOf, IsPlanFor, IsRootOf, NextWritten};
 ghost use Rattle.ndjson_avro.specs.BatchSteps.{IsOpen};

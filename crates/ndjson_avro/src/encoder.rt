@@ -2,7 +2,7 @@
 ghost use Rattle.std.specs.Prelude.{◌≡◌, false, length, All, IfOk, OnOk, IfErr};
 ghost use Rattle.std.specs.Bool.{OnTrue};
 ghost use Rattle.arrow_array.specs.Arrays.{array_slots, array_type};
-ghost use Rattle.arrow_types.specs.declared.types.DataType.{DataType as RowType};
+ghost use Rattle.arrow_core.specs.declared.types.DataType.{DataType as RowType};
 ghost use Rattle.avro_container.specs.File.{the_block};
 ghost use Rattle.avro_encode.specs.Pairs.{Pairs};
 ghost use Rattle.avro_schema.specs.declared.schema.Schema.{Schema as RootSchema};
@@ -14,8 +14,7 @@ use crate::rows::read_array;
 use crate::target::make_target;
 use arrow_array::Array;
 use arrow_base::Text;
-use arrow_core::{Bytes, Result};
-use arrow_types::{DataType, Schema};
+use arrow_core::{Bytes, DataType, Result, Schema};
 use avro_schema::{AvroSchema, Block, Record};
 use avro_write::{new_serializer, serialize};
 use json_line::LineBuilders;

@@ -1,14 +1,14 @@
 //! JSON lines into Avro files.
 ghost use Rattle.std.specs.Prelude.{◌≡◌, ◌<◌, ◌≤◌, ℕ, List, IfOk, IfErr};
-ghost use Rattle.arrow_types.specs.declared.types.Field.{Field};
-ghost use Rattle.avro_blocks.specs.Changes.{change_of};
+ghost use Rattle.arrow_core.specs.declared.types.Field.{Field};
+ghost use Rattle.avro_container.specs.Changes.{change_of};
 ghost use Rattle.ndjson_avro.specs.Conversion.{Converts, ConversionFails};
 ghost use Rattle.ndjson_avro.specs.Steps.{AreBuildersOf, IsEncoderOf, IsPlanFor, IsRootOf};
 
 use crate::batches::write_batches;
 use crate::encoder::BlockEncoder;
 use arrow_base::{Result, Sink, Source, Text};
-use arrow_types::Schema;
+use arrow_core::Schema;
 use avro_file::write_metadata;
 use avro_schema::Record;
 use ndjson_read::FileReader;

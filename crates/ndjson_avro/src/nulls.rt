@@ -2,7 +2,7 @@
 ghost use Rattle.std.specs.Prelude.{◌≡◌};
 ghost use Rattle.ndjson_avro.specs.Nulls.{any_holds_null as any_holds_null_of, holds_null as holds_null_of};
 
-use arrow_types::{DataType, Field};
+use arrow_core::{DataType, Field};
 
 /// Whether the type Null stands in this type: the type itself, or one beneath it in List, LargeList
 /// and Struct. Other types with types in them, which have no Avro schema, aren't looked into.

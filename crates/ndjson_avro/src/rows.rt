@@ -2,15 +2,14 @@
 ghost use Rattle.std.specs.Prelude.{◌≡◌, true, All, IfOk, IfErr, IfSome, MatchResult};
 ghost use Rattle.std.specs.List.{AllZip};
 ghost use Rattle.arrow_array.specs.Arrays.{array_slots, array_type};
-ghost use Rattle.arrow_types.specs.declared.types.DataType.{Struct};
+ghost use Rattle.arrow_core.specs.declared.types.DataType.{Struct};
 ghost use Rattle.json_tree.specs.Meaning.{IsJson};
 ghost use Rattle.ndjson_avro.specs.Steps.{AreBuildersOf, AreNotParsed, AreNotRead, AreRead, HoldOther};
 ghost use Rattle.ndjson_avro.specs.Values.{is_object as is_object_of, IsNoValue};
 
 use arrow_array::{Array, StructArray};
 use arrow_base::Text;
-use arrow_core::{Error, Reason, Result};
-use arrow_types::DataType;
+use arrow_core::{DataType, Error, Reason, Result};
 use json_columns::read_values;
 use json_line::{GivenUp, LineBuilders};
 use json_tree::{Value, parse};

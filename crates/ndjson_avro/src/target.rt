@@ -1,13 +1,12 @@
 //! The record of a file of columns.
 ghost use Rattle.std.specs.Prelude.{◌≡◌, IfOk, IfErr};
-ghost use Rattle.arrow_types.specs.declared.types.DataType.{Struct};
+ghost use Rattle.arrow_core.specs.declared.types.DataType.{Struct};
 ghost use Rattle.ndjson_avro.specs.Target.{HasNoTarget, HasTarget};
 
 use crate::nulls::holds_null;
-use arrow_core::{Error, Reason, Result};
-use arrow_types::{DataType, Schema};
-use avro_record::{name_types, to_record};
+use arrow_core::{DataType, Error, Reason, Result, Schema};
 use avro_schema::Record;
+use avro_types::{name_types, to_record};
 use json_columns::{has_json_reading, names_twice};
 use std::alloc::Global;
 

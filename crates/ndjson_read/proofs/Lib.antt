@@ -1,2 +1,15 @@
+pub mod Adding
+pub mod Complete
+pub mod Continuing
+pub mod GivenLemmas
 pub mod LineLemmas
+pub mod LineLists
+pub mod MemberLaws
+pub mod ObjectTypes
+pub mod Parsing
 pub mod RowLemmas
+pub mod RowTypeLemmas
+pub mod Steps
+pub mod TwoReadings
+pub mod TypeLaws
+pub mod Values

@@ -1,5 +1,11 @@
 pub mod Advancing
+pub mod Compared
 pub mod FileReader
+pub mod GivenRows
+pub mod Inference
+pub mod Laws
 pub mod Lines
+pub mod Needed
 pub mod OneLine
 pub mod Reading
+pub mod SoFar

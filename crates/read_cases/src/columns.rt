@@ -57,7 +57,7 @@ pub fn append_records(alloc: Global, out: &mut Vec<u8>, types: &str, text: &str)
 pub fn read_rows(alloc: Global, types: &str, text: &str) -> Result<Array> {
     let rows = row_texts(alloc, text)?;
     match type_of(alloc, types) {
-        Ok(data_type) => ndjson_columns::deserialize(alloc, rows.as_slice(), data_type),
+        Ok(data_type) => ndjson::deserialize(alloc, rows.as_slice(), data_type),
         Err(error) => Err(error),
     }
 }
@@ -66,7 +66,7 @@ pub fn read_rows(alloc: Global, types: &str, text: &str) -> Result<Array> {
 pub fn read_given(alloc: Global, types: &str, text: &str) -> Result<Array> {
     let rows = rows_of(alloc, text)?;
     match type_of(alloc, types) {
-        Ok(data_type) => ndjson_columns::deserialize_iter(alloc, rows.as_str().lines(), data_type),
+        Ok(data_type) => ndjson::deserialize_iter(alloc, rows.as_str().lines(), data_type),
         Err(error) => Err(error),
     }
 }

@@ -3,10 +3,9 @@ use crate::stored::values_of;
 use crate::texts::{append_arrays, append_slots, push, row_texts};
 use crate::types::{fields_of, type_of};
 use arrow_array::Array;
-use arrow_core::{Result, Text};
-use arrow_types::DataType;
+use arrow_core::{DataType, Result, Text};
 use json_line::{GivenUp, LineBuilders};
-use ndjson_columns::LineColumns;
+use ndjson::LineColumns;
 use std::alloc::Global;
 
 fn append_read(out: &mut Vec<u8>, read: std::result::Result<Vec<Array>, GivenUp>) -> Result<()> {

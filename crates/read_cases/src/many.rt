@@ -4,8 +4,7 @@ use crate::numbers::{HIGH, LOW, append_whole};
 use crate::texts::{append_array, push};
 use crate::types::numbered;
 use arrow_array::{Array, Chunk};
-use arrow_core::{Items, Metadata, Result, Text};
-use arrow_types::{DataType, Field, Schema};
+use arrow_core::{DataType, Field, Items, Metadata, Result, Schema, Text};
 use json_columns::{deserialize_records, read_values};
 use json_flat::read_whole_text;
 use json_tree::{Value, parse};
@@ -68,7 +67,7 @@ fn append_structs(out: &mut Vec<u8>, rows: &Array) -> Result<()> {
 fn read_line(alloc: Global) -> Result<Array> {
     let line = Text::from_string(backwards(alloc)?);
     match numbered(alloc, KEYS) {
-        Ok(row_type) => ndjson_columns::deserialize(alloc, &[line], row_type),
+        Ok(row_type) => ndjson::deserialize(alloc, &[line], row_type),
         Err(error) => Err(error),
     }
 }

@@ -2,8 +2,7 @@
 use crate::texts::{append_slots, push};
 use arrow_array::{Array, BinaryArray, Keys, PrimitiveArray};
 use arrow_base::write_str;
-use arrow_core::Result;
-use arrow_types::{NativeType, Offset};
+use arrow_core::{NativeType, Offset, Result};
 use std::alloc::Global;
 use std::fmt::Display;
 

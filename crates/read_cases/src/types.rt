@@ -1,6 +1,8 @@
 //! The types that cases are read under.
-use arrow_core::{Box, Error, Items, Metadata, Reason, Result, Text};
-use arrow_types::{DataType, Field, IntegerType, IntervalUnit, Schema, TimeUnit};
+use arrow_core::{
+    Box, DataType, Error, Field, IntegerType, IntervalUnit, Items, Metadata, Reason, Result,
+    Schema, Text, TimeUnit,
+};
 use std::alloc::Global;
 
 /// Why words are no type.

@@ -1,10 +1,9 @@
 //! Arrays that no block of Avro makes, written: slices, and what lies beneath nulls.
 //! The bytes are those that Python's `avro` writes for the values that stand beside them.
 use arrow_array::{Array, Bitmap, ListArray, PrimitiveArray, StructArray, Utf8Array};
-use arrow_core::{Box, Bytes, Items, Metadata, Text};
-use arrow_types::{DataType, Field, Schema};
-use avro_record::{can_serialize, to_record_with};
+use arrow_core::{Box, Bytes, DataType, Field, Items, Metadata, Schema, Text};
 use avro_schema::{AvroSchema, Block, Record};
+use avro_types::{can_serialize, to_record_with};
 use avro_write::{BoxSerializer, new_serializer, serialize};
 use lending::StreamingIterator;
 use std::alloc::Global;

@@ -1,9 +1,11 @@
 //! Calls of the Avro writer, and what they tell.
 use arrow_array::{Array, Bitmap, PrimitiveArray};
-use arrow_core::{Box, Error, Items, Metadata, Reason, Result, Text};
-use arrow_types::{DataType, Field, IntegerType, IntervalUnit, MonthsDaysNs, Schema};
-use avro_record::{name_types, to_record};
+use arrow_core::{
+    Box, DataType, Error, Field, IntegerType, IntervalUnit, Items, Metadata, MonthsDaysNs, Reason,
+    Result, Schema, Text,
+};
 use avro_schema::{AvroSchema, Record};
+use avro_types::{name_types, to_record};
 use avro_write::new_serializer;
 use std::alloc::Global;
 use std::process::Abort;

@@ -1,13 +1,12 @@
 //! Columns that are read from bytes and written again.
 use arrow_array::{Array, Chunk};
 use arrow_columns::equal;
-use arrow_core::{Bytes, Error, Items, Reason, Text};
-use arrow_types::Field;
+use arrow_core::{Bytes, Error, Field, Items, Reason, Text};
 use avro_decode::deserialize;
-use avro_infer::{enlarge, infer_schema};
 use avro_schema::{AvroField, Block, Record};
+use avro_types::{enlarge, infer_schema};
 use avro_write::{BoxSerializer, new_serializer, serialize};
-use field_words::read_field;
+use cli_words::read_field;
 use std::alloc::Global;
 
 fn record_named(alloc: Global, name: Text, field: AvroField) -> Result<Record, Error> {

@@ -1,7 +1,7 @@
 use mathlib.Core.Path.{ap, ◌∙◌}
 use denote.Param.Weighed.{most}
 use Rattle.std.proofs.Common.{[], ◌∷◌, ◌≡◌, ◌+◌, ◌*◌, ◌<◌, arith, add-one, length, take, drop}
-use Rattle.arrow_types.specs.declared.types.DataType.{size-DataType}
+use Rattle.arrow_core.specs.declared.types.DataType.{size-DataType}
 use Rattle.arrow_array.specs.Arrays.{array_slots, array_type}
 use Rattle.arrow_array.specs.Columns.{NestedColumn}
 use Rattle.arrow_array.specs.Dictionaries.{keys_slots}

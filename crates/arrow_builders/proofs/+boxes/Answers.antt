@@ -11,7 +11,7 @@ use Rattle.arrow_array.specs.Parts.{IsRefusalOf}
 use Rattle.arrow_array.specs.Structs.{StructFits, record_at}
 use Rattle.arrow_array.specs.declared.array.Array.{Array}
 use Rattle.arrow_array.specs.declared.array.Array.TheVariants as array
-use Rattle.arrow_types.specs.declared.physical.PhysicalType.TheVariants as physical
+use Rattle.arrow_core.specs.declared.physical.PhysicalType.TheVariants as physical
 use Rattle.arrow_builders.specs.Calls.{Boxes}
 use Rattle.arrow_builders.specs.Children.{all_nodes, AllFit}
 use Rattle.arrow_builders.specs.Fits.{ChildrenFit}

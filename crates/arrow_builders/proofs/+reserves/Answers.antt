@@ -1,7 +1,7 @@
 use Rattle.std.proofs.Common.{◌≢◌, ◌∙◌, arith, rules, refl, subst, get_or-set_other}
 use Rattle.std.specs.Vec.{with_items}
 use Rattle.std.proofs.lemmas.List.{length-set}
-use Rattle.arrow_types.specs.declared.physical.PhysicalType.TheVariants as physical
+use Rattle.arrow_core.specs.declared.physical.PhysicalType.TheVariants as physical
 use Rattle.arrow_flat.specs.Nested.{marks_node, lists_node}
 use Rattle.arrow_flat.specs.Nodes.{NoLessSpare, HasSpare}
 use Rattle.arrow_builders.specs.Calls.{Reserves, AllReserve}

@@ -1,7 +1,7 @@
 -- The type of lists holds what that of its items holds, and a struct's what its fields' hold.
 use Rattle.std.proofs.Common.{ap, sym, ◌∙◌, false, true}
-use Rattle.arrow_types.specs.declared.types.DataType.TheVariants as types
-use Rattle.arrow_types.specs.declared.types.Field.{Field}
+use Rattle.arrow_core.specs.declared.types.DataType.TheVariants as types
+use Rattle.arrow_core.specs.declared.types.Field.{Field}
 use Rattle.arrow_array.specs.HoldsDictionary.{holds_dictionary}
 use Rattle.arrow_array.proofs.HoldsDictionary.{fixed_list_holds, list_holds, struct_holds}
 use Rattle.arrow_array.proofs.holding.+holding.Goals as goal

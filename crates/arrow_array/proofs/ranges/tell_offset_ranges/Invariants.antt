@@ -1,6 +1,6 @@
 use Rattle.std.proofs.Common.{◌≡◌, ℕ, ◌≤◌, pos}
 use Rattle.std.specs.List.{AllWithin}
-use Rattle.arrow_types.specs.Numbers.{greatest_offset}
+use Rattle.arrow_core.specs.Numbers.{greatest_offset}
 use Rattle.arrow_array.proofs.ranges.tell_offset_ranges.Given as goal
 
 abbrev pub invariant-loop-offset : goal.invariant-loop-offset

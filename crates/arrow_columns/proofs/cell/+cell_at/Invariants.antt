@@ -1,4 +1,4 @@
-use Rattle.arrow_types.specs.declared.types.DataType.{size-DataType}
+use Rattle.arrow_core.specs.declared.types.DataType.{size-DataType}
 use Rattle.arrow_array.specs.Arrays.{array_type}
 use Rattle.arrow_columns.proofs.cell.+cell_at.Given as goal
 

@@ -1,8 +1,8 @@
 use mathlib.Core.Path.{ap, sym, ◌∙◌}
 use Rattle.std.proofs.Common.{arith, add-one, ◌≡◌, ◌<◌, length, drop, get_or-drop, length-drop}
 use Rattle.std.proofs.lemmas.Bool.{false≢true}
-use Rattle.arrow_types.specs.declared.slot.Slot.TheVariants as slot
-use Rattle.arrow_types.specs.Moments.{equal_parts}
+use Rattle.arrow_core.specs.declared.slot.Slot.TheVariants as slot
+use Rattle.arrow_core.specs.Moments.{equal_parts}
 use Rattle.arrow_array.specs.Arrays.{array_slots}
 use Rattle.arrow_columns.specs.Cells.{interval_slot}
 use Rattle.arrow_columns.proofs.Same.{interval_same, list_same, same_more, part_length, struct_lengths, same_field, one_more_field}

@@ -2,7 +2,7 @@ use mir.Syntax.{w32, w64}
 use mir.Val.{SFits}
 use Rattle.std.proofs.Common.{rules, arith, ◌≡◌, ◌∙◌, ap, sym}
 use Rattle.std.proofs.lemmas.Bool.{false≢true}
-use Rattle.arrow_types.specs.declared.slot.Slot.TheVariants as slot
+use Rattle.arrow_core.specs.declared.slot.Slot.TheVariants as slot
 use Rattle.arrow_columns.proofs.Same.{struct_length, struct_field, struct_of_three, widened_32, widened_64}
 use Rattle.arrow_columns.proofs.equality.is_interval.Goals as goal
 

@@ -1,5 +1,5 @@
 use Rattle.std.proofs.Common.{ap, map, refl}
-use Rattle.arrow_types.specs.Numbers.{greatest_offset}
+use Rattle.arrow_core.specs.Numbers.{greatest_offset}
 use Rattle.arrow_dictionaries.specs.Indices.{string_slot}
 use Rattle.arrow_dictionaries.proofs.Joined as joined
 use Rattle.arrow_dictionaries.proofs.encode.encode_strings.Goals as goal

@@ -1,5 +1,5 @@
 -- What was pushed is no overflow.
-use Rattle.arrow_types.specs.Numbers.{greatest_offset}
+use Rattle.arrow_core.specs.Numbers.{greatest_offset}
 use Rattle.arrow_dictionaries.proofs.ValueSlots.{push_within}
 use Rattle.arrow_dictionaries.proofs.values.push_string.Goals as goal
 

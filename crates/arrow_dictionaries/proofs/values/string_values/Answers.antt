@@ -1,6 +1,6 @@
 use Rattle.std.proofs.Common.{◌∙◌}
 use Rattle.std.proofs.lemmas.Result.{err_from_is_err_and}
-use Rattle.arrow_types.specs.Numbers.{greatest_offset}
+use Rattle.arrow_core.specs.Numbers.{greatest_offset}
 use Rattle.arrow_dictionaries.specs.Indices.{string_slot}
 use Rattle.arrow_dictionaries.proofs.Faults.{no_memory}
 use Rattle.arrow_dictionaries.proofs.ValueSlots.{all_values, boxed, size_more, size_within, string_more, too_long}

@@ -2,7 +2,7 @@
 use Rattle.std.proofs.Common.{◌≡◌, ◌≤◌, map, take}
 use Rattle.std.specs.Prelude.{sum_by}
 use Rattle.arrow_array.specs.Parts.{utf8_type}
-use Rattle.arrow_types.specs.Numbers.{greatest_offset}
+use Rattle.arrow_core.specs.Numbers.{greatest_offset}
 use Rattle.arrow_dictionaries.specs.Encoding.{string_size}
 use Rattle.arrow_dictionaries.specs.Indices.{string_slot}
 use Rattle.arrow_dictionaries.proofs.values.string_values.Given as goal

@@ -2,9 +2,9 @@ use Rattle.std.proofs.Common.{◌≡◌, inl, inr, None, Err, rules}
 use Rattle.std.proofs.KnownBytes.{Keeps-refl}
 use Rattle.avro_container.specs.BlockReader.{source_of, marker_of, limit_of}
 use Rattle.avro_container.specs.Taking.{state}
-use Rattle.avro_blocks.specs.Changes.{Change, change_of}
+use Rattle.avro_container.specs.Changes.{Change, change_of}
 use Rattle.avro_canonical.specs.Rewritten.{RewritingFails}
-use Rattle.avro_blocks.proofs.Results.{err_then}
+use Rattle.avro_container.proofs.Results.{err_then}
 use Rattle.avro_canonical.proofs.Files.{if_rewrites, if_stops}
 use Rattle.avro_canonical.proofs.rewrite.avro_rewrite.Goals as goal
 

@@ -1,9 +1,9 @@
 use Rattle.std.proofs.Common.{◌≡◌, ◌∙◌, Bool, true, List, Some, length, replicate, IfOk, sym, ap, subst, rules}
 use Rattle.std.proofs.lemmas.Result.{IfErr-weaker, on_ok_weaker}
-use Rattle.arrow_types.specs.declared.types.Field.{Field}
+use Rattle.arrow_core.specs.declared.types.Field.{Field}
 use Rattle.avro_schema.specs.declared.schema.AvroField.{AvroField}
-use Rattle.avro_grammar.specs.ValidBlock.{KeepNoFloat}
-use Rattle.avro_decode.specs.Decoder.{Projected, projected}
+use Rattle.avro_schema.specs.ValidBlock.{KeepNoFloat}
+use Rattle.avro_schema.specs.Projected.{Projected, projected}
 use Rattle.avro_write.specs.Laws.{all_kept}
 use Rattle.avro_canonical.proofs.Making.{all_true, decoder_refused}
 use Rattle.avro_canonical.proofs.rewriter.make_decoder.Goals as goal

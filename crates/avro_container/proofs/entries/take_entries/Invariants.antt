@@ -1,5 +1,5 @@
 use Rattle.std.proofs.Common.{◌≡◌, List, ℕ, codes}
-use Rattle.avro_grammar.specs.Parts.{Many}
+use Rattle.avro_schema.specs.Parts.{Many}
 use Rattle.avro_container.specs.File.{Entry}
 use Rattle.avro_container.specs.Kept.{last_of}
 use Rattle.avro_container.specs.FileForms.{entry}

@@ -3,7 +3,7 @@ use Rattle.avro_container.proofs.Taken as taken
 use Rattle.avro_container.specs.File.{the_entry}
 use Rattle.avro_container.specs.FileForms.{key_form, after_key}
 use Rattle.avro_container.specs.Forms.{sized}
-use Rattle.avro_grammar.specs.Encodes.{Any}
+use Rattle.avro_schema.specs.Encodes.{Any}
 use Rattle.avro_container.proofs.entries.take_entry.Goals as goal
 
 pub returns-in_err-key-clause-stops : goal.returns-in_err-key-clause-stops

@@ -4,7 +4,7 @@ use Rattle.avro_container.proofs.Taken as taken
 use Rattle.avro_container.specs.File.{header_parts}
 use Rattle.avro_container.specs.FileForms.{entry, after_map}
 use Rattle.avro_container.specs.Forms.{raw, blocks}
-use Rattle.avro_grammar.specs.Encodes.{Any}
+use Rattle.avro_schema.specs.Encodes.{Any}
 use Rattle.avro_container.proofs.header.take_after_magic.Goals as goal
 
 pub returns-in_err-take_map-clause-stops : goal.returns-in_err-take_map-clause-stops

@@ -1,9 +1,9 @@
 use Rattle.std.proofs.Common.{◌≡◌, ◌∙◌, List, All, drop, map, refl, sym, subst}
-use Rattle.arrow_types.specs.declared.slot.Slot.{Slot}
+use Rattle.arrow_core.specs.declared.slot.Slot.{Slot}
 use Rattle.arrow_array.specs.declared.array.Array.{Array}
 use Rattle.arrow_builders.specs.NormalizedArrays.{IsNormalized}
 use Rattle.avro_reference.proofs.Counting.{on_ok}
-use Rattle.avro_decode.specs.Columns.{AreColumns}
+use Rattle.avro_schema.specs.Columns.{AreColumns}
 use Rattle.avro_decode.specs.Symbols.{dictionary_values, kept_symbols}
 use Rattle.avro_decode.proofs.Capacity.{fits_stay, types_stay}
 use Rattle.avro_decode.proofs.Fields.{suit_same}

@@ -1,7 +1,7 @@
 use Rattle.std.proofs.Common.{◌∙◌, false, true, length, arith, refl, sym}
-use Rattle.avro_grammar.specs.Types.{HasColumnType}
-use Rattle.avro_grammar.specs.ValidBlock.{kept}
-use Rattle.avro_infer.proofs.ColumnTypes.{zip_length}
+use Rattle.avro_schema.specs.Types.{HasColumnType}
+use Rattle.avro_schema.specs.ValidBlock.{kept}
+use Rattle.avro_types.proofs.ColumnTypes.{zip_length}
 use Rattle.avro_reference.proofs.Counting.{forward_none}
 use Rattle.avro_decode.proofs.Capacity.{empty_reach, slots_empty, few_slots_left, few_slots_passed, few_content_left, few_content_passed, capacity_left, capacity_kept, all_spare, types_stay}
 use Rattle.avro_decode.proofs.Large.{bytes_counted, bytes_fit, bytes_do_not_fit}

@@ -1,4 +1,4 @@
-use Rattle.avro_grammar.specs.ValidBlock.{HasFloat}
+use Rattle.avro_schema.specs.ValidBlock.{HasFloat}
 use Rattle.avro_decode.proofs.KeptSchemas.{HoldsSoFar}
 use Rattle.avro_decode.proofs.kept.keep_no_float.Given as goal
 

@@ -1,6 +1,6 @@
 use Rattle.std.proofs.Common.{refl, arith}
-use Rattle.arrow_types.specs.declared.types.Field.{Field}
-use Rattle.avro_grammar.specs.ValidBlock.{IsSmall}
+use Rattle.arrow_core.specs.declared.types.Field.{Field}
+use Rattle.avro_schema.specs.ValidBlock.{IsSmall}
 use Rattle.avro_decode.proofs.KeptSchemas.{kept_all, kept_there}
 use Rattle.avro_decode.proofs.kept.keep_no_small.Goals as goal
 

@@ -1,4 +1,4 @@
-use Rattle.avro_grammar.specs.ValidBlock.{IsSmall}
+use Rattle.avro_schema.specs.ValidBlock.{IsSmall}
 use Rattle.avro_decode.proofs.KeptSchemas.{KeptSoFar}
 use Rattle.avro_decode.proofs.kept.keep_no_small.Given as goal
 

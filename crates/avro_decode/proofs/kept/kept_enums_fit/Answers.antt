@@ -1,5 +1,5 @@
 use Rattle.std.proofs.Common.{refl, arith}
-use Rattle.avro_grammar.specs.ValidBlock.{EnumsFit}
+use Rattle.avro_schema.specs.ValidBlock.{EnumsFit}
 use Rattle.avro_decode.proofs.KeptSchemas.{holds_all, holds_there}
 use Rattle.avro_decode.proofs.kept.kept_enums_fit.Goals as goal
 

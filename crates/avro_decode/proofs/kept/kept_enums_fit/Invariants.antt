@@ -1,4 +1,4 @@
-use Rattle.avro_grammar.specs.ValidBlock.{EnumsFit}
+use Rattle.avro_schema.specs.ValidBlock.{EnumsFit}
 use Rattle.avro_decode.proofs.KeptSchemas.{HoldsSoFar}
 use Rattle.avro_decode.proofs.kept.kept_enums_fit.Given as goal
 

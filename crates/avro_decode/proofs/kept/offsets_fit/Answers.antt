@@ -1,5 +1,5 @@
 use Rattle.std.proofs.Common.{◌≤◌, ◌⊎◌, inl, inr, refl, arith}
-use Rattle.avro_grammar.specs.ValidBlock.{small_limit}
+use Rattle.avro_schema.specs.ValidBlock.{small_limit}
 use Rattle.avro_decode.proofs.kept.offsets_fit.Goals as goal
 
 few_or : {P Q : Type 0} (n : _) → (n ≤ small_limit → ⊥) → (P → Q) → (n ≤ small_limit) ⊎ P → Q

@@ -5,7 +5,7 @@ use Rattle.std.proofs.Math.Seq.{map-set_same}
 use Rattle.arrow_builders.specs.MutableArrays.{builder_slots}
 use Rattle.arrow_builders.specs.Shapes.{shape}
 use Rattle.arrow_builders.specs.Tight.{IsTight}
-use Rattle.avro_grammar.specs.ValidBlock.{kept}
+use Rattle.avro_schema.specs.ValidBlock.{kept}
 use Rattle.avro_reference.proofs.Counting.{forward_more, forward_none, moves_within, moves_so_far}
 use Rattle.avro_decode.proofs.Builders.{all_here, all_set, suits_here, reach_here, grows_here, spare_here}
 use Rattle.avro_decode.proofs.Fields.{suit_length, suit_same, children_none, children_then, children_reach, children_spare, shapes_length}

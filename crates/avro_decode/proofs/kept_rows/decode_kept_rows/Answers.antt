@@ -1,6 +1,6 @@
 use Rattle.std.proofs.Common.{◌≡◌, ◌-◌, ◌+◌, ◌∙◌, length, refl, suc, arith, rules}
 use Rattle.std.proofs.lemmas.Result.{err_from_is_err_and}
-use Rattle.avro_grammar.specs.ValidBlock.{kept}
+use Rattle.avro_schema.specs.ValidBlock.{kept}
 use Rattle.avro_reference.proofs.Counting.{forward_more, forward_none, moves_within, moves_so_far}
 use Rattle.avro_decode.proofs.Fields.{suit_length, suit_same, children_none, children_then, children_reach, children_spare}
 use Rattle.avro_decode.proofs.RowSteps.{rows_begun, rows_step, rows_fault, rows_ended}

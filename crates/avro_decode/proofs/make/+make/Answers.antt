@@ -4,8 +4,8 @@ use Rattle.avro_schema.proofs.schema.AvroField.TheLaws.{the_size as field_size}
 use Rattle.avro_schema.proofs.schema.Schema.TheLaws.{the_size}
 use Rattle.avro_schema.specs.declared.schema.Schema.TheViews.{the_lemmas}
 use Rattle.arrow_builders.specs.declared.array.MutableArray.{MutableArray}
-use Rattle.avro_grammar.specs.Types.{HasColumnType}
-use Rattle.avro_infer.proofs.ColumnTypes.{zip_at}
+use Rattle.avro_schema.specs.Types.{HasColumnType}
+use Rattle.avro_types.proofs.ColumnTypes.{zip_at}
 use Rattle.avro_decode.proofs.Fields.{two_of}
 use Rattle.avro_decode.proofs.Members.{members_size}
 use Rattle.avro_decode.proofs.Making.{item_kept, item_typed, new_list, fields_kept, fields_typed, new_struct, as_many, are_two, choose_first, choose_second}

@@ -1,5 +1,5 @@
 use Rattle.std.proofs.Common.{◌≡◌, Err, rules}
-use Rattle.avro_decode.specs.Decoder.{projected}
+use Rattle.avro_schema.specs.Projected.{projected}
 use Rattle.avro_decode.proofs.NotCarried.{are_refused, refused_then}
 use Rattle.avro_decode.proofs.prepare.check_types.Goals as goal
 

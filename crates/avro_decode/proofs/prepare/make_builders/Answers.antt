@@ -1,6 +1,6 @@
 use Rattle.std.proofs.Common.{List}
 use Rattle.arrow_builders.specs.declared.array.MutableArray.{MutableArray}
-use Rattle.avro_grammar.specs.ValidBlock.{kept}
+use Rattle.avro_schema.specs.ValidBlock.{kept}
 use Rattle.avro_decode.specs.Making.{AreNewBuilders}
 use Rattle.avro_decode.proofs.Making.{all_suit, all_types}
 use Rattle.avro_decode.proofs.NewBuilders.{if_all_made, made_empty, made_fit, made_tight}

@@ -3,7 +3,7 @@ use Rattle.arrow_builders.specs.MutableArrays.{builder_slots}
 use Rattle.arrow_builders.specs.Shapes.{shape}
 use Rattle.arrow_builders.specs.Tight.{IsTight}
 use Rattle.avro_schema.specs.Number.{MovesForward}
-use Rattle.avro_grammar.specs.ValidBlock.{kept}
+use Rattle.avro_schema.specs.ValidBlock.{kept}
 use Rattle.avro_reference.specs.Costs.{passed}
 use Rattle.avro_decode.specs.Growth.{ChildrenGrow}
 use Rattle.avro_decode.proofs.RowSteps.{RowSoFar}

@@ -2,7 +2,7 @@ use Rattle.std.proofs.Common.{◌≡◌, ◌<◌, length, get_or, refl, ap, arit
 use Rattle.std.proofs.Math.Seq.{map-set_same}
 use Rattle.arrow_builders.specs.Shapes.{shape}
 use Rattle.avro_schema.specs.declared.schema.AvroField.{AvroField}
-use Rattle.avro_grammar.specs.ValidBlock.{kept}
+use Rattle.avro_schema.specs.ValidBlock.{kept}
 use Rattle.avro_decode.proofs.Builders.{grows_here, spare_here, tight_set}
 use Rattle.avro_decode.proofs.Fields.{suit_length}
 use Rattle.avro_decode.proofs.OneField.{one_field, one_column}

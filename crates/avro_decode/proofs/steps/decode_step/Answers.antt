@@ -1,6 +1,6 @@
 use Rattle.std.proofs.Common.{subst, rules}
 use Rattle.avro_schema.specs.declared.schema.Schema.TheViews.{the_lemmas}
-use Rattle.avro_grammar.specs.Carried.{IsNoUnion}
+use Rattle.avro_schema.specs.Carried.{IsNoUnion}
 use Rattle.avro_decode.specs.Steps.{StepFits}
 use Rattle.avro_decode.specs.declared.steps.Step.{Step}
 use Rattle.avro_decode.proofs.Members.{has_flat_kind, union_suits, union_reach, union_grows, union_spare, union_gives}

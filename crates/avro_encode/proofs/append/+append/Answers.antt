@@ -1,7 +1,7 @@
 -- A slot is appended by its array's kind, a list by its items and a struct by its slots.
 use Rattle.std.proofs.Common.{◌≡◌, ◌<◌, ◌++◌, ◌-◌, false, true, ℕ, List, length, arith, refl, sym, ap, ◌∙◌, rules}
 use Rattle.std.proofs.lemmas.Result.{on_ok_weaker}
-use Rattle.arrow_types.specs.declared.types.DataType.{size-DataType}
+use Rattle.arrow_core.specs.declared.types.DataType.{size-DataType}
 use Rattle.arrow_array.specs.Arrays.{array_type, array_slots}
 use Rattle.arrow_array.specs.Falls.{children_below, item_below}
 use Rattle.arrow_array.specs.Lent.{part_slots}

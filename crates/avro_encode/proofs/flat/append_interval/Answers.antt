@@ -2,7 +2,7 @@ use Rattle.std.proofs.Common.{◌∙◌, ℕ, List, ◌++◌, IsTrue, w32, w64, 
 use Rattle.std.proofs.lemmas.Int.{to_z-of_z}
 use Rattle.std.proofs.lemmas.Result.{on_ok_weaker}
 use Rattle.arrow_array.specs.Slots.{is_held, slot_at}
-use Rattle.avro_grammar.specs.Encodes.{IsInt}
+use Rattle.avro_schema.specs.Encodes.{IsInt}
 use Rattle.avro_encode.specs.Plain.{four_bytes, milliseconds, parts_of, plain_duration}
 use Rattle.avro_encode.proofs.FlatPairs.{duration_given}
 use Rattle.avro_encode.proofs.PlainLaw.{parts_struct}

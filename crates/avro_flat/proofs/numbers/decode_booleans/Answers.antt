@@ -1,6 +1,6 @@
 use Rattle.std.proofs.Common.{arith}
 use Rattle.std.proofs.lemmas.Result.{err_from_is_err_and}
-use Rattle.arrow_types.specs.declared.slot.Slot.TheVariants as slot
+use Rattle.arrow_core.specs.declared.slot.Slot.TheVariants as slot
 use Rattle.avro_reference.specs.Read.{boolean_at}
 use Rattle.avro_flat.specs.declared.fault.DecodeFault.TheVariants.{Bytes}
 use Rattle.avro_flat.proofs.Many.{many_more, many_done, many_fault}

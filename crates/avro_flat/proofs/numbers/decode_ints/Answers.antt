@@ -2,7 +2,7 @@ use Rattle.std.proofs.Common.{arith, rules, w32}
 use mir.Val.{SFits}
 use Rattle.std.proofs.lemmas.Int.{to_z-of_z}
 use Rattle.std.proofs.lemmas.Result.{err_from_is_err_and}
-use Rattle.arrow_types.specs.declared.slot.Slot.TheVariants as slot
+use Rattle.arrow_core.specs.declared.slot.Slot.TheVariants as slot
 use Rattle.avro_reference.proofs.Counting.{number_costs}
 use Rattle.avro_reference.specs.Read.{int_at}
 use Rattle.avro_flat.specs.declared.fault.DecodeFault.TheVariants.{Bytes}

@@ -1,7 +1,7 @@
 use Rattle.std.proofs.Common.{◌≡◌, None, rules}
 use Rattle.avro_container.specs.BlockReader.{source_of, marker_of, limit_of}
 use Rattle.avro_container.specs.Taking.{state}
-use Rattle.avro_blocks.specs.Changes.{Change, change_of}
+use Rattle.avro_container.specs.Changes.{Change, change_of}
 use Rattle.avro_inspect.proofs.Steps.{if_counts}
 use Rattle.avro_inspect.proofs.count.count_rows.Goals as goal
 

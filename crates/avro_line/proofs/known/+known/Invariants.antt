@@ -1,7 +1,7 @@
 use Rattle.std.proofs.Common.{ℕ, ◌<◌, get_or}
 use Rattle.avro_schema.specs.declared.schema.AvroField.{AvroField}
 use Rattle.avro_schema.specs.declared.schema.Schema.{Schema}
-use Rattle.avro_grammar.specs.ValidBlock.{EnumsFit}
+use Rattle.avro_schema.specs.ValidBlock.{EnumsFit}
 use Rattle.avro_line.proofs.known.+known.Given as goal
 
 abbrev pub invariant-fields_are_known-loop-i : goal.invariant-fields_are_known-loop-i

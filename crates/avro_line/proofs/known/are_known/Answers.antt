@@ -1,7 +1,7 @@
 use Rattle.std.proofs.Common.{arith}
 use Rattle.avro_schema.specs.declared.schema.AvroField.{AvroField}
-use Rattle.avro_grammar.specs.ValidBlock.{EnumsFit}
-use Rattle.avro_grammar.proofs.KeptLemmas.{kept_by_index}
+use Rattle.avro_schema.specs.ValidBlock.{EnumsFit}
+use Rattle.avro_schema.proofs.KeptLemmas.{kept_by_index}
 use Rattle.avro_line.proofs.known.are_known.Goals as goal
 
 pub returns : goal.returns

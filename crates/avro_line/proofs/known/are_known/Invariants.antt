@@ -1,6 +1,6 @@
 use Rattle.std.proofs.Common.{◌≡◌, ℕ, ◌<◌, get_or, true, false}
 use Rattle.avro_schema.specs.declared.schema.AvroField.{AvroField}
-use Rattle.avro_grammar.specs.ValidBlock.{EnumsFit}
+use Rattle.avro_schema.specs.ValidBlock.{EnumsFit}
 use Rattle.avro_line.proofs.known.are_known.Given as goal
 
 abbrev pub invariant-loop-i : goal.invariant-loop-i

@@ -1,6 +1,6 @@
 use Rattle.std.proofs.Common.{◌≡◌}
-use Rattle.arrow_types.specs.declared.types.DataType.{DataType}
-use Rattle.avro_grammar.specs.Inferred.{inferred}
+use Rattle.arrow_core.specs.declared.types.DataType.{DataType}
+use Rattle.avro_schema.specs.Inferred.{inferred}
 use Rattle.json_text.specs.Columns.{AreWithin, IsForm}
 use Rattle.std.proofs.Common.{Some}
 use Rattle.avro_line.proofs.Items.{ItemsUnderway}

@@ -1,6 +1,6 @@
 -- Each field so far has a JSON text.
 use Rattle.std.proofs.Common.{◌≡◌, ℕ, ◌<◌, length, get_or, true}
-use Rattle.arrow_types.specs.declared.types.Field.{Field}
+use Rattle.arrow_core.specs.declared.types.Field.{Field}
 use Rattle.json_text.specs.Refusals.{has_text}
 use Rattle.avro_ndjson.proofs.fields.check_texts.Given as goal
 

@@ -1,5 +1,5 @@
 -- The fields so far and those that are left are all that are kept.
-use Rattle.arrow_types.specs.declared.types.Field.{Field}
+use Rattle.arrow_core.specs.declared.types.Field.{Field}
 use Rattle.avro_ndjson.proofs.KeptLists.{KeptSoFar}
 use Rattle.avro_ndjson.proofs.fields.kept_fields.Given as goal
 

@@ -3,9 +3,9 @@ use Rattle.std.proofs.KnownBytes.{Keeps-refl}
 use Rattle.std.specs.Option.{option_copied}
 use Rattle.avro_container.specs.BlockReader.{source_of, marker_of, limit_of}
 use Rattle.avro_container.specs.Taking.{state}
-use Rattle.avro_blocks.specs.Changes.{Change, change_of}
+use Rattle.avro_container.specs.Changes.{Change, change_of}
 use Rattle.avro_ndjson.specs.Refusals.{ConversionFails}
-use Rattle.avro_blocks.proofs.Results.{err_then}
+use Rattle.avro_container.proofs.Results.{err_then}
 use Rattle.avro_ndjson.proofs.Steps.{if_converts, if_stops}
 use Rattle.avro_ndjson.proofs.ndjson.avro_to_ndjson.Goals as goal
 

@@ -1,5 +1,5 @@
-use Rattle.avro_grammar.specs.NegativeSize.{BrokenRow}
-use Rattle.avro_grammar.specs.Rows.{Row, no_pieces}
+use Rattle.avro_schema.specs.NegativeSize.{BrokenRow}
+use Rattle.avro_schema.specs.Rows.{Row, no_pieces}
 use Rattle.avro_reference.specs.Block.{row}
 use Rattle.avro_reference.proofs.Exact.{passes_all, is_negative_at, is_bad_elsewhere}
 use Rattle.avro_reference.proofs.Rows.{row_sound, row_complete, row_breaks, row_broke}

@@ -1,4 +1,4 @@
-use Rattle.avro_grammar.specs.Encodes.{Encodes}
+use Rattle.avro_schema.specs.Encodes.{Encodes}
 use Rattle.avro_reference.specs.Read.{read}
 use Rattle.avro_reference.proofs.Exact.{reads_all, reads_no_more}
 use Rattle.avro_reference.proofs.Values.{read_sound, read_complete}

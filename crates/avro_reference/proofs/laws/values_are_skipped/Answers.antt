@@ -1,5 +1,5 @@
-use Rattle.avro_grammar.specs.Broken.{Broken}
-use Rattle.avro_grammar.specs.Skips.{Skips}
+use Rattle.avro_schema.specs.Broken.{Broken}
+use Rattle.avro_schema.specs.Skips.{Skips}
 use Rattle.avro_reference.specs.Skip.{skip}
 use Rattle.avro_reference.proofs.Exact.{passes_all, is_negative_at, is_bad_elsewhere}
 use Rattle.avro_reference.proofs.SkippedValues.{skip_sound, skip_complete, skip_breaks, skip_broke}

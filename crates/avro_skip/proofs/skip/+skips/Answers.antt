@@ -6,7 +6,7 @@ use Rattle.std.proofs.lemmas.Result.{err_from_is_err_and}
 use Rattle.avro_schema.proofs.schema.AvroField.TheLaws.{the_size as field_size}
 use Rattle.avro_schema.proofs.schema.Schema.TheLaws.{the_size}
 use Rattle.avro_schema.specs.declared.schema.Schema.TheViews.{the_lemmas}
-use Rattle.avro_grammar.specs.Listed.{CarriedMembersOf}
+use Rattle.avro_schema.specs.Listed.{CarriedMembersOf}
 use Rattle.avro_reference.specs.Skip.{Bad, skip}
 use Rattle.avro_reference.proofs.Counting.{not_longer, forward_none, forward_more, moves_within, number_first}
 use Rattle.avro_skip.proofs.Signed.{is_zero, is_least, not_is, not_as, block_none, block_positive, block_negative}

@@ -1,7 +1,7 @@
 use Rattle.std.proofs.Common.{◌∙◌, not, ap, subst}
 use Rattle.std.specs.Option.{option_copied}
 use Rattle.std.proofs.lemmas.Bool.{OnTrue_from}
-use Rattle.arrow_types.specs.declared.slot.Slot.TheVariants as slot
+use Rattle.arrow_core.specs.declared.slot.Slot.TheVariants as slot
 use Rattle.arrow_array.specs.Arrays.{array_slots}
 use Rattle.arrow_array.specs.Slots.{TellsHeld}
 use Rattle.avro_write.proofs.CleanColumns.{none_is, validity_told}

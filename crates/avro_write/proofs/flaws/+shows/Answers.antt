@@ -1,6 +1,6 @@
 -- A list shows a flaw where an item does, and a struct where a field's slot does.
 use Rattle.std.proofs.Common.{◌≡◌, ◌∙◌, ◌<◌, false, true, length, get_or, arith, ap, sym, subst, rules}
-use Rattle.arrow_types.specs.declared.types.DataType.{size-DataType}
+use Rattle.arrow_core.specs.declared.types.DataType.{size-DataType}
 use Rattle.arrow_array.specs.Arrays.{array_type, array_slots}
 use Rattle.arrow_array.specs.Falls.{children_below, item_below}
 use Rattle.arrow_array.specs.Lent.{part_slots}

@@ -1,6 +1,6 @@
 use Rattle.std.proofs.Common.{◌∙◌, List, not, w64, FitsSigned, ap, sym, rules}
 use Rattle.std.proofs.lemmas.Int.{to_z-of_z}
-use Rattle.arrow_types.specs.declared.slot.Slot.{Slot}
+use Rattle.arrow_core.specs.declared.slot.Slot.{Slot}
 use Rattle.avro_encode.specs.Plain.{parts_of}
 use Rattle.avro_encode.proofs.PlainLaw.{parts_struct}
 use Rattle.avro_write.specs.Flaws.{has_whole, is_whole}

@@ -1,7 +1,7 @@
 use Rattle.std.proofs.Common.{refl, sym, arith}
 use Rattle.std.proofs.lemmas.Bool.{false≢true}
 use Rattle.avro_encode.specs.PairTypes.{PairsType}
-use Rattle.avro_infer.proofs.ColumnTypes.{zip_from, zip_at, zip_length, zip_next}
+use Rattle.avro_types.proofs.ColumnTypes.{zip_from, zip_at, zip_length, zip_next}
 use Rattle.avro_write.proofs.TypePairs.{of_array, of_union, of_record, of_struct, of_list, of_large_list}
 use Rattle.avro_write.proofs.pairs.+pairs.Goals as goal
 

@@ -1,6 +1,6 @@
 -- Each column so far pairs with its field.
 use Rattle.std.proofs.Common.{ℕ, ◌<◌, get_or}
-use Rattle.arrow_types.specs.declared.types.Field.{Field}
+use Rattle.arrow_core.specs.declared.types.Field.{Field}
 use Rattle.avro_schema.specs.declared.schema.AvroField.{AvroField}
 use Rattle.avro_encode.specs.PairTypes.{PairsType}
 use Rattle.avro_write.proofs.pairs.+pairs.Given as goal

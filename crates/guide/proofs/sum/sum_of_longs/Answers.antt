@@ -1,7 +1,7 @@
 use Rattle.std.proofs.Common.{◌≡◌, List, length, Some, None, Err, inl, refl, ap, subst, rules}
 use Rattle.avro_schema.specs.declared.schema.AvroField.{AvroField}
 use Rattle.avro_schema.specs.declared.schema.Record.{out-Record}
-use Rattle.avro_grammar.specs.Inferred.{inferred_columns}
+use Rattle.avro_schema.specs.Inferred.{inferred_columns}
 use Rattle.avro_container.specs.ReadHeader.{change}
 use Rattle.avro_container.specs.Taking.{state}
 use Rattle.avro_read.specs.Reader.{projected_of, marker_of, state_of, limit_of}

@@ -3,10 +3,10 @@ use Rattle.std.proofs.Common.{ap, sym, ◌∙◌, false, true, rules}
 use Rattle.std.proofs.lemmas.Result.{err_from_is_err_and}
 use Rattle.arrow_array.specs.Arrays.{array_slots}
 use Rattle.arrow_array.specs.Dictionaries.{IsDictionaryOf}
-use Rattle.arrow_types.proofs.types.DataType.TheLaws.{the_size}
-use Rattle.arrow_types.proofs.types.Field.TheLaws.{the_size as field_size}
-use Rattle.arrow_types.specs.declared.types.DataType.TheVariants as types
-use Rattle.arrow_types.specs.declared.types.DataType.TheViews.{the_lemmas}
+use Rattle.arrow_core.proofs.types.DataType.TheLaws.{the_size}
+use Rattle.arrow_core.proofs.types.Field.TheLaws.{the_size as field_size}
+use Rattle.arrow_core.specs.declared.types.DataType.TheVariants as types
+use Rattle.arrow_core.specs.declared.types.DataType.TheViews.{the_lemmas}
 use Rattle.json_flat.specs.Columns.{lent, means}
 use Rattle.json_columns.specs.Faults.{TooMany, TooManyFields, TooManyListed}
 use Rattle.json_flat.specs.Reading.{list_in, reading, sized_list_in}

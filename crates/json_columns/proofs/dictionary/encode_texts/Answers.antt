@@ -1,7 +1,7 @@
 use Rattle.std.proofs.Common.{true}
 use Rattle.std.proofs.lemmas.Result.{err_from_is_err_and}
 use Rattle.arrow_array.specs.Dictionaries.{keys_slots}
-use Rattle.arrow_types.specs.Numbers.{greatest_offset}
+use Rattle.arrow_core.specs.Numbers.{greatest_offset}
 use Rattle.arrow_dictionaries.specs.Encoding.{HasTooLongStrings}
 use Rattle.json_flat.specs.Columns.{IsTooLong, lent}
 use Rattle.json_flat.specs.Meaning.{text_in}

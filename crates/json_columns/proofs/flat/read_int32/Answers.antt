@@ -1,4 +1,4 @@
-use Rattle.arrow_types.specs.declared.physical.PrimitiveType.TheVariants.{Int32}
+use Rattle.arrow_core.specs.declared.physical.PrimitiveType.TheVariants.{Int32}
 use Rattle.json_flat.specs.Columns.{lent}
 use Rattle.json_columns.proofs.Counting.{few_plain}
 use Rattle.json_columns.proofs.flat.read_int32.Goals as goal

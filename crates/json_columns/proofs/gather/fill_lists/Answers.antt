@@ -1,6 +1,6 @@
 use Rattle.std.proofs.Common.{take, ◌∙◌}
 use Rattle.std.proofs.lemmas.Result.{err_from_is_err_and}
-use Rattle.arrow_types.specs.Numbers.{greatest_offset}
+use Rattle.arrow_core.specs.Numbers.{greatest_offset}
 use Rattle.json_flat.specs.Columns.{lent}
 use Rattle.json_columns.proofs.Counting.{all_within}
 use Rattle.json_columns.proofs.Gathering.{all_more, counts_fault, items_length, lens_end, lens_more}

@@ -1,5 +1,5 @@
 use Rattle.std.proofs.Common.{◌≡◌, ◌≤◌, length, take}
-use Rattle.arrow_types.specs.Numbers.{greatest_offset}
+use Rattle.arrow_core.specs.Numbers.{greatest_offset}
 use Rattle.json_flat.specs.Columns.{lent}
 use Rattle.json_columns.specs.Gathered.{all_items, list_lens}
 use Rattle.json_columns.proofs.gather.fill_lists.Given as goal

@@ -1,6 +1,6 @@
 -- The type of lists is tested by that of its items.
 use Rattle.std.proofs.Common.{ap, sym, ◌∙◌}
-use Rattle.arrow_types.specs.declared.types.Field.{Field}
+use Rattle.arrow_core.specs.declared.types.Field.{Field}
 use Rattle.json_columns.specs.Records.{holds_more}
 use Rattle.json_columns.proofs.RecordLaws.{list_holds, fixed_list_holds}
 use Rattle.json_columns.proofs.records.+holds.Goals as goal

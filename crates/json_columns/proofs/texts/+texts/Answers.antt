@@ -1,7 +1,7 @@
 -- A list or a struct is a text under a timestamp where an item or a member is.
 use Rattle.std.proofs.Common.{◌≡◌, ap, sym, ◌∙◌, true, eqb, ◌&&◌, length}
 use Rattle.std.specs.Cmp.{unsigned_Decides}
-use Rattle.arrow_types.specs.declared.types.DataType.TheVariants as types
+use Rattle.arrow_core.specs.declared.types.DataType.TheVariants as types
 use Rattle.json_tree.specs.declared.value.Value.TheVariants as variant
 use Rattle.json_flat.specs.Columns.{means}
 use Rattle.json_flat.specs.Reading.{reading}

@@ -1,7 +1,7 @@
 -- The type of a list is tested by that of its items, and a struct's by its fields'.
 use Rattle.std.proofs.Common.{ap, sym, ◌∙◌}
-use Rattle.arrow_types.specs.declared.types.DataType.TheVariants as types
-use Rattle.arrow_types.specs.declared.types.Field.{Field}
+use Rattle.arrow_core.specs.declared.types.DataType.TheVariants as types
+use Rattle.arrow_core.specs.declared.types.Field.{Field}
 use Rattle.json_columns.specs.Gathered.{sized_list_has_reading}
 use Rattle.json_flat.specs.Reading.{has_reading, is_value_type}
 use Rattle.json_columns.proofs.ByFields.{list_readable, large_list_readable, sized_readable, struct_readable, dictionary_readable}

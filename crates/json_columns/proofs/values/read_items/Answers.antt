@@ -1,5 +1,5 @@
 use Rattle.std.proofs.Common.{inl, inr, ap, sym, ◌∙◌}
-use Rattle.arrow_types.specs.declared.types.DataType.TheVariants as types
+use Rattle.arrow_core.specs.declared.types.DataType.TheVariants as types
 use Rattle.json_columns.proofs.Refusing.{listed_column, listed_refusal}
 use Rattle.json_columns.proofs.values.read_items.Goals as goal
 

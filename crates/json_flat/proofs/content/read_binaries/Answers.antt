@@ -1,5 +1,5 @@
 use Rattle.std.proofs.lemmas.Result.{err_from_is_err_and}
-use Rattle.arrow_types.specs.Numbers.{greatest_offset}
+use Rattle.arrow_core.specs.Numbers.{greatest_offset}
 use Rattle.json_flat.specs.Meaning.{bytes_in}
 use Rattle.json_flat.proofs.Counting.{counted}
 use Rattle.json_flat.proofs.Growing.{boxed, too-long}

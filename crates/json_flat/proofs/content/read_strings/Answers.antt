@@ -1,6 +1,6 @@
 use Rattle.std.proofs.lemmas.Result.{err_from_is_err_and}
 use Rattle.arrow_array.specs.Parts.{utf8_type}
-use Rattle.arrow_types.specs.Numbers.{greatest_offset}
+use Rattle.arrow_core.specs.Numbers.{greatest_offset}
 use Rattle.json_flat.specs.Columns.{IsTooLong, lent}
 use Rattle.json_flat.specs.Meaning.{text_in}
 use Rattle.json_flat.proofs.Counting.{counted}

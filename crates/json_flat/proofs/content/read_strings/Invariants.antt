@@ -1,6 +1,6 @@
 use Rattle.std.proofs.Common.{◌≡◌, ◌≤◌, take}
 use Rattle.arrow_array.specs.Parts.{utf8_type}
-use Rattle.arrow_types.specs.Numbers.{greatest_offset}
+use Rattle.arrow_core.specs.Numbers.{greatest_offset}
 use Rattle.json_flat.specs.Columns.{AreSlotsOf, lent, total_size}
 use Rattle.json_flat.specs.Meaning.{text_in}
 use Rattle.json_flat.proofs.content.read_strings.Given as goal

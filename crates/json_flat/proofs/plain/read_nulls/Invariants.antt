@@ -1,5 +1,5 @@
 use Rattle.std.proofs.Common.{◌≡◌, take}
-use Rattle.arrow_types.specs.declared.types.DataType.TheVariants.{Null}
+use Rattle.arrow_core.specs.declared.types.DataType.TheVariants.{Null}
 use Rattle.json_flat.specs.Columns.{AreSlotsOf, lent}
 use Rattle.json_flat.specs.Meaning.{null_in}
 use Rattle.json_flat.proofs.plain.read_nulls.Given as goal

@@ -1,5 +1,5 @@
 use Rattle.std.proofs.Common.{◌∙◌, sym, ap}
-use Rattle.arrow_types.specs.declared.slot.Slot.TheVariants.{Null, Binary}
+use Rattle.arrow_core.specs.declared.slot.Slot.TheVariants.{Null, Binary}
 use Rattle.json_flat.specs.Meaning.{slot_of, bytes_in}
 use Rattle.json_lend.specs.Standing.{lent_value}
 use Rattle.json_line.proofs.Meanings.{pushed, bytes-string, no-string}

@@ -1,5 +1,5 @@
 use Rattle.std.proofs.Common.{◌∙◌, sym, ap}
-use Rattle.arrow_types.specs.declared.slot.Slot.TheVariants.{Null, String}
+use Rattle.arrow_core.specs.declared.slot.Slot.TheVariants.{Null, String}
 use Rattle.json_flat.specs.Meaning.{slot_of, text_in}
 use Rattle.json_lend.specs.Standing.{lent_value}
 use Rattle.json_line.proofs.Meanings.{pushed, is-empty, text-string, text-number, text-boolean, no-text, other}

@@ -1,8 +1,8 @@
 -- The names beneath lists are those of the items' type, and beneath structs those of the fields' types.
 use Rattle.std.proofs.Common.{ap, rules}
-use Rattle.arrow_types.proofs.types.DataType.TheLaws.{the_size}
-use Rattle.arrow_types.proofs.types.Field.TheLaws.{the_size as field_size}
-use Rattle.arrow_types.specs.declared.types.DataType.TheViews.{the_lemmas}
+use Rattle.arrow_core.proofs.types.DataType.TheLaws.{the_size}
+use Rattle.arrow_core.proofs.types.Field.TheLaws.{the_size as field_size}
+use Rattle.arrow_core.specs.declared.types.DataType.TheViews.{the_lemmas}
 use Rattle.json_line.proofs.Making.{names-ended, names-more, readable-at}
 use Rattle.json_line.proofs.Shapes.{are_readable, large_list_item_readable, list_item_readable, sized_item_readable, struct_fields_readable}
 use Rattle.json_line.proofs.FieldLaws.{large_list_names, list_names, sized_list_names, struct_names, structs_suit}

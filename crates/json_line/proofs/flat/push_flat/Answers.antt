@@ -2,7 +2,7 @@ use Rattle.std.proofs.Common.{pos, negsuc, refl, rules, sym, ap, cond}
 use Rattle.arrow_builders.specs.declared.array.MutableArray as builder
 use Rattle.arrow_builders.proofs.NestedCalls.{told}
 use Rattle.arrow_flat.specs.Builders.{PlainBuilder}
-use Rattle.arrow_types.specs.declared.slot.Slot.TheVariants as slot
+use Rattle.arrow_core.specs.declared.slot.Slot.TheVariants as slot
 use Rattle.json_flat.specs.Meaning.{int64_in, moment_in, null_in, boolean_in, whole_in, text_in, bytes_in}
 use Rattle.json_lend.specs.Standing.{lent_value}
 use Rattle.json_line.specs.Builders.{IsGiven}

@@ -1,8 +1,8 @@
 -- A builder of lists is made over one of the items' type, and a struct's over those of the fields' types.
 use Rattle.std.proofs.Common.{ap, ◌∙◌, arith, rules}
-use Rattle.arrow_types.proofs.types.DataType.TheLaws.{the_size}
-use Rattle.arrow_types.proofs.types.Field.TheLaws.{the_size as field_size}
-use Rattle.arrow_types.specs.declared.types.DataType.TheViews.{the_lemmas}
+use Rattle.arrow_core.proofs.types.DataType.TheLaws.{the_size}
+use Rattle.arrow_core.proofs.types.Field.TheLaws.{the_size as field_size}
+use Rattle.arrow_core.specs.declared.types.DataType.TheViews.{the_lemmas}
 use Rattle.json_line.specs.Builders.{shapes_of, IsNotNested}
 use Rattle.json_line.proofs.Making.{made-more, readable-at, taken-all}
 use Rattle.json_line.proofs.MadeLaws.{flat_built, large_list_built, list_built, sized_list_built, struct_built}

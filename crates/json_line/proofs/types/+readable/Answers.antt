@@ -1,7 +1,7 @@
 -- The type of lists is tested by that of its items, and a struct's by its fields'.
 use Rattle.std.proofs.Common.{ap, sym, ◌∙◌}
-use Rattle.arrow_types.specs.declared.types.DataType.TheVariants as types
-use Rattle.arrow_types.specs.declared.types.Field.{Field}
+use Rattle.arrow_core.specs.declared.types.DataType.TheVariants as types
+use Rattle.arrow_core.specs.declared.types.Field.{Field}
 use Rattle.json_line.specs.Lines.{are_sized_items}
 use Rattle.json_line.specs.Types.{has_line_reading}
 use Rattle.json_flat.proofs.DistinctNames.{same_answer}

@@ -1,9 +1,9 @@
 -- A list and a dictionary have the columns of their items and values, and a struct those of its fields.
 use Rattle.std.proofs.Common.{ap, sym, ◌∙◌, subst, true, false, arith}
 use Rattle.std.proofs.lemmas.Result.{IfOk-weaker}
-use Rattle.arrow_types.specs.declared.types.DataType.{DataType}
-use Rattle.arrow_types.specs.declared.types.DataType.TheVariants as types
-use Rattle.arrow_types.specs.declared.types.Field.{Field}
+use Rattle.arrow_core.specs.declared.types.DataType.{DataType}
+use Rattle.arrow_core.specs.declared.types.DataType.TheVariants as types
+use Rattle.arrow_core.specs.declared.types.Field.{Field}
 use Rattle.json_text.specs.Columns.{AreWithin}
 use Rattle.json_text.proofs.ColumnLemmas.{within_list, within_fixed_list, within_dictionary, within_struct, one_more_field}
 use Rattle.json_text.proofs.columns.+columns.Goals as goal

@@ -1,7 +1,7 @@
 -- The integers of a list and a dictionary are those of its items and values.
 use Rattle.std.proofs.Common.{subst, true, false}
-use Rattle.arrow_types.specs.declared.types.DataType.{DataType}
-use Rattle.arrow_types.specs.declared.types.Field.{Field}
+use Rattle.arrow_core.specs.declared.types.DataType.{DataType}
+use Rattle.arrow_core.specs.declared.types.Field.{Field}
 use Rattle.json_text.specs.Columns.{IsForm}
 use Rattle.json_text.proofs.ColumnLemmas.{of_list, of_fixed_list, of_dictionary}
 use Rattle.json_text.proofs.integers.+integer_form.Goals as goal

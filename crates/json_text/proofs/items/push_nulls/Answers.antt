@@ -1,6 +1,6 @@
 -- Each turn adds a comma where one is wanted, and `null`.
 use Rattle.std.proofs.Common.{◌<◌, ◌+◌, ◌-◌, length, map, take, drop, ap, sym, ◌∙◌, arith}
-use Rattle.arrow_types.specs.declared.slot.Slot.TheVariants as slot
+use Rattle.arrow_core.specs.declared.slot.Slot.TheVariants as slot
 use Rattle.arrow_array.specs.Slots.{slot_at}
 use Rattle.json_text.specs.JsonText.{text}
 use Rattle.json_text.proofs.Forms.{if_not_held}

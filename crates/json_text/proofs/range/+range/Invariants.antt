@@ -1,7 +1,7 @@
 -- The slots before this one are in range, and of each struct the fields before this one; and how deep the types beneath are.
 use Rattle.std.proofs.Common.{◌≡◌, ℕ, ◌+◌, ◌-◌, ◌*◌, ◌<◌, ◌≤◌, map, take, drop, true}
 use Rattle.std.specs.List.{list_all}
-use Rattle.arrow_types.specs.declared.types.DataType.{size-DataType}
+use Rattle.arrow_core.specs.declared.types.DataType.{size-DataType}
 use Rattle.arrow_array.specs.Arrays.{array_type, array_slots}
 use Rattle.arrow_array.specs.Depths.{children_depth}
 use Rattle.arrow_array.specs.Slots.{slot_at}

@@ -1,7 +1,7 @@
 -- What has been added of items or members, that what stood before stays, and how deep the types beneath are.
 use Rattle.std.proofs.Common.{◌≡◌, ◌+◌, ◌-◌, ◌*◌, ◌++◌, map, take, drop}
 use Rattle.std.specs.Io.{StartsWith}
-use Rattle.arrow_types.specs.declared.types.DataType.{size-DataType}
+use Rattle.arrow_core.specs.declared.types.DataType.{size-DataType}
 use Rattle.arrow_array.specs.Arrays.{array_type}
 use Rattle.arrow_array.specs.Depths.{children_depth}
 use Rattle.json_text.specs.Columns.{AreColumns, columns_text}

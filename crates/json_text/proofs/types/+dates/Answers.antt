@@ -1,7 +1,7 @@
 -- A list, a struct and a dictionary hold dates where what stands in them does.
 use Rattle.std.proofs.Common.{ap, sym, ◌∙◌, false, true, arith}
-use Rattle.arrow_types.specs.declared.types.DataType.TheVariants as types
-use Rattle.arrow_types.specs.declared.types.Field.{Field}
+use Rattle.arrow_core.specs.declared.types.DataType.TheVariants as types
+use Rattle.arrow_core.specs.declared.types.Field.{Field}
 use Rattle.json_text.specs.Refusals.{in_range}
 use Rattle.json_text.proofs.Beneath.{list_without_dates, fixed_list_without_dates, struct_without_dates, dictionary_without_dates, on_false_map, one_more_without_dates}
 use Rattle.json_text.proofs.types.+dates.Goals as goal

@@ -1,6 +1,6 @@
 -- No field before this one holds dates.
 use Rattle.std.proofs.Common.{◌≡◌, List, true, take}
-use Rattle.arrow_types.specs.declared.slot.Slot.{Slot}
+use Rattle.arrow_core.specs.declared.slot.Slot.{Slot}
 use Rattle.json_text.specs.Refusals.{all_in_range}
 use Rattle.json_text.proofs.types.+dates.Given as goal
 

@@ -1,7 +1,7 @@
 -- The type of a list is tested by that of its items, and a struct's by its fields'.
 use Rattle.std.proofs.Common.{ap, sym, ◌∙◌}
-use Rattle.arrow_types.specs.declared.types.DataType.TheVariants as types
-use Rattle.arrow_types.specs.declared.types.Field.{Field}
+use Rattle.arrow_core.specs.declared.types.DataType.TheVariants as types
+use Rattle.arrow_core.specs.declared.types.Field.{Field}
 use Rattle.json_text.specs.Refusals.{has_offsets}
 use Rattle.json_text.proofs.Beneath.{list_offsets, large_list_offsets, fixed_type_offsets, struct_offsets}
 use Rattle.json_text.proofs.types.+offsets.Goals as goal

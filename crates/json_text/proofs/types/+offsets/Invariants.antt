@@ -1,7 +1,7 @@
 -- Each field before this one has what is asked for.
 use Rattle.std.proofs.Common.{◌≡◌, true, take}
 use Rattle.std.specs.List.{list_all}
-use Rattle.arrow_types.specs.declared.types.Field.{Field as TheField}
+use Rattle.arrow_core.specs.declared.types.Field.{Field as TheField}
 use Rattle.json_text.specs.Refusals.{has_offsets}
 use Rattle.json_text.proofs.types.+offsets.Given as goal
 

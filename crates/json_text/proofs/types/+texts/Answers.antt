@@ -1,7 +1,7 @@
 -- The type of a list is tested by that of its items, and a struct's by its fields'.
 use Rattle.std.proofs.Common.{ap, sym, ◌∙◌}
-use Rattle.arrow_types.specs.declared.types.DataType.TheVariants as types
-use Rattle.arrow_types.specs.declared.types.Field.{Field}
+use Rattle.arrow_core.specs.declared.types.DataType.TheVariants as types
+use Rattle.arrow_core.specs.declared.types.Field.{Field}
 use Rattle.json_text.specs.Refusals.{has_text, is_string_type}
 use Rattle.json_text.proofs.Beneath.{list_text, large_list_text, fixed_type_text, struct_text, dictionary_type_text}
 use Rattle.json_text.proofs.types.+texts.Goals as goal

@@ -1,6 +1,6 @@
 -- Each turn adds a column.
 use Rattle.std.proofs.Common.{◌∙◌, ap, sym, arith}
-use Rattle.arrow_types.specs.declared.types.Field.{Field}
+use Rattle.arrow_core.specs.declared.types.Field.{Field}
 use Rattle.json_text.proofs.ColumnLemmas.{one_more_column}
 use Rattle.json_write.proofs.keys.make_columns.Goals as goal
 

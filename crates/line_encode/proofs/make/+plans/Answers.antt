@@ -1,6 +1,6 @@
 -- A plan is made of the plans of what is within the type and the schema.
 use Rattle.std.proofs.Common.{◌≡◌, ◌∙◌, ◌<◌, ◌++◌, ◌∷◌, [], true, false, ap, sym, subst, rules, arith, length}
-use Rattle.arrow_types.specs.declared.types.DataType.TheVariants as types
+use Rattle.arrow_core.specs.declared.types.DataType.TheVariants as types
 use Rattle.avro_schema.specs.declared.schema.Schema.{Array, Union}
 use Rattle.line_encode.specs.Makes.{ArePlansOf, IsHeldPlanOf, IsListPlanOf, IsPlanOf, IsRecordPlanOf}
 use Rattle.line_encode.proofs.Making.{if_some, large_lists_plan, list_plan, lists_plan, nullable_plan, plans_more, record_plan, required_plan, struct_plan, two_members}

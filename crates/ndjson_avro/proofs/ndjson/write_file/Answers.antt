@@ -2,7 +2,7 @@ use Rattle.std.proofs.Common.{inl, inr, IfOk, IfErr, refl, rules}
 use Rattle.ndjson_read.specs.FileReader.{byte_limit_of, lines_of, source_of}
 use Rattle.ndjson_read.specs.Reading.{state}
 use Rattle.ndjson_read.proofs.RowLemmas.{handed_on}
-use Rattle.avro_blocks.specs.Changes.{Change, change_of}
+use Rattle.avro_container.specs.Changes.{Change, change_of}
 use Rattle.ndjson_avro.specs.Conversion.{ConversionFails, Converts}
 use Rattle.ndjson_avro.proofs.Whole.{ended, if_converts, if_stops}
 use Rattle.ndjson_avro.proofs.ndjson.write_file.Goals as goal

@@ -1,6 +1,6 @@
 use Rattle.std.proofs.Common.{ap, sym, ◌∙◌}
-use Rattle.arrow_types.specs.declared.types.DataType.TheVariants as types
-use Rattle.arrow_types.specs.declared.types.Field.{Field}
+use Rattle.arrow_core.specs.declared.types.DataType.TheVariants as types
+use Rattle.arrow_core.specs.declared.types.Field.{Field}
 use Rattle.ndjson_avro.specs.Nulls.{holds_null}
 use Rattle.ndjson_avro.proofs.NullTypes.{list_nulls, large_list_nulls, struct_nulls}
 use Rattle.ndjson_avro.proofs.nulls.+nulls.Goals as goal

@@ -1,5 +1,5 @@
 use Rattle.std.proofs.Common.{refl}
-use Rattle.arrow_types.specs.declared.physical.PhysicalType.TheVariants as physical
+use Rattle.arrow_core.specs.declared.physical.PhysicalType.TheVariants as physical
 use Rattle.arrow_builders.specs.Shapes.{shape}
 use Rattle.arrow_builders.proofs.NestedCalls.{lists_null, lists_same}
 use Rattle.arrow_builders.proofs.list.DynMutableListArray.push_null.Goals as goal

@@ -1,5 +1,5 @@
 use Rattle.std.proofs.Common.{◌∙◌, ap, sym, List, length, map}
-use Rattle.arrow_types.specs.declared.slot.Slot.{Slot}
+use Rattle.arrow_core.specs.declared.slot.Slot.{Slot}
 use Rattle.arrow_array.specs.Structs.{record_at}
 use Rattle.arrow_builders.specs.MutableArrays.{builder_slots}
 use Rattle.arrow_builders.proofs.Rows.{slots-record}

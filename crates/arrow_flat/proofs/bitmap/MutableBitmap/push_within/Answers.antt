@@ -1,5 +1,5 @@
 use Rattle.std.proofs.Common.{◌≡◌, ◌-◌, ◌∙◌, ◌∷◌, [], ◌++◌, Bool, List, length, arith, ap, vec_capacity}
-use Rattle.arrow_bitmap.specs.Bits.{booleans_of}
+use Rattle.arrow_array.specs.Bits.{booleans_of}
 use Rattle.arrow_flat.specs.Bits.{bit_capacity}
 use Rattle.arrow_flat.specs.Capacity.{Growing}
 use Rattle.arrow_flat.proofs.Bits.{Written, booleans-written, length-booleans}

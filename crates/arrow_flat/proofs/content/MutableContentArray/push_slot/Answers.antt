@@ -1,6 +1,6 @@
 use Rattle.std.proofs.Common.{◌≡◌, ◌∙◌, ap, refl, arith, ◌+◌, ◌≤◌, ◌++◌, ◌∷◌, [], length, List, Bool}
 use Rattle.std.proofs.lemmas.List.{length-append}
-use Rattle.arrow_types.specs.Numbers.{greatest_offset}
+use Rattle.arrow_core.specs.Numbers.{greatest_offset}
 use Rattle.arrow_flat.proofs.Contents.{hold_more, show_more, HoldContents-count}
 use Rattle.arrow_flat.specs.Builders.{ContentBuilder}
 use Rattle.arrow_flat.proofs.content.MutableContentArray.push_slot.Goals as goal

@@ -1,4 +1,4 @@
-use Rattle.avro_blocks.proofs.AllRows.{appends_all_rows}
+use Rattle.avro_container.proofs.AllRows.{appends_all_rows}
 use Rattle.avro_canonical.specs.Canonical.{RewritesBlock}
 use Rattle.avro_canonical.proofs.rewrite.BlockRewriterEncodesBlocks.append_block.Goals as goal
 

@@ -1,18 +1,18 @@
 use Rattle.std.proofs.Common.{◌≡◌, ◌∙◌, ℕ, Bool, true, List, length, All, Option, Some, Err, sym, ap, subst, rules}
 use Rattle.std.specs.Option.{option_copied}
 use Rattle.std.specs.Prelude.{IfSome}
-use Rattle.arrow_types.specs.declared.types.Field.{Field}
+use Rattle.arrow_core.specs.declared.types.Field.{Field}
 use Rattle.json_text.specs.Refusals.{has_text}
 use Rattle.avro_schema.specs.declared.schema.AvroField.{AvroField}
 use Rattle.avro_schema.specs.declared.schema.Record.{out-Record}
-use Rattle.avro_grammar.specs.Inferred.{inferred_columns}
-use Rattle.avro_grammar.specs.ValidBlock.{kept, KeepNoFloat}
-use Rattle.avro_decode.specs.Decoder.{CanBeDecoded, projected, ProjectionRefused}
+use Rattle.avro_schema.specs.Inferred.{inferred_columns}
+use Rattle.avro_schema.specs.ValidBlock.{kept, KeepNoFloat}
+use Rattle.avro_schema.specs.Projected.{CanBeDecoded, projected, ProjectionRefused}
 use Rattle.avro_ndjson.specs.Plan.{IsPlan}
 use Rattle.avro_ndjson.specs.Refusals.{AreChosen, CannotBeShown}
 use Rattle.avro_ndjson.specs.Shown.{kept_of}
 use Rattle.avro_ndjson.proofs.Encoders.{chosen_from, some_given, not_carried, flags, lengths, decoder_refused, made_encoder}
-use Rattle.avro_blocks.proofs.Results.{err_then}
+use Rattle.avro_container.proofs.Results.{err_then}
 use Rattle.avro_ndjson.proofs.lines.BlockEncoder.new.Goals as goal
 
 pub returns-in_err-check_carried-clause-err : goal.returns-in_err-check_carried-clause-err

@@ -1,6 +1,6 @@
 use Rattle.std.proofs.Common.{ℕ, List, OnOk, refl, subst}
 use Rattle.avro_container.specs.File.{the_block}
-use Rattle.avro_blocks.specs.Written.{AppendsBlock}
+use Rattle.avro_container.specs.Written.{AppendsBlock}
 use Rattle.avro_ndjson.specs.Shown.{ShowsBlock}
 use Rattle.avro_ndjson.proofs.Chunks.{if_appended, if_wrong}
 use Rattle.avro_ndjson.proofs.lines.BlockEncoder.push_block.Goals as goal

@@ -1,4 +1,4 @@
-use Rattle.avro_blocks.proofs.AllRows.{appends_all_rows}
+use Rattle.avro_container.proofs.AllRows.{appends_all_rows}
 use Rattle.avro_ndjson.specs.Shown.{ShowsBlock}
 use Rattle.avro_ndjson.proofs.lines.BlockEncoderEncodesBlocks.append_block.Goals as goal
 

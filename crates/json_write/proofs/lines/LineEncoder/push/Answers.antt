@@ -1,6 +1,6 @@
 -- The lines by the columns are those by the names of the fields.
 use Rattle.std.proofs.Common.{subst, sym, map, List, true}
-use Rattle.arrow_types.specs.declared.types.Field.{Field}
+use Rattle.arrow_core.specs.declared.types.Field.{Field}
 use Rattle.arrow_array.specs.Arrays.{array_type}
 use Rattle.json_text.specs.Columns.{AreColumns, AreNamed}
 use Rattle.json_text.proofs.ColumnLemmas.{are_columns}

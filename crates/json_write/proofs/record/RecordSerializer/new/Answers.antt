@@ -1,6 +1,6 @@
 -- The rows by their columns are those by the names of the schema.
 use Rattle.std.proofs.Common.{subst, map, List, true}
-use Rattle.arrow_types.specs.declared.types.Field.{Field}
+use Rattle.arrow_core.specs.declared.types.Field.{Field}
 use Rattle.arrow_array.specs.Arrays.{array_type}
 use Rattle.json_text.specs.Columns.{AreNamed}
 use Rattle.json_text.proofs.ColumnLemmas.{are_columns}

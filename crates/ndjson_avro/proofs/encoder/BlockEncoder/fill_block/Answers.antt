@@ -1,6 +1,6 @@
 use Rattle.std.proofs.Common.{sym, subst}
 use Rattle.arrow_array.specs.Arrays.{array_slots}
-use Rattle.arrow_types.specs.declared.types.DataType.{DataType}
+use Rattle.arrow_core.specs.declared.types.DataType.{DataType}
 use Rattle.ndjson_read.proofs.RowLemmas.{handed_on}
 use Rattle.ndjson_avro.specs.Steps.{IsRootOf}
 use Rattle.ndjson_avro.proofs.Reasons.{encoded_rows, lacks_a_value, not_written_rows, read_length}

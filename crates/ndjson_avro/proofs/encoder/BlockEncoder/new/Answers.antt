@@ -1,7 +1,7 @@
 use Rattle.std.proofs.Common.{◌≡◌, ◌∙◌, sym, ap, subst}
-use Rattle.arrow_types.specs.declared.types.DataType.{DataType}
-use Rattle.arrow_types.specs.declared.types.DataType as types
-use Rattle.arrow_types.specs.declared.types.Schema.{Schema}
+use Rattle.arrow_core.specs.declared.types.DataType.{DataType}
+use Rattle.arrow_core.specs.declared.types.DataType as types
+use Rattle.arrow_core.specs.declared.types.Schema.{Schema}
 use Rattle.avro_schema.specs.declared.schema.Schema as schema
 use Rattle.ndjson_avro.specs.Steps.{IsRootOf}
 use Rattle.ndjson_avro.proofs.Held.{plan_for}

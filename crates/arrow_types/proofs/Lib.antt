@@ -1,2 +1,0 @@
-pub mod Beneath
-pub mod EqualTypes

@@ -1,5 +1,0 @@
-use Rattle.arrow_types.proofs.EqualTypes.{types_equal}
-use Rattle.arrow_types.proofs.types.DataType.is_same.Goals as goal
-
-pub returns : goal.returns
-returns c = rw c.eq.ensures (types_equal c.args.self.now c.args.other.now)

@@ -1,4 +1,0 @@
-pub mod Layouts
-pub mod Moments
-pub mod Natives
-pub mod Numbers

@@ -1,5 +1,0 @@
-use Rattle.avro_grammar.proofs.NeverWhole.{broken_excludes}
-use Rattle.avro_grammar.proofs.laws.broken_is_never_whole.Goals as goal
-
-pub returns : goal.returns
-returns c = broken_excludes

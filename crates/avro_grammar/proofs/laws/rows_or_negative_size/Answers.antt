@@ -1,5 +1,0 @@
-use Rattle.avro_grammar.proofs.RowLaws.{rows_exclude}
-use Rattle.avro_grammar.proofs.laws.rows_or_negative_size.Goals as goal
-
-pub returns : goal.returns
-returns c = rows_exclude

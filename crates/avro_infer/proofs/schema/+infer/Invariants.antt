@@ -1,8 +1,0 @@
--- The columns are those of the fields so far.
-use Rattle.std.proofs.Common.{◌≡◌, take, Some}
-use Rattle.avro_grammar.specs.Inferred.{columns_of}
-use Rattle.avro_infer.proofs.schema.+infer.Given as goal
-
-abbrev pub invariant-infer_fields-loop-field : goal.invariant-infer_fields-loop-field
-invariant-infer_fields-loop-field l =
-    (columns_of (λ a. a.doc) (take l.field-index l.field-items) ≡ Some l.fields.items) × (l.field-items ≡ l.avro_fields)

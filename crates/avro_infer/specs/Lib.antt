@@ -1,4 +1,0 @@
-pub mod Columns
-pub mod Enlarged
-pub mod Inference
-pub mod Parts

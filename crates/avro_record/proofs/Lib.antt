@@ -1,4 +1,0 @@
-pub mod ByFields
-pub mod Columns
-pub mod Renamed
-pub mod Returned

@@ -1,4 +1,0 @@
-pub mod Back
-pub mod Listed
-pub mod Named
-pub mod Schemas

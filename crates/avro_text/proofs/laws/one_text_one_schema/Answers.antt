@@ -1,6 +1,0 @@
--- The JSON text has one value, and the value one meaning.
-use Rattle.avro_text.proofs.Answered.{one_schema}
-use Rattle.avro_text.proofs.laws.one_text_one_schema.Goals as goal
-
-pub returns : goal.returns
-returns c = one_schema

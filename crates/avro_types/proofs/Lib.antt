@@ -1,0 +1,11 @@
+pub mod ByFields
+pub mod CarriedSchemas
+pub mod ColumnTypes
+pub mod Columns
+pub mod Enlarging
+pub mod Inferring
+pub mod Parts
+pub mod Renamed
+pub mod Returned
+pub mod RootColumns
+pub mod SmallOffsets

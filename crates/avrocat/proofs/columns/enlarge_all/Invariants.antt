@@ -1,7 +1,0 @@
--- The large ones are those of the fields so far.
-use Rattle.std.proofs.Common.{◌≡◌, map, take}
-use Rattle.avro_infer.specs.Enlarged.{enlarged}
-use Rattle.avrocat.proofs.columns.enlarge_all.Given as goal
-
-abbrev pub invariant-loop-field : goal.invariant-loop-field
-invariant-loop-field l = l.large.items ≡ map enlarged (take l.field-index l.fields)

@@ -1,5 +1,0 @@
-use Rattle.avrocat.proofs.Endings.{none_due}
-use Rattle.avrocat.proofs.laws.no_error_is_due_to_what_can_be_done.Goals as goal
-
-pub returns : goal.returns
-returns c = none_due

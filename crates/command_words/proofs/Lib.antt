@@ -1,4 +1,0 @@
-pub mod EachWord
-pub mod Numerals
-pub mod OneMeaning
-pub mod WordsLemmas

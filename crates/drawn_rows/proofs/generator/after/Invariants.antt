@@ -1,6 +1,0 @@
-use Rattle.std.proofs.Common.{◌≡◌}
-use Rattle.drawn_rows.specs.Drawing.{after}
-use Rattle.drawn_rows.proofs.generator.after.Given as goal
-
-abbrev pub invariant-loop : goal.invariant-loop
-invariant-loop l = l.last ≡ after l.counter l.state

@@ -1,7 +1,0 @@
-use Rattle.std.proofs.Common.{◌+◌, ◌∙◌, ap}
-use Rattle.drawn_rows.specs.Drawing.{after, after_row}
-use Rattle.drawn_rows.proofs.generator.after_row.Goals as goal
-
-pub returns : goal.returns
-unfolding after_row
-returns c = c.after.ensures ∙ ap (λ n. after (n + 3) c.args.state) c.tag_count.ensures.count

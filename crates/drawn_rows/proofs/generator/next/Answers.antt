@@ -1,7 +1,0 @@
-use Rattle.std.proofs.Common.{refl}
-use Rattle.drawn_rows.specs.Drawing.{next}
-use Rattle.drawn_rows.proofs.generator.next.Goals as goal
-
-pub returns : goal.returns
-unfolding next
-returns c = refl

@@ -1,7 +1,0 @@
-use Rattle.std.proofs.Common.{◌%◌, ◌∙◌, ap}
-use Rattle.drawn_rows.specs.Drawing.{drawn, tag_count}
-use Rattle.drawn_rows.proofs.generator.tag_count.Goals as goal
-
-pub returns-clause-count : goal.returns-clause-count
-unfolding tag_count
-returns-clause-count c = ap (λ n. n % 3) (c.drawn.ensures ∙ ap drawn c.after.ensures)

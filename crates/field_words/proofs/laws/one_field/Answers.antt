@@ -1,5 +1,0 @@
-use Rattle.field_words.proofs.OneMeaning.{one_field}
-use Rattle.field_words.proofs.laws.one_field.Goals as goal
-
-pub returns : goal.returns
-returns c = one_field

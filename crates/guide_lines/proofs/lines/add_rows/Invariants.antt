@@ -1,7 +1,0 @@
-use Rattle.std.proofs.Common.{◌≡◌, take}
-use Rattle.guide_lines.specs.Sum.{added}
-use Rattle.guide_lines.proofs.lines.add_rows.Given as goal
-
--- the integers of the first i rows are added
-abbrev pub invariant-loop-i : goal.invariant-loop-i
-invariant-loop-i l = l.sum ≡ added l.place l.fn.sum (take l.i l.rows.slots)

@@ -1,5 +1,0 @@
-use Rattle.json_laws.proofs.LineLaw.{lines_are_rows, slot_lines_are_rows}
-use Rattle.json_laws.proofs.laws.lines_are_rows.Goals as goal
-
-pub returns : goal.returns
-returns c = record { rows = lines_are_rows; slots = slot_lines_are_rows }

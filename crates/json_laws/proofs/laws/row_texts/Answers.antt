@@ -1,5 +1,0 @@
-use Rattle.json_laws.proofs.RowLaw.{rows_are_json, rows_are_shallow}
-use Rattle.json_laws.proofs.laws.row_texts.Goals as goal
-
-pub returns : goal.returns
-returns c = record { json = rows_are_json; shallow = rows_are_shallow }

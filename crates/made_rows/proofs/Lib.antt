@@ -1,5 +1,0 @@
-pub mod Columns
-pub mod Items
-pub mod Making
-pub mod Reading
-pub mod RowFields

@@ -1,0 +1,17 @@
+pub mod Clean
+pub mod FoundLemmas
+pub mod Gathered
+pub mod LineLaw
+pub mod MadeLaws
+pub mod MeaningLaw
+pub mod Numerals
+pub mod Printed
+pub mod Readings
+pub mod RowLaw
+pub mod RowLaws
+pub mod RowMeaning
+pub mod SlotLaws
+pub mod StoredTypes
+pub mod TextLaw
+pub mod ValueLemmas
+pub mod Written

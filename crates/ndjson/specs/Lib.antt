@@ -1,0 +1,9 @@
+pub mod Columns
+pub mod Depth
+pub mod FileWriter
+pub mod Laws
+pub mod LineColumns
+pub mod Rows
+pub mod Serializer
+pub mod Values
+pub mod Writing

@@ -1,6 +1,0 @@
-pub mod ValueLemmas
-pub mod Readings
-pub mod StoredTypes
-pub mod SlotLaws
-pub mod MadeLaws
-pub mod RowLaws

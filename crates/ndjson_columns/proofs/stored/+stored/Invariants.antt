@@ -1,7 +1,0 @@
--- The first fields have their stored ones.
-use Rattle.std.proofs.Common.{take}
-use Rattle.ndjson_columns.specs.LineColumns.{AreStoredFor}
-use Rattle.ndjson_columns.proofs.stored.+stored.Given as goal
-
-abbrev pub invariant-stored_fields-loop-field : goal.invariant-stored_fields-loop-field
-invariant-stored_fields-loop-field l = AreStoredFor (take l.field-index l.fields) l.stored.items

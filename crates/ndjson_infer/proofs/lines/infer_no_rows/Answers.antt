@@ -1,7 +1,0 @@
-use Rattle.std.proofs.Common.{rules}
-use Rattle.ndjson_infer.proofs.Parsing.{one_byte}
-use Rattle.ndjson_infer.proofs.lines.infer_no_rows.Goals as goal
-
-pub returns-in-Ok-2-clause-ok : goal.returns-in-Ok-2-clause-ok
-returns-in-Ok-2-clause-ok g c =
-    one_byte _ _ _ _ _ c.in-Ok-2.ensures.given (search rules) (search rules) (search rules) (search rules) c.in-Ok-2.ensures.never_falls

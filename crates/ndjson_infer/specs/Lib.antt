@@ -1,6 +1,0 @@
-pub mod Compared
-pub mod GivenRows
-pub mod Inference
-pub mod Laws
-pub mod Needed
-pub mod SoFar

@@ -1,3 +1,0 @@
-pub mod FileWriter
-pub mod Serializer
-pub mod Writing

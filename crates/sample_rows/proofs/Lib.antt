@@ -1,0 +1,6 @@
+pub mod ColumnLemmas
+pub mod Growing
+pub mod Items
+pub mod Making
+pub mod Reading
+pub mod RowFields
