@@ -11,7 +11,8 @@ begin with `$ ` are commands, all others what they print. A line `...` of the ou
 Code in Markdown under a comment `<!-- FILE, without its contract -->` has to be lines of that file, in its order.
 
 The words of the commands that `avrocat help` prints have to be those that FORMATS, the manual page and the completions have
-(command_words.py).
+(command_words.py). An indented line of the help that begins with `avrocat`, or with capitals and `=`, is an example: each is run,
+in order, after the variables that were set before it, and has to end with status 0 and without a note.
 
 A document's commands run one after another in a folder of its own, as they stand: the folder has the files of examples/, once by
 their names and once in examples/, and the program as `./avrocat` and as `avrocat` on the path.
@@ -33,6 +34,7 @@ DOCUMENTS = ["README.md", "docs/FORMATS.md", "docs/GUIDE.md", "docs/avrocat.1"]
 BLOCK = re.compile(r"^```(\w*)\n(.*?)^```$", re.MULTILINE | re.DOTALL)
 EXAMPLE = re.compile(r"^\.EX\n(.*?)^\.EE$", re.MULTILINE | re.DOTALL)
 CODE = re.compile(r"^<!-- (\S+), without its contract -->\n```rust\n(.*?)^```$", re.MULTILINE | re.DOTALL)
+HELP_EXAMPLE = re.compile(r"^ +((?:avrocat |[A-Z]+=).*)$", re.MULTILINE)
 BOLD = re.compile(r"\\fB(.*?)\\fR", re.DOTALL)
 ESCAPES = [("\\&", ""), ("\\-", "-"), ("\\(aq", "'"), ("\\(dq", '"'), ("\\(ti", "~"), ("\\(ha", "^"), ("\\e", "\\")]
 SECONDS = 120
@@ -102,6 +104,22 @@ def printed_by(commands, folder):
     return done.stdout.decode("utf-8", "backslashreplace")
 
 
+def check_help(text, program):
+    """How many examples the help has, and how many of them end with another status than 0, or with a note."""
+    examples, settings, wrong = HELP_EXAMPLE.findall(text), "", 0
+    with tempfile.TemporaryDirectory() as folder:
+        make_room(folder, program)
+        for example in examples:
+            if not example.startswith("avrocat "):
+                settings += example + "\n"
+            # Of what is printed only notes and the status are looked at.
+            said = printed_by(f"{settings}({example}) 2>&1 >/dev/null || echo status $?", folder)
+            if said:
+                wrong += 1
+                print(f"avrocat help: {example}\n{said}", end="")
+    return len(examples), wrong
+
+
 def is_as_shown(output, printed):
     pieces = [re.escape(piece) for piece in re.split(r"^\.\.\.\n", output, flags=re.MULTILINE)]
     return re.fullmatch(r"(?:.*\n)*".join(pieces), printed) is not None
@@ -152,10 +170,13 @@ def main():
     first = subprocess.run([program, "help"], stdin=subprocess.DEVNULL, capture_output=True)
     if first.returncode != 0:
         sys.exit(f"{program} doesn't run: {first.stderr.decode(errors='replace').strip()}")
-    wrong_words = command_words.differences(first.stdout.decode())
+    help_text = first.stdout.decode()
+    wrong_words = command_words.differences(help_text)
     for complaint in wrong_words:
         print(complaint)
-    total, total_wrong = 0, len(wrong_words)
+    total, wrong = check_help(help_text, program)
+    print(f"avrocat help: {total} examples, {wrong} differ")
+    total_wrong = len(wrong_words) + wrong
     for document in DOCUMENTS:
         examples, wrong = check(document, program)
         print(f"{document}: {examples} examples, {wrong} differ")

@@ -2,7 +2,7 @@
 # Compares the version that the program prints with those that CHANGELOG.md and the manual page name.
 set -eu
 cd "$(dirname "$(readlink -f "$0")")/.."
-version=$(sed -n 's/.*const VERSION: .*"\(.*\)";.*/\1/p' crates/avrocat/src/help.rt)
+version=$(sed -n 's/.*const VERSION: .*"\(.*\)";.*/\1/p' crates/avrocat_commands/src/help.rt)
 changes=$(sed -n 's/^## \([0-9.]*\)$/\1/p' CHANGELOG.md | head -n 1)
 manual=$(sed -n 's/^\.TH AVROCAT 1 .* "avrocat \(.*\)" .*/\1/p' docs/avrocat.1)
 [ -n "$version" ] && [ "$version" = "$changes" ] && [ "$version" = "$manual" ] && exit

@@ -83,7 +83,7 @@ def logical(it):
 
 def constant(name):
     """A text of the program's source."""
-    with open(os.path.join(TOP, "crates", "avrocat", "src", "help.rt"), encoding="utf-8") as source:
+    with open(os.path.join(TOP, "crates", "avrocat_commands", "src", "help.rt"), encoding="utf-8") as source:
         return re.search(rf'pub const {name}: &str = "([^"]*)";', source.read()).group(1)
 
 

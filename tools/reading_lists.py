@@ -36,7 +36,7 @@ LISTS = [
     ("`ndjson_to_avro`", "ndjson_avro", ["ndjson_to_avro", "lines_answers"], [0, 3, 4]),
     ("The laws of two calls", "arrow_convert",
      ["canonical_forms", "lines_and_back", "rewritten_file", "rewritten_twice", "rewriting_error"], [0, 3, 4, 5]),
-    ("The program's `run`", "avrocat", ["run", "one_error_is_due", "no_error_is_due_to_what_can_be_done"], [0, 3, 4, 5]),
+    ("The program's `run`", "avrocat_commands", ["run", "one_error_is_due", "no_error_is_due_to_what_can_be_done"], [0, 3, 4, 5]),
     ("`new_serializer` and `serialize`", "avro_write",
      ["new_serializer", "BoxSerializer::left", "serialize", "serializable_pairs", "canonical_tables", "serialized_tables"],
      [0]),
@@ -52,15 +52,15 @@ LISTS = [
     ("`LineBuilders`", "json_line", ["LineBuilders::new", "LineBuilders::read_lines"], []),
     ("`LineEncoder` and `RecordSerializer`", "json_write",
      ["LineEncoder::new", "LineEncoder::push", "RecordSerializer::new", "write"], []),
-    ("Laws of what is written and read again", "json_laws",
+    ("Laws of what is written and read again", "ndjson",
      ["slot_texts", "slots_read_back", "row_texts", "rows_read_back", "lines_are_rows"], []),
     ("`FileReader`", "ndjson_read", ["FileReader::new", "FileReader::advance", "FileReader::next"], []),
-    ("`infer` and `infer_iter`", "ndjson_infer",
+    ("`infer` and `infer_iter`", "ndjson_read",
      ["infer", "infer_iter", "one_answer", "lines_in_any_order"], []),
-    ("`deserialize` and `deserialize_iter`", "ndjson_columns", ["deserialize", "deserialize_iter"], []),
-    ("`LineColumns`", "ndjson_columns", ["LineColumns::new", "LineColumns::read_lines", "LineColumns::read_rows"], []),
+    ("`deserialize` and `deserialize_iter`", "ndjson", ["deserialize", "deserialize_iter"], []),
+    ("`LineColumns`", "ndjson", ["LineColumns::new", "LineColumns::read_lines", "LineColumns::read_rows"], []),
     ("`count_rows` and `schema_of`", "avro_inspect", ["count_rows", "schema_of", "counting_answers"], [0, 3]),
-    ("`push_type`", "field_words", ["push_type", "printed_is_right", "printed_is_word", "word_is_printed"], []),
+    ("`push_type`", "cli_words", ["push_type", "printed_is_right", "printed_is_word", "word_is_printed"], []),
 ]
 
 # Definitions that one call gives and another takes, whatever they say, and types of private state whose view nobody has to
@@ -385,7 +385,7 @@ HEADING = [
     "here stands, for each, which definitions its clauses stand on. They are found by following each name that a clause or a definition "
     "uses to the file that it is imported from. Everything else is checked against them by the prover.",
     "",
-    "`Encodes` of `avro_grammar` is the file `crates/avro_grammar/specs/Encodes.antt`. Behind a file's name stands how many lines of its "
+    "`Encodes` of `avro_schema` is the file `crates/avro_schema/specs/Encodes.antt`. Behind a file's name stands how many lines of its "
     "definitions are needed, without comments and imports, and in brackets which ones, where they are three or fewer of several, or "
     "`part`. Of the code, `schema.rt` of `avro_schema` is `crates/avro_schema/src/schema.rt`: of an enum and of a struct with public "
     "fields the declaration is to be read; of a struct that has a `ghost view` that view, which says what contracts see of it; and of a "
