@@ -1,7 +1,7 @@
 //! The slots of arrays. What is expected is worked by hand (Arrow columnar format).
 
 use crate::samples::{
-    binaries, booleans, dictionary, fixed_binaries, large_lists, lists, pairs, structs,
+    binaries, booleans, dictionary, fixed_binaries, integers, large_lists, lists, pairs, structs,
 };
 use arrow_columns::{Array, Part, PrimitiveArray};
 
@@ -43,6 +43,44 @@ fn binary_values_lie_one_after_another(rt: HostRuntime) {
     drop(array);
     let array = fixed_binaries(&rt, alloc, &[1, 2, 3, 4], 2);
     assert!(rt; are_binary(&array, &[1, 2], &[3, 4]));
+    drop(array);
+}
+
+/// Whether the array lends two booleans, the second of them true.
+fn lends_true(array: &Array) -> bool {
+    match array {
+        Array::Boolean(booleans) => booleans.values().len() == 2 && booleans.values().get(1),
+        _ => false,
+    }
+}
+
+/// Whether the array lends these integers.
+fn lends_integers(array: &Array, values: &[i32]) -> bool {
+    match array {
+        Array::Int32(integers) => integers.values() == values,
+        _ => false,
+    }
+}
+
+/// Whether the array lends these bytes.
+fn lends_bytes(array: &Array, values: &[u8]) -> bool {
+    match array {
+        Array::FixedSizeBinary(binaries) => binaries.values() == values,
+        _ => false,
+    }
+}
+
+#[test]
+fn values_are_lent_as_they_lie(rt: HostRuntime) {
+    let alloc = rt.alloc();
+    let array = booleans(&rt, alloc, &[true, true], &[false, true]);
+    assert!(rt; lends_true(&array));
+    drop(array);
+    let array = integers(&rt, alloc, &[1, -2]);
+    assert!(rt; lends_integers(&array, &[1, -2]));
+    drop(array);
+    let array = fixed_binaries(&rt, alloc, &[1, 2, 3, 4], 2);
+    assert!(rt; lends_bytes(&array, &[1, 2, 3, 4]));
     drop(array);
 }
 
