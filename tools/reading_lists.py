@@ -37,6 +37,7 @@ LISTS = [
     ("The laws of two calls", "arrow_convert",
      ["canonical_forms", "lines_and_back", "rewritten_file", "rewritten_twice", "rewriting_error"], [0, 3, 4, 5]),
     ("The program's `run`", "avrocat_commands", ["run", "one_error_is_due", "no_error_is_due_to_what_can_be_done"], [0, 3, 4, 5]),
+    ("The law of two commands", "command_laws", ["avro_then_ndjson"], [0, 3, 4, 5, 6, 7]),
     ("`new_serializer` and `serialize`", "avro_write",
      ["new_serializer", "BoxSerializer::left", "serialize", "serializable_pairs", "canonical_tables", "serialized_tables"],
      [0]),

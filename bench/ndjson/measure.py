@@ -1,7 +1,7 @@
 """Turns three Avro files of some 25 MB, in blocks of 64 KiB, into JSON lines: flat events of ten fields, rows of forty fields (all
 of them, and one), and orders with lists of records. Beside the program run the same built without proof, a plain Rust program for
 just these schemas, avro-c's avrocat (Debian's avro-bin) and Java's avro (Debian's libavro-java) where they are installed, and
-Python's avro (Debian's python3-avro) on a twentieth of the rows."""
+Python's avro (Debian's python3-avro), where it is, on a twentieth of the rows."""
 
 import os
 import subprocess
@@ -30,7 +30,15 @@ def built_by_java():
         return False
 
 
-has_java = built_by_java()
+def has_pythons_avro():
+    """Whether Debian's Python has an avro."""
+    try:
+        return subprocess.run(["/usr/bin/python3", "-c", "import avro"], stderr=subprocess.DEVNULL).returncode == 0
+    except OSError:
+        return False
+
+
+has_java, has_python = built_by_java(), has_pythons_avro()
 for kind, rows in [("flat", 400_000), ("forty", 200_000), ("nested", 400_000)]:
     given, few = work + "/" + kind, work + "/few"
     for name, count in [(given, rows), (few, rows // 20)]:
@@ -52,8 +60,6 @@ for kind, rows in [("flat", 400_000), ("forty", 200_000), ("nested", 400_000)]:
         print("  avro-c's avrocat %.2f s, of all fields" % seconds([AVRO_C, given])[0])
     if has_java:
         print("  Java's avro %.2f s, of all fields" % seconds(["java", "-cp", CLASSES, "AvroToLines"], given)[0])
-    try:
+    if has_python:
         took = seconds(["/usr/bin/python3", "-c", PYTHON, few])[0]
         print("  Python's avro %.2f s for a twentieth of the rows" % took)
-    except subprocess.CalledProcessError:
-        pass

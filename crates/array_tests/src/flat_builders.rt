@@ -92,7 +92,7 @@ fn strings(rt: &impl Abort, alloc: Global) -> Utf8Array<i32> {
     builder.push(None).expect(rt, "memory");
     builder.push(Some("é")).expect(rt, "memory");
     let array = builder.as_box().expect(rt, "memory");
-    assert!(rt; builder.byte_len() == 0);
+    assert!(rt; builder.len() == 0);
     drop(builder);
     array
 }
@@ -113,7 +113,7 @@ fn bytes_and_null(rt: &impl Abort, alloc: Global) -> BinaryArray<i64> {
     builder.push(Some(&[1, 255])).expect(rt, "memory");
     builder.push(None).expect(rt, "memory");
     let array = builder.as_box().expect(rt, "memory");
-    assert!(rt; builder.len() == 0 && builder.byte_len() == 0);
+    assert!(rt; builder.len() == 0);
     drop(builder);
     array
 }

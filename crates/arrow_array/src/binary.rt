@@ -11,7 +11,7 @@ ghost use Rattle.arrow_array.specs.Parts.{BinaryFits, IsRefusalOf, binary_type};
 
 use crate::Bitmap;
 use crate::buffer::Buffer;
-use crate::drops::{beside, both, let_go};
+use crate::drops::{beside, both, drop_both};
 use crate::offsets::{are_offsets, part_of};
 use crate::ranges::{RangedOffset, tell_offset_ranges};
 use crate::validity::{self, slice_with_type};
@@ -114,7 +114,7 @@ impl<O: Offset> BinaryArray<O> {
             (vec_len values) validity)) }
     {
         if !fits(&data_type, offsets.as_slice(), values.len(), &validity) {
-            let_go((data_type, validity), (offsets, values));
+            drop_both((data_type, validity), (offsets, values));
             return Err(Error::InvalidArgumentError(Reason::ArrayParts));
         }
         BinaryArray::from_parts(data_type, offsets, values, validity)

@@ -10,7 +10,7 @@ ghost use Rattle.arrow_array.specs.Slots.{TellsHeld, is_held, slot_at, slots_of,
 ghost use Rattle.arrow_array.specs.Parts.{BooleanFits, IsRefusalOf};
 
 use crate::Bitmap;
-use crate::drops::{beside, both, let_go};
+use crate::drops::{beside, both, drop_both};
 use crate::validity::{self, slice_with_type};
 use arrow_core::{DataType, Error, Reason, Result};
 use std::alloc::Global;
@@ -68,7 +68,7 @@ impl BooleanArray {
         ensures err { IfErr result (IsRefusalOf (BooleanFits data_type (vec_len values) validity)) }
     {
         if !fits(&data_type, values.len(), &validity) {
-            let_go((data_type, validity), values);
+            drop_both((data_type, validity), values);
             return Err(Error::InvalidArgumentError(Reason::ArrayParts));
         }
         let bitmap = Bitmap::try_from_slice(alloc, &values);

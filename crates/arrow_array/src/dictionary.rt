@@ -13,7 +13,7 @@ ghost use Rattle.arrow_array.specs.Parts.{IsRefusalOf};
 
 use crate::Bitmap;
 use crate::array::Array;
-use crate::drops::{beside, both, boxed, let_go};
+use crate::drops::{beside, both, boxed, drop_both};
 use crate::keys::Keys;
 use arrow_core::{Box, DataType, Error, IntegerType, Reason, Result};
 use std::alloc::Global;
@@ -135,7 +135,7 @@ impl DictionaryArray {
             (length (array_slots values)))) }
     {
         if !fits(&data_type, &keys, &values) {
-            let_go((data_type, keys), values);
+            drop_both((data_type, keys), values);
             return Err(Error::InvalidArgumentError(Reason::ArrayParts));
         }
         DictionaryArray::from_parts(alloc, data_type, keys, values)

@@ -6,7 +6,7 @@ use arrow_core::{Box, Result};
 use std::alloc::Global;
 
 /// Lets go of two values that make no array.
-pub(crate) fn let_go<A: Drop, B: Drop>(_first: A, _second: B) {}
+pub(crate) fn drop_both<A: Drop, B: Drop>(_first: A, _second: B) {}
 
 /// Both values, where both are there.
 ///

@@ -11,7 +11,7 @@ ghost use Rattle.arrow_array.specs.Parts.{FixedSizeBinaryFits, IsRefusalOf, byte
 
 use crate::Bitmap;
 use crate::buffer::{Buffer, run_of};
-use crate::drops::{beside, both, let_go};
+use crate::drops::{beside, both, drop_both};
 use crate::validity::{self, slice_with_type};
 use arrow_core::{DataType, Error, Reason, Result};
 use std::alloc::Global;
@@ -94,7 +94,7 @@ impl FixedSizeBinaryArray {
             (IsRefusalOf (FixedSizeBinaryFits data_type (vec_len values) validity)) }
     {
         if !fits(&data_type, values.len(), &validity) {
-            let_go((data_type, validity), values);
+            drop_both((data_type, validity), values);
             return Err(Error::InvalidArgumentError(Reason::ArrayParts));
         }
         let size = size_of_type(&data_type);

@@ -15,7 +15,7 @@ ghost use Rattle.arrow_array.specs.Parts.{IsRefusalOf};
 
 use crate::Bitmap;
 use crate::array::Array;
-use crate::drops::{beside, both, boxed, let_go};
+use crate::drops::{beside, both, boxed, drop_both};
 use crate::part::Part;
 use crate::validity::{self, slice_with_type};
 use arrow_core::{Box, DataType, Error, Reason, Result};
@@ -131,7 +131,7 @@ impl FixedSizeListArray {
             (FixedListFits data_type (array_type values) (length (array_slots values)) validity)) }
     {
         if !fits(&data_type, &values, &validity) {
-            let_go((data_type, validity), values);
+            drop_both((data_type, validity), values);
             return Err(Error::InvalidArgumentError(Reason::ArrayParts));
         }
         let size = size_of_type(&data_type);

@@ -17,7 +17,7 @@ ghost use Rattle.arrow_array.specs.Parts.{IsRefusalOf};
 use crate::Bitmap;
 use crate::array::Array;
 use crate::buffer::Buffer;
-use crate::drops::{beside, both, boxed, let_go};
+use crate::drops::{beside, both, boxed, drop_both};
 use crate::offsets::{are_rising, end_within, part_bounds};
 use crate::part::Part;
 use crate::ranges::tell_offset_ranges;
@@ -191,7 +191,7 @@ impl ListArray {
             validity)) }
     {
         if !are_rising(offsets.as_slice()) {
-            let_go((data_type, validity), (offsets, values));
+            drop_both((data_type, validity), (offsets, values));
             return Err(Error::InvalidArgumentError(Reason::ArrayParts));
         }
         ListArray::try_from_rising(alloc, data_type, offsets, values, validity)
@@ -228,7 +228,7 @@ impl ListArray {
             validity)) }
     {
         if !fits(&data_type, offsets.as_slice(), &values, &validity) {
-            let_go((data_type, validity), (offsets, values));
+            drop_both((data_type, validity), (offsets, values));
             return Err(Error::InvalidArgumentError(Reason::ArrayParts));
         }
         let shared = both(Buffer::try_from_vec(offsets), Box::new(alloc, values));
@@ -382,7 +382,7 @@ impl LargeListArray {
             validity)) }
     {
         if !are_rising(offsets.as_slice()) {
-            let_go((data_type, validity), (offsets, values));
+            drop_both((data_type, validity), (offsets, values));
             return Err(Error::InvalidArgumentError(Reason::ArrayParts));
         }
         LargeListArray::try_from_rising(alloc, data_type, offsets, values, validity)
@@ -419,7 +419,7 @@ impl LargeListArray {
             validity)) }
     {
         if !fits(&data_type, offsets.as_slice(), &values, &validity) {
-            let_go((data_type, validity), (offsets, values));
+            drop_both((data_type, validity), (offsets, values));
             return Err(Error::InvalidArgumentError(Reason::ArrayParts));
         }
         let shared = both(Buffer::try_from_vec(offsets), Box::new(alloc, values));

@@ -9,7 +9,7 @@ ghost use Rattle.arrow_array.specs.Slots.{is_held, slot_at, slots_of, null_at};
 ghost use Rattle.arrow_array.specs.Parts.{IsRefusalOf};
 
 use crate::Bitmap;
-use crate::drops::let_go;
+use crate::drops::drop_both;
 use arrow_core::{DataType, Error, Reason, Result};
 use std::alloc::Global;
 use std::marker::Model;
@@ -57,7 +57,7 @@ impl NullArray {
         ensures err { IfErr result (IsRefusalOf (data_type ≡ Null)) }
     {
         if !is_null_type(&data_type) {
-            let_go(data_type, count);
+            drop_both(data_type, count);
             return Err(Error::InvalidArgumentError(Reason::ArrayParts));
         }
         Ok(NullArray { data_type, count })

@@ -9,7 +9,7 @@ ghost use Rattle.arrow_array.specs.Parts.{IsPlain, IsRefusalOf, PrimitiveFits, i
 
 use crate::Bitmap;
 use crate::buffer::Buffer;
-use crate::drops::{beside, both, let_go};
+use crate::drops::{beside, both, drop_both};
 use crate::ranges::{Ranged, tell_ranges};
 use crate::validity::{self, slice_with_type};
 use arrow_core::{DataType, Error, NativeType, PhysicalType, Reason, Result};
@@ -93,7 +93,7 @@ impl<T: NativeType> PrimitiveArray<T> {
             (IsRefusalOf (PrimitiveFits T.PRIMITIVE data_type (vec_len values) validity)) }
     {
         if !fits::<T>(&data_type, values.len(), &validity) {
-            let_go((data_type, validity), values);
+            drop_both((data_type, validity), values);
             return Err(Error::InvalidArgumentError(Reason::ArrayParts));
         }
         let values = Buffer::try_from_vec(values);

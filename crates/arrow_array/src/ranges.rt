@@ -7,7 +7,7 @@ use arrow_core::{MonthsDaysNs, NativeType, Offset};
 
 /// A number that lies in the range of its type.
 pub(crate) trait Ranged: NativeType {
-    /// Tells so. It does nothing.
+    /// Lemma: each value is in range.
     fn tell_range(self)
         ensures { IsPrimitive Self.PRIMITIVE (Self.native_slot self) };
 }
@@ -54,7 +54,7 @@ impl Ranged for MonthsDaysNs {
 
 /// An offset that isn't past the greatest of its type.
 pub(crate) trait RangedOffset: Offset {
-    /// Tells so. It does nothing.
+    /// Lemma: each value is in range.
     fn tell_offset_range(self)
         ensures { (n : ℕ) → Self.number self ≡ pos n → n ≤ greatest_offset Self.IS_LARGE };
 }

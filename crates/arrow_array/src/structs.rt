@@ -13,7 +13,7 @@ ghost use Rattle.arrow_array.specs.Parts.{IsRefusalOf};
 
 use crate::Bitmap;
 use crate::array::Array;
-use crate::drops::{both, let_go};
+use crate::drops::{both, drop_both};
 use crate::validity::{self, slice_with_type};
 use arrow_core::{DataType, Error, Field, Reason, Result};
 use std::alloc::Global;
@@ -126,7 +126,7 @@ impl StructArray {
         ensures err { IfErr result (IsRefusalOf (StructFits data_type values.items validity)) }
     {
         if !fits(&data_type, values.as_slice(), &validity) {
-            let_go((data_type, validity), values);
+            drop_both((data_type, validity), values);
             return Err(Error::InvalidArgumentError(Reason::ArrayParts));
         }
         let count = values[0].len();

@@ -11,7 +11,7 @@ ghost use Rattle.arrow_array.specs.Parts.{Utf8Fits, IsRefusalOf, utf8_type};
 
 use crate::Bitmap;
 use crate::buffer::Buffer;
-use crate::drops::{beside, both, let_go};
+use crate::drops::{beside, both, drop_both};
 use crate::offsets::{are_offsets, offset, part_of, whole_bounds};
 use crate::ranges::{RangedOffset, tell_offset_ranges};
 use crate::validity::{self, slice_with_type};
@@ -149,7 +149,7 @@ impl<O: Offset> Utf8Array<O> {
             validity)) }
     {
         if !fits(&data_type, offsets.as_slice(), values.as_slice(), &validity) {
-            let_go((data_type, validity), (offsets, values));
+            drop_both((data_type, validity), (offsets, values));
             return Err(Error::InvalidArgumentError(Reason::ArrayParts));
         }
         Utf8Array::from_parts(data_type, offsets, values, validity)

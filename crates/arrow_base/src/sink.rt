@@ -17,7 +17,7 @@ pub trait Sink {
     ghost faults: { Self → ℕ };
 
     // Which reference it is, where it is one.
-    ghost whose: { Self → ℕ } = { λ _. 0 };
+    ghost identity: { Self → ℕ } = { λ _. 0 };
 
     /// Takes the first of the bytes, of which there is one at least, and answers how many, which is
     /// at least 1. `Failed` is answered only where the count of faults rose, or stands at its last
@@ -30,7 +30,7 @@ pub trait Sink {
         ensures unchanged { OnErr result (Keeps (held self.old) (held self.new)) }
         ensures never_falls { faults self.old ≤ faults self.new }
         ensures cause { OnErr result (RoseOrFull (faults self.old) (faults self.new)) }
-        ensures same { whose self.new ≡ whose self.old };
+        ensures same { identity self.new ≡ identity self.old };
 
     ghost bounded: { (sink : Self) → faults sink ≤ last_count };
 }
@@ -40,7 +40,7 @@ impl<S: Sink> Sink for &mut S {
 
     ghost faults = { λ s. S.faults s.now };
 
-    ghost whose = { λ s. s.ghost_name };
+    ghost identity = { λ s. s.ghost_name };
 
     fn write(&mut self, bytes: &[u8]) -> std::result::Result<usize, Failed> {
         (**self).write(bytes)
@@ -57,7 +57,7 @@ pub fn write_all<K: Sink>(sink: &mut K, bytes: &[u8]) -> Result<()>
     ensures prefix { OnErr result (AppendsPrefix (K.held sink.old) (K.held sink.new) bytes.now) }
     ensures never_falls { K.faults sink.old ≤ K.faults sink.new }
     ensures cause { OnErr result (RoseOrFull (K.faults sink.old) (K.faults sink.new)) }
-    ensures same { K.whose sink.new ≡ K.whose sink.old }
+    ensures same { K.identity sink.new ≡ K.identity sink.old }
 {
     let mut rest = bytes;
     while !rest.is_empty() {

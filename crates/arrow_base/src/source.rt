@@ -16,7 +16,7 @@ pub trait Source {
     ghost faults: { Self → ℕ };
 
     // Which reference it is, where it is one.
-    ghost whose: { Self → ℕ } = { λ _. 0 };
+    ghost identity: { Self → ℕ } = { λ _. 0 };
 
     /// Puts the next bytes at the start of the buffer, which isn't empty, and answers how many; 0
     /// at the end alone. `Failed` is answered only where the count of faults rose, or stands at its
@@ -30,7 +30,7 @@ pub trait Source {
         ensures unchanged { OnErr result (Keeps (left self.old) (left self.new)) }
         ensures never_falls { faults self.old ≤ faults self.new }
         ensures cause { OnErr result (RoseOrFull (faults self.old) (faults self.new)) }
-        ensures same { whose self.new ≡ whose self.old };
+        ensures same { identity self.new ≡ identity self.old };
 
     /// Puts the next bytes at the end of `line`, and answers how many: one at least, and 0 at the
     /// end alone. They are `most` at most, which isn't 0, and none but the last of them is `byte`.
@@ -46,7 +46,7 @@ pub trait Source {
         ensures unchanged { OnErr result (Keeps (left self.old) (left self.new)) }
         ensures unchanged_line { OnErr result (line.new.items ≡ line.old.items) }
         ensures never_falls { faults self.old ≤ faults self.new }
-        ensures same { whose self.new ≡ whose self.old }
+        ensures same { identity self.new ≡ identity self.old }
     {
         line.reserve(1)?;
         let mut next = [0u8; 1];
@@ -76,7 +76,7 @@ impl<S: Source> Source for &mut S {
 
     ghost faults = { λ s. S.faults s.now };
 
-    ghost whose = { λ s. s.ghost_name };
+    ghost identity = { λ s. s.ghost_name };
 
     fn read(&mut self, buffer: &mut [u8]) -> std::result::Result<usize, Failed> {
         (**self).read(buffer)

@@ -73,7 +73,7 @@ fn write_escape<K: Sink>(sink: &mut K, escape: CharEscape) -> Result<()>
         (AppendsPrefix (K.held sink.old) (K.held sink.new) (escape_bytes escape)) }
     ensures never_falls { K.faults sink.old ≤ K.faults sink.new }
     ensures cause { OnErr result (RoseOrFull (K.faults sink.old) (K.faults sink.new)) }
-    ensures same { K.whose sink.new ≡ K.whose sink.old }
+    ensures same { K.identity sink.new ≡ K.identity sink.old }
 {
     match escape {
         CharEscape::Quote => write_all(sink, b"\\\""),
@@ -144,7 +144,7 @@ fn write_escaped<K: Sink>(sink: &mut K, text: &[u8]) -> Result<()>
         (AppendsPrefix (K.held sink.old) (K.held sink.new) (flat_map escaped text.now)) }
     ensures never_falls { K.faults sink.old ≤ K.faults sink.new }
     ensures cause { OnErr result (RoseOrFull (K.faults sink.old) (K.faults sink.new)) }
-    ensures same { K.whose sink.new ≡ K.whose sink.old }
+    ensures same { K.identity sink.new ≡ K.identity sink.old }
 {
     let mut rest = text;
     while let Some((plain, escape)) = next_escape(rest) {
@@ -169,7 +169,7 @@ pub fn write_str<K: Sink>(sink: &mut K, value: &str) -> Result<()>
         (AppendsPrefix (K.held sink.old) (K.held sink.new) (json_string value.now)) }
     ensures never_falls { K.faults sink.old ≤ K.faults sink.new }
     ensures cause { OnErr result (RoseOrFull (K.faults sink.old) (K.faults sink.new)) }
-    ensures same { K.whose sink.new ≡ K.whose sink.old }
+    ensures same { K.identity sink.new ≡ K.identity sink.old }
 {
     write_all(sink, b"\"")?;
     write_escaped(sink, value.as_bytes())?;

@@ -211,7 +211,7 @@ impl MutableArray {
     /// Makes spare capacity at every node for so many more slots and so many more content bytes.
     ///
     /// The slots at every node stay as they are, after `OutOfMemory` too.
-    pub fn reserve_for(&mut self, bytes: usize) -> Result<()>
+    pub fn reserve_for(&mut self, additional: usize) -> Result<()>
         ensures shape { shape self.new ≡ shape self.old }
         ensures kind { builder_kind self.new ≡ builder_kind self.old }
         ensures data_type { builder_type self.new ≡ builder_type self.old }
@@ -219,10 +219,10 @@ impl MutableArray {
         ensures slots_at { slots_at self.new ≡ slots_at self.old }
         ensures tight { IsTight self.old → IsTight self.new }
         ensures capacity { AllZip NoLessSpare (nodes self.old) (nodes self.new) }
-        ensures ok { OnOk result (All (HasSpare bytes) (nodes self.new)) }
+        ensures ok { OnOk result (All (HasSpare additional) (nodes self.new)) }
         ensures memory { OnlyOutOfMemory result }
     {
-        self.reserve_nodes(bytes)
+        self.reserve_nodes(additional)
     }
 
     /// Drops every slot and keeps the capacity. It takes no memory.

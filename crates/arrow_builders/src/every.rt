@@ -43,15 +43,15 @@ impl MutableArray {
 
     /// `reserve_for`, in the children too.
     #[cycle(reserves)]
-    pub(crate) fn reserve_nodes(&mut self, bytes: usize) -> Result<()>
-        ensures { Reserves bytes self.old self.new result }
+    pub(crate) fn reserve_nodes(&mut self, additional: usize) -> Result<()>
+        ensures { Reserves additional self.old self.new result }
     {
         match self {
-            MutableArray::List(builder) => builder.reserve_for(bytes),
-            MutableArray::LargeList(builder) => builder.reserve_for(bytes),
-            MutableArray::FixedSizeList(builder) => builder.reserve_for(bytes),
-            MutableArray::Struct(builder) => builder.reserve_for(bytes),
-            _ => self.reserve_flat(bytes),
+            MutableArray::List(builder) => builder.reserve_for(additional),
+            MutableArray::LargeList(builder) => builder.reserve_for(additional),
+            MutableArray::FixedSizeList(builder) => builder.reserve_for(additional),
+            MutableArray::Struct(builder) => builder.reserve_for(additional),
+            _ => self.reserve_flat(additional),
         }
     }
 

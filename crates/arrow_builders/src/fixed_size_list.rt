@@ -152,11 +152,11 @@ impl MutableFixedSizeListArray {
 
     /// Makes spare capacity for so many more lists, and as much in the child.
     #[cycle(reserves)]
-    pub(crate) fn reserve_for(&mut self, bytes: usize) -> Result<()>
-        ensures { Reserves bytes (FixedSizeList self.old) (FixedSizeList self.new) result }
+    pub(crate) fn reserve_for(&mut self, additional: usize) -> Result<()>
+        ensures { Reserves additional (FixedSizeList self.old) (FixedSizeList self.new) result }
     {
-        self.marks.reserve_for(bytes)?;
-        self.values.reserve_nodes(bytes)
+        self.marks.reserve_for(additional)?;
+        self.values.reserve_nodes(additional)
     }
 
     /// Drops every slot, those of the child too, and keeps the capacity.

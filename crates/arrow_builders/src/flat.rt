@@ -59,11 +59,11 @@ impl MutableArray {
     }
 
     /// Makes spare capacity for so many more slots and content bytes.
-    pub(crate) fn reserve_flat(&mut self, bytes: usize) -> Result<()>
+    pub(crate) fn reserve_flat(&mut self, additional: usize) -> Result<()>
         requires { IsFlat self.old }
-        ensures { Reserves bytes self.old self.new result }
+        ensures { Reserves additional self.old self.new result }
     {
-        for_each_flat_kind!(self, builder => builder.reserve_for(bytes))
+        for_each_flat_kind!(self, builder => builder.reserve_for(additional))
     }
 
     /// Drops every slot and keeps the capacity.

@@ -138,11 +138,11 @@ impl DynMutableListArray {
 
     /// Makes spare capacity for so many more lists, and as much in the child.
     #[cycle(reserves)]
-    pub(crate) fn reserve_for(&mut self, bytes: usize) -> Result<()>
-        ensures { Reserves bytes (List self.old) (List self.new) result }
+    pub(crate) fn reserve_for(&mut self, additional: usize) -> Result<()>
+        ensures { Reserves additional (List self.old) (List self.new) result }
     {
-        self.lists.reserve_for(bytes)?;
-        self.values.reserve_nodes(bytes)
+        self.lists.reserve_for(additional)?;
+        self.values.reserve_nodes(additional)
     }
 
     /// Drops every slot, those of the child too, and keeps the capacity.

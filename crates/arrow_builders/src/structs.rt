@@ -132,11 +132,11 @@ impl DynMutableStructArray {
 
     /// Makes spare capacity for so many more structs, and as much in each child.
     #[cycle(reserves)]
-    pub(crate) fn reserve_for(&mut self, bytes: usize) -> Result<()>
-        ensures { Reserves bytes (Struct self.old) (Struct self.new) result }
+    pub(crate) fn reserve_for(&mut self, additional: usize) -> Result<()>
+        ensures { Reserves additional (Struct self.old) (Struct self.new) result }
     {
-        self.marks.reserve_for(bytes)?;
-        reserve_all(&mut self.values, bytes)
+        self.marks.reserve_for(additional)?;
+        reserve_all(&mut self.values, additional)
     }
 
     /// Drops every slot, those of the children too, and keeps the capacity.
@@ -198,11 +198,11 @@ fn push_null_all(children: &mut [MutableArray]) -> Result<()>
 
 /// Makes spare capacity in each child.
 #[cycle(reserves)]
-fn reserve_all(children: &mut [MutableArray], bytes: usize) -> Result<()>
-    ensures { AllReserve bytes children.old children.new result }
+fn reserve_all(children: &mut [MutableArray], additional: usize) -> Result<()>
+    ensures { AllReserve additional children.old children.new result }
 {
     for i in 0..children.len() {
-        children[i].reserve_nodes(bytes)?;
+        children[i].reserve_nodes(additional)?;
     }
     Ok(())
 }

@@ -1,5 +1,5 @@
 -- Of the same bytes a rewriting has one error at most, those from outside aside.
-use Rattle.std.proofs.Common.{◌≡◌, ◌≢◌, ◌∙◌, ◌⊎◌, inl, inr, ℕ, ◌-◌, ◌≤◌, List, ◌++◌, length, true, Option, Some, None, refl, sym, ap, subst}
+use Rattle.std.proofs.Common.{◌≡◌, ◌≢◌, ◌∙◌, ◌⊎◌, inl, inr, ℕ, ◌-◌, ◌≤◌, List, length, true, Option, Some, None, refl, sym, ap, subst}
 use Rattle.std.proofs.lemmas.Option.{same_Some}
 use Rattle.arrow_base.specs.Outside.{RoseOrFull}
 use Rattle.arrow_core.specs.declared.error.Error.{Error}
@@ -14,18 +14,16 @@ use Rattle.avro_container.specs.Taking.{State, state}
 use Rattle.avro_container.specs.Changes.{Change, change_of, CameFromOutside}
 use Rattle.avro_container.specs.Written.{StopsAtBlock, WithAllRows}
 use Rattle.avro_container.proofs.OneBlock.{AreOne, AreOneOr, or_outside, one_stop}
-use Rattle.avro_container.proofs.Reading.{IsGood, consumed_some}
+use Rattle.avro_container.proofs.Reading.{IsGood}
 use Rattle.avro_container.proofs.Results.{memory_or_not}
 use Rattle.avro_container.proofs.Steps.{rose_from}
-use Rattle.avro_file.specs.Laws.{IsMetadata}
-use Rattle.avro_file.specs.Metadata.{MetadataFails, ReadsMetadata, WriteFails}
-use Rattle.avro_file.proofs.Complete.{metadata_is_read, metadata_is_right}
+use Rattle.avro_file.specs.Metadata.{WriteFails}
 use Rattle.avro_schema.specs.Projected.{CanBeDecoded}
 use Rattle.avro_decode.proofs.Valid.{valid_blocks}
 use Rattle.avro_types.specs.Named.{named_root}
 use Rattle.avro_types.specs.Schemas.{record_of}
 use Rattle.avro_ndjson.proofs.OneBlock.{one_wrong}
-use Rattle.avro_ndjson.proofs.OneMetadata.{one_metadata, reading_of}
+use Rattle.avro_ndjson.proofs.OneMetadata.{told_change, Stands, stands, stands_or_none, stands_once, one_metadata}
 use Rattle.avro_canonical.specs.Canonical.{BlockIsRefused, CanBeRewritten, CannotBeRewritten, RewritesBlock, Rewriting}
 use Rattle.avro_canonical.specs.Rewritten.{BlockNotRewritten, HeaderNotRewritten, RewritingFails, rewriting_of}
 use Rattle.avro_canonical.proofs.Making.{can_be_decoded}
@@ -49,41 +47,6 @@ module _ (w : Rewriting) (can : CanBeDecoded w.decoder) where
   one_refusal b e d h k = one_wrong w.decoder can b e d (inl h) (inl k)
 
 -- ---- the header
-
--- a source told these bytes, and after the call this is left of them
-abbrev told_change : List ℕ → ℕ → Option (List ℕ) → ℕ → Change
-told_change all faults left_after faults_after = change_of (Some all) faults left_after faults_after
-
--- the bytes begin with the metadata, within the limit
-record Stands (all : List ℕ) (limit : ℕ) (root : Record) (marker : List ℕ) : Type 0 where
-  prefix : List ℕ
-  rest : List ℕ
-  joined : all ≡ prefix ++ rest
-  is : IsMetadata prefix root marker
-  within : length prefix ≤ limit
-
-stands : (all : List ℕ) (limit f f_after : ℕ) (left : Option (List ℕ)) (root : Record) (marker : List ℕ) (count : ℕ) → ReadsMetadata (reading_of all limit f left f_after) root marker count → Stands all limit root marker
-stands all limit f f_after left root marker count r =
-    let h = r.header in
-    let t = consumed_some all h.bytes left h.consumed in
-    record {
-      prefix = h.bytes;
-      rest = t.0;
-      joined = t.2;
-      is = record { entries = h.entries; head = h.head; text = r.text; schema = h.schema; means = r.means; codec = h.codec };
-      within = h.within;
-    }
-
--- where metadata stands, no error but out of memory is answered
-stands_or_none : (all : List ℕ) (limit g g_after : ℕ) (also_left : Option (List ℕ)) (root : Record) (marker : List ℕ) → Stands all limit root marker → (RoseOrFull g g_after → ⊥) → (d : Error) → MetadataFails (reading_of all limit g also_left g_after) d → d ≡ OutOfMemory
-stands_or_none all limit g g_after also_left root marker s steady d h =
-    metadata_is_read s.prefix s.rest marker root (reading_of all limit g also_left g_after) (ap (λ (z : List ℕ). Some z) s.joined) s.is s.within steady d h
-
--- and it is what is read
-stands_once : (all : List ℕ) (limit g g_after also_count : ℕ) (also_left : Option (List ℕ)) (root also : Record) (marker also_marker : List ℕ) (s : Stands all limit root marker)
-    → ReadsMetadata (reading_of all limit g also_left g_after) also also_marker also_count → (also ≡ root) × (also_marker ≡ marker) × (also_count ≡ length s.prefix) × (also_left ≡ Some s.rest)
-stands_once all limit g g_after also_count also_left root also marker also_marker s r =
-    metadata_is_right s.prefix s.rest marker root (reading_of all limit g also_left g_after) (ap (λ (z : List ℕ). Some z) s.joined) s.is also_marker also also_count r
 
 -- a new header fails for memory or the sink alone
 header_fails : (sink : Change) (bytes : List ℕ) (e : Error) → WriteFails sink.bytes sink.bytes_after sink.faults sink.faults_after bytes e → CameFromOutside sink e

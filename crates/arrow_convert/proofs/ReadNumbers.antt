@@ -1,5 +1,5 @@
--- A text gives sizes up to 2147483647 alone, and decimals as the standard has them; the record of the columns of a record that
--- was read has no others.
+-- A text gives sizes up to 2147483647 alone, and decimals as the standard has them; the columns of a record that was read have
+-- no others.
 use Rattle.std.proofs.Common.{◌≡◌, ◌∙◌, ℕ, zero, suc, Bool, true, false, ◌&&◌, ◌==◌, cond, nat_lt, nat_le, List, [], ◌∷◌, length, map, codes, Option, Some, None, IfSome, option_and_then, refl, sym, ap, subst}
 use Rattle.std.specs.List.{AllByRecursion, list_all}
 use Rattle.std.specs.Prelude.{unwrap_or}
@@ -46,9 +46,8 @@ use Rattle.avro_file.specs.Types.{bytes_logical, decimal_of, digits_of, duration
 use Rattle.avro_file.specs.Writable.{is_decimal, logical_fits}
 use Rattle.avro_types.specs.Listed.{HasNoFields}
 use Rattle.avro_types.proofs.ByFields.{list_schema}
-use Rattle.arrow_convert.specs.ReadAgain.{RewrittenIsWritable}
 use Rattle.arrow_convert.proofs.ByParts.{EachType}
-use Rattle.arrow_convert.proofs.Fitting.{Fits, flat_fits, listed_fits, struct_fits, target_fits, type_fits}
+use Rattle.arrow_convert.proofs.Fitting.{Fits, flat_fits, listed_fits, struct_fits, type_fits}
 
 -- ---- the numbers of a text
 
@@ -236,21 +235,21 @@ enum_is e = no_record (Enum e) refl (flat_gives (Enum e) symbol_type refl tt ref
 
 -- ---- what holds of all that is found
 
-abbrev OfFound : {A : Type 0} → (A → Type 0) → Outcome A → Type 0
+abbrev pub OfFound : {A : Type 0} → (A → Type 0) → Outcome A → Type 0
 OfFound P wrong = Unit {0}
 OfFound P reference = Unit {0}
 OfFound P (found x) = P x
 
-of_then : {A B : Type 0} (P : A → Type 0) (Q : B → Type 0) (f : A → B) → ((x : A) → P x → Q (f x)) → (o : Outcome A) → OfFound P o → OfFound Q (then_for f o)
+pub of_then : {A B : Type 0} (P : A → Type 0) (Q : B → Type 0) (f : A → B) → ((x : A) → P x → Q (f x)) → (o : Outcome A) → OfFound P o → OfFound Q (then_for f o)
 of_then P Q f h wrong p = tt
 of_then P Q f h reference p = tt
 of_then P Q f h (found x) p = h x p
 
-of_needed : {A B : Type 0} (Q : B → Type 0) (f : A → Outcome B) (o : Option A) → ((x : A) → o ≡ Some x → OfFound Q (f x)) → OfFound Q (need o f)
+pub of_needed : {A B : Type 0} (Q : B → Type 0) (f : A → Outcome B) (o : Option A) → ((x : A) → o ≡ Some x → OfFound Q (f x)) → OfFound Q (need o f)
 of_needed Q f None h = tt
 of_needed Q f (Some x) h = h x refl
 
-of_one_more : {A : Type 0} (P : A → Type 0) (one : Outcome A) (more : Outcome (List A)) → OfFound P one → OfFound (AllByRecursion P) more → OfFound (AllByRecursion P) (one_more one more)
+pub of_one_more : {A : Type 0} (P : A → Type 0) (one : Outcome A) (more : Outcome (List A)) → OfFound P one → OfFound (AllByRecursion P) more → OfFound (AllByRecursion P) (one_more one more)
 of_one_more P wrong more p q = tt
 of_one_more P reference wrong p q = tt
 of_one_more P reference reference p q = tt
@@ -263,7 +262,7 @@ of_each : {A X : Type 0} (P : A → Type 0) (f : X → Outcome A) → ((x : X) �
 of_each P f h [] = tt
 of_each P f h (x ∷ xs) = of_one_more P (f x) (each (map f xs)) (h x) (of_each P f h xs)
 
-looked_up : {V : Type 0} (P : V → Type 0) (name : List ℕ) (table : List (List ℕ × V)) → AllByRecursion (λ (entry : List ℕ × V). P entry.1) table → IfSome (value_of name table) P
+pub looked_up : {V : Type 0} (P : V → Type 0) (name : List ℕ) (table : List (List ℕ × V)) → AllByRecursion (λ (entry : List ℕ × V). P entry.1) table → IfSome (value_of name table) P
 looked_up P name [] all = tt
 looked_up P name (entry ∷ more) all = by (bytes_eq entry.0 name) (looked_up P name more all.1)
   where
@@ -310,7 +309,7 @@ enum_reads o =
     anything reference = tt
     anything (found x) = tt
 
-abbrev fixed_made : List ℕ → ℕ → Attributes → TheFixed
+abbrev pub fixed_made : List ℕ → ℕ → Attributes → TheFixed
 fixed_made name size o = record { name = name; namespace = string_at (codes "namespace") o; doc = string_at (codes "doc") o; size = size; logical = fixed_logical size o }
 
 fixed_reads : (o : Attributes) → OfFound IsRead (fixed_of o)
@@ -406,11 +405,3 @@ pub columns_fit : (text : List ℕ) (root : TheRecord) (columns : List Field) �
 columns_fit text root columns h e =
     let read : IsRead (Record root) = subst (OfFound IsRead) h.2 (schema_reads 129 h.0) in
     columns_give own_doc (out-Record root).fields read.fields columns e
-
--- ---- the record of a rewritten file
-
-pub rewritten_is_writable : RewrittenIsWritable
-rewritten_is_writable name marker limit source sink count r utf8 nested =
-    let form = r.rewrites.form in
-    let all = columns_fit form.is_file.text form.root form.columns form.is_file.means.means form.can.inferred in
-    record { utf8 = utf8; numbers = target_fits form.columns name form.nameless r.rewrites.target form.can.recorded r.rewrites.named all; nested = nested }

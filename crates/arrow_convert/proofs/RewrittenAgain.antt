@@ -32,10 +32,11 @@ use Rattle.avro_canonical.proofs.Complete.{files_are_rewritten}
 use Rattle.avro_canonical.proofs.Making.{can_be_decoded}
 use Rattle.avro_canonical.proofs.Rewriting.{kept_whole, row_count}
 use Rattle.arrow_convert.specs.Laws.{with_rows}
-use Rattle.arrow_convert.specs.ReadAgain.{AreShort, IsRewrittenFile, RewrittenDoesNotFail, RewrittenIsFile, RewrittenIsSame, blocks_of}
+use Rattle.arrow_convert.specs.ReadAgain.{AreShort, CanBeRead, IsRewrittenFile, RewrittenDoesNotFail, RewrittenIsFile, RewrittenIsSame, blocks_of}
 use Rattle.arrow_convert.proofs.Files.{AreFilled, all_taken, got_is, is_avro_file}
 use Rattle.arrow_convert.proofs.Forms.{of_rows, one_canonical_form}
 use Rattle.arrow_convert.proofs.ReadNumbers.{column_type}
+use Rattle.arrow_convert.proofs.RewrittenWritable.{rewritten_is_writable}
 use Rattle.arrow_convert.proofs.SmallForms.{record_same}
 use Rattle.arrow_convert.proofs.Targets.{AreTargets, are_targets}
 
@@ -110,11 +111,14 @@ module _ (name marker bytes : List ℕ) (count : ℕ) (f : IsRewrittenFile name 
   filled ([] ∷ tables) h = filled tables h.1
   filled ((row ∷ table) ∷ tables) h = (filled_table (row ∷ table) h.0, filled tables h.1)
 
+  can_be_read : CanBeRead r.target marker bytes
+  can_be_read = record { writable = rewritten_is_writable name marker f.limit f.source f.sink count f.rewrites f.named; sixteen = f.sixteen; few = f.few }
+
   is_canonical : bytes ≡ canonical_file r.target marker (blocks_of f)
   is_canonical = got_is f.sink bytes f.rewrites.text f.got f.rewrites.written ∙ r.is
 
   is_file : AvroFile bytes r.target marker (blocks_of f)
-  is_file = is_avro_file r.target marker bytes (blocks_of f) f.can_be_read is_canonical (filled r.form.tables r.encoded)
+  is_file = is_avro_file r.target marker bytes (blocks_of f) can_be_read is_canonical (filled r.form.tables r.encoded)
 
   encoded_rows : (tables : List (List (List Slot))) → AllByRecursion (HasEncodings gs) tables → AllByRecursion (HasEncodings gs) (with_rows tables)
   encoded_rows [] h = tt

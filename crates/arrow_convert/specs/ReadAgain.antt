@@ -1,5 +1,5 @@
 -- What a second call says of a file that a first one wrote.
-use Rattle.std.specs.Prelude.{◌≡◌, ℕ, ◌^◌, ◌<◌, ◌≤◌, true, List, ◌++◌, length, map, All, Some, None}
+use Rattle.std.specs.Prelude.{◌≡◌, ℕ, ◌+◌, ◌^◌, ◌<◌, ◌≤◌, true, List, ◌++◌, length, map, All, Some, None}
 use Rattle.std.specs.List.{AllByRecursion, list_all}
 use Rattle.std.specs.Io.KnownBytes.{Appends}
 use Rattle.std.specs.Str.{IsUtf8}
@@ -23,8 +23,9 @@ use Rattle.ndjson_avro.specs.Conversion as to_file
 use Rattle.ndjson_avro.specs.Rows.{all_rows, rows_blocks}
 use Rattle.ndjson_avro.specs.Target.{HasTarget}
 use Rattle.avro_canonical.specs.Rewritten.{Rewrites, RewritingFails, table_blocks}
+use Rattle.arrow_convert.specs.Brackets.{NamesAreUtf8, brackets_of}
 
--- the sink tells its bytes, and got these
+-- the contract knows the sink's bytes, and got these
 pub record Got (sink : Change) (bytes : List ℕ) : Type 0 where
   pub before : List ℕ
   pub told : sink.bytes ≡ Some before
@@ -76,6 +77,14 @@ RecordsAreWritable =
     → IsUtf8 (schema_text_of (schema.Record target)) → (HoldsTooMany (schema_text_of (schema.Record target)) → ⊥)
     → IsWritable (schema.Record target)
 
+-- that is so where the name and those of the fields, at every depth, are UTF-8, as that of any `&str` or `Text` is, and the
+-- schemas of the columns have at most 125 brackets, within the three of the record, of its fields and of each of these
+abbrev pub ShallowRecordsAreWritable : Type 0
+ShallowRecordsAreWritable =
+    (fields : List Field) (name : List ℕ) (target : Record) → HasTarget fields name target
+    → IsUtf8 name → NamesAreUtf8 fields → 3 + brackets_of fields ≤ 128
+    → IsWritable (schema.Record target)
+
 -- such a file is an Avro file
 abbrev pub LinesAreFile : Type 0
 LinesAreFile =
@@ -98,21 +107,24 @@ LinesDoNotFail =
 
 -- ---- rewriting twice
 
--- A file was rewritten into one that can be read: these are its bytes, and so many rows were written.
+-- A file was rewritten: these are the bytes that were written, and so many rows. The name is UTF-8, as that of any `&str` is, the
+-- sync marker has sixteen bytes (Avro 1.11, "Object Container Files"), and a number of 64 bits counts the bytes.
 pub record IsRewrittenFile (name marker bytes : List ℕ) (count : ℕ) : Type 0 where
   pub limit : ℕ
   pub source : Change
   pub sink : Change
   pub rewrites : Rewrites name marker limit source sink count
   pub got : Got sink bytes
-  pub can_be_read : CanBeRead rewrites.rewrites.target marker bytes
+  pub named : IsUtf8 name
+  pub sixteen : length marker ≡ 16
+  pub few : length bytes < 2 ^ 63
 
--- the record of a rewritten file, too, can be read back where its text is UTF-8, as it is where the names are, and nests at most 128 deep
+-- The record of a rewritten file can be read back: the names of its fields come from a text that is UTF-8 and nests at most 128
+-- deep, and no part of its own text stands in more brackets than what it comes from.
 abbrev pub RewrittenIsWritable : Type 0
 RewrittenIsWritable =
     (name marker : List ℕ) (limit : ℕ) (source sink : Change) (count : ℕ) (r : Rewrites name marker limit source sink count)
-    → IsUtf8 (schema_text_of (schema.Record r.rewrites.target)) → (HoldsTooMany (schema_text_of (schema.Record r.rewrites.target)) → ⊥)
-    → IsWritable (schema.Record r.rewrites.target)
+    → IsUtf8 name → IsWritable (schema.Record r.rewrites.target)
 
 -- its blocks: the canonical ones of those that have a row
 abbrev pub blocks_of : {name marker bytes : List ℕ} {count : ℕ} → IsRewrittenFile name marker bytes count → List FileBlock

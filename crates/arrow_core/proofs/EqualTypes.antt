@@ -1,16 +1,14 @@
 -- `==` of types and of fields is true of equal ones alone.
-use mathlib.Core.Logic.{inl, inr}
-use mathlib.Core.Bool.{true≢false, beq}
+use mathlib.Core.Bool.{beq}
 use lib.Pointwise.{pointwise}
 use lib.Dec.{eqb}
-use denote.Struct.Field.{Field as Part}
 use denote.Enum.Bare.{sameb, same_true}
-use denote.Enum.Compared.{Each, by}
-use denote.Enum.Declared.{Choice, values_one}
+use denote.Enum.Compared.{Each}
+use denote.Enum.Declared.{values_one}
 use denote.Hole.Holds.{Such}
-use Rattle.std.proofs.Common.{◌≡◌, ◌↔◌, refl, sym, ◌∙◌, ap, subst, ℕ, Bool, true, false, ◌&&◌, List, [], ◌∷◌, map, Option, Some, None, int_eq, ℤ, rules}
+use Rattle.std.proofs.Common.{◌≡◌, ◌↔◌, refl, sym, ◌∙◌, subst, ℕ, Bool, true, ◌&&◌, List, int_eq, rules}
 use Rattle.std.specs.Option.{option_eq}
-use Rattle.std.specs.Cmp.{signed_Decides, unsigned_Decides}
+use Rattle.arrow_core.proofs.Comparisons.{Tells, and_true, both, one, listed, list, optional, number, boolean, integer, text, TellsAt, told_by, point, bare}
 use Rattle.arrow_core.specs.declared.types.DataType.{DataType}
 use Rattle.arrow_core.specs.declared.types.Field.{Field}
 use Rattle.arrow_core.specs.declared.types.IntegerType.{IntegerType}
@@ -35,62 +33,6 @@ use Rattle.arrow_core.specs.contracts.types.DataTypeEq.TheImpl.Laws as type_equa
 use Rattle.arrow_core.specs.contracts.types.FieldEq.TheImpl.Laws as field_equality
 use Rattle.arrow_core.specs.contracts.types.SchemaEq.TheImpl.Laws as schema_equality
 
--- the test is true of x and no other
-abbrev Tells : {A : Type 0} → (A → A → Bool) → A → Type 0
-Tells {A} same x = (y : A) → same x y ≡ true → x ≡ y
-
-and_true : (a b : Bool) → (a && b) ≡ true → (a ≡ true) × (b ≡ true)
-and_true true b h = (refl, h)
-and_true false b h = absurd (true≢false (sym h))
-
-both : {A B : Type 0} (E : A → A → Bool) (F : B → B → Bool) (x : A) (y : B) → Tells E x → Tells F y → Tells (λ (p q : A × B). E p.0 q.0 && F p.1 q.1) (x, y)
-both E F x y t u z h =
-    let k = and_true (E x z.0) (F y z.1) h in
-    let p = t z.0 k.0 in
-    let q = u z.1 k.1 in
-    λ i. (p i, q i)
-
-one : {A : Type 0} (E : A → A → Bool) (x : A) → Tells E x → Tells (λ (p q : A × Unit {0}). E p.0 q.0) (x, tt)
-one E x t z h = let p = t z.0 h in λ i. (p i, tt)
-
-listed : {A X : Type 0} (E : X → X → Bool) (f : A → X) → ((a : A) → Tells E (f a)) → (xs : List A) → Tells (pointwise E) (map f xs)
-listed E f t [] [] h = refl
-listed E f t [] (y ∷ ys) h = absurd (true≢false (sym h))
-listed E f t (x ∷ xs) [] h = absurd (true≢false (sym h))
-listed E f t (x ∷ xs) (y ∷ ys) h =
-    let k = and_true (E (f x) y) (pointwise E (map f xs) ys) h in
-    let p = t x y k.0 in
-    let q = listed E f t xs ys k.1 in
-    λ i. p i ∷ q i
-
-list : {X : Type 0} (E : X → X → Bool) → ((x : X) → Tells E x) → (xs : List X) → Tells (pointwise E) xs
-list E t [] [] h = refl
-list E t [] (y ∷ ys) h = absurd (true≢false (sym h))
-list E t (x ∷ xs) [] h = absurd (true≢false (sym h))
-list E t (x ∷ xs) (y ∷ ys) h =
-    let k = and_true (E x y) (pointwise E xs ys) h in
-    let p = t x y k.0 in
-    let q = list E t xs ys k.1 in
-    λ i. p i ∷ q i
-
-optional : {X : Type 0} (E : X → X → Bool) → ((x : X) → Tells E x) → (o : Option X) → Tells (option_eq E) o
-optional E t None None h = refl
-optional E t None (Some y) h = absurd (true≢false (sym h))
-optional E t (Some x) None h = absurd (true≢false (sym h))
-optional E t (Some x) (Some y) h = ap Some (t x y h)
-
-number : (n : ℕ) → Tells eqb n
-number n m h = (unsigned_Decides n m).0 h
-
-boolean : (b : Bool) → Tells beq b
-boolean true true h = refl
-boolean true false h = absurd (true≢false (sym h))
-boolean false true h = absurd (true≢false (sym h))
-boolean false false h = refl
-
-integer : (n : ℤ) → Tells int_eq n
-integer n m h = (signed_Decides n m).0 h
-
 time_unit_told : (u : TimeUnit) → Tells (sameb time_unit.the_type) u
 time_unit_told u v h = same_true time_unit.the_type (search rules) u v h
 
@@ -102,9 +44,6 @@ union_mode_told u v h = same_true union_mode.the_type (search rules) u v h
 
 integer_type_told : (u : IntegerType) → Tells (sameb integer_type.the_type) u
 integer_type_told u v h = same_true integer_type.the_type (search rules) u v h
-
-pub text : (s : List ℕ) → Tells (pointwise eqb) s
-text = list eqb number
 
 abbrev Entry : Type 0
 Entry = List ℕ × List ℕ
@@ -118,25 +57,9 @@ types_eq = type_laws.family member-DataType
 abbrev pub fields_eq : Field → Field → Bool
 fields_eq = type_laws.family member-Field
 
-abbrev point : Unit {0} → Unit {0} → Bool
-point a b = true
-
 -- the tests of the variants, in order
 abbrev tests_by_variant : Each Bool the_types.the_parts
 tests_by_variant = (point, (point, (point, (point, (point, (point, (point, (point, (point, (point, (point, (point, (point, ((λ p q. sameb time_unit.the_type p.0 q.0 && option_eq (pointwise eqb) p.1.0 q.1.0), (point, (point, ((λ p q. sameb time_unit.the_type p.0 q.0), ((λ p q. sameb time_unit.the_type p.0 q.0), ((λ p q. sameb time_unit.the_type p.0 q.0), ((λ p q. sameb interval_unit.the_type p.0 q.0), (point, ((λ p q. eqb p.0 q.0), (point, (point, (point, ((λ p q. fields_eq p.0 q.0), ((λ p q. fields_eq p.0 q.0 && eqb p.1.0 q.1.0), ((λ p q. fields_eq p.0 q.0), ((λ p q. pointwise fields_eq p.0 q.0), ((λ p q. fields_eq p.0 q.0 && beq p.1.0 q.1.0), ((λ p q. pointwise fields_eq p.0 q.0 && (option_eq (pointwise int_eq) p.1.0 q.1.0 && sameb union_mode.the_type p.1.1.0 q.1.1.0)), ((λ p q. sameb integer_type.the_type p.0 q.0 && (types_eq p.1.0 q.1.0 && beq p.1.1.0 q.1.1.0)), ((λ p q. eqb p.0 q.0 && eqb p.1.0 q.1.0), ((λ p q. eqb p.0 q.0 && eqb p.1.0 q.1.0), ((λ p q. pointwise eqb p.0 q.0 && (types_eq p.1.0 q.1.0 && option_eq (pointwise eqb) p.1.1.0 q.1.1.0)), tt)))))))))))))))))))))))))))))))))))
-
--- the test of the variant is true of its values and no others
-abbrev TellsAt : (Fss : List (List Part)) → Each Bool Fss → Choice Fss → Type 0
-TellsAt [] es c = Unit {0}
-TellsAt (Fs ∷ Fss) es (inl x) = Tells es.0 x
-TellsAt (Fs ∷ Fss) es (inr c) = TellsAt Fss es.1 c
-
-told_by : (Fss : List (List Part)) (es : Each Bool Fss) (c d : Choice Fss) → TellsAt Fss es c → by false false Fss es c d ≡ true → c ≡ d
-told_by [] es c d t h = absurd c
-told_by (Fs ∷ Fss) es (inl x) (inl y) t h = ap inl (t y h)
-told_by (Fs ∷ Fss) es (inl x) (inr d) t h = absurd (true≢false (sym h))
-told_by (Fs ∷ Fss) es (inr c) (inl y) t h = absurd (true≢false (sym h))
-told_by (Fs ∷ Fss) es (inr c) (inr d) t h = ap inr (told_by Fss es.1 c d t h)
 
 abbrev TypeTold : DataType → Type 0
 TypeTold = Tells types_eq
@@ -153,9 +76,6 @@ SuchType = Such the_family (folds.claims TypeTold FieldTold) member-DataType
 
 abbrev SuchField : Type 0
 SuchField = Such the_family (folds.claims TypeTold FieldTold) member-Field
-
-bare : (y : Unit {0}) → true ≡ true → tt ≡ y
-bare y h = refl
 
 layer_told : (y : layer.DataType-F SuchType SuchField)
     → TellsAt the_types.the_parts tests_by_variant (split-DataType the_family (folds.map-DataType SuchType SuchField DataType Field (λ e. e.0) (λ e. e.0) y))

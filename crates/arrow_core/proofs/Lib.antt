@@ -1,4 +1,5 @@
 pub mod Beneath
+pub mod Comparisons
 mod Ends
 pub mod EntryLaws
 pub mod EntryViews

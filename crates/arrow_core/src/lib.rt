@@ -1,6 +1,6 @@
 //! What everything here stands on: the error of every call and its reasons, the list types that
-//! contracts see as what they hold, the types of columns, the numbers that columns hold, and the
-//! slots that contracts speak of.
+//! contracts see as what they hold, the types of columns, the numbers that columns hold, the slots
+//! that contracts speak of, and whether bytes are UTF-8.
 #![tactic(auto)]
 
 mod boxed;

@@ -158,16 +158,16 @@ impl MutableBooleanArray {
 
     /// Makes spare capacity for so many more slots. `OutOfMemory` leaves the slots as they are.
     #[inline]
-    pub fn reserve_for(&mut self, bytes: usize) -> Result<()>
+    pub fn reserve_for(&mut self, additional: usize) -> Result<()>
         ensures data_type { self.new.data_type ≡ self.old.data_type }
         ensures slots { self.new.slots ≡ self.old.slots }
         ensures memory { OnlyOutOfMemory result }
         ensures capacity { NoLessSpare (plain_node self.old) (plain_node self.new) }
-        ensures ok { OnOk result (HasSpare bytes (plain_node self.new)) }
-        ensures has_capacity { bytes ≤ self.old.spare → IsOk result }
+        ensures ok { OnOk result (HasSpare additional (plain_node self.new)) }
+        ensures has_capacity { additional ≤ self.old.spare → IsOk result }
     {
-        self.values.reserve(bytes)?;
-        self.validity.reserve(bytes)?;
+        self.values.reserve(additional)?;
+        self.validity.reserve(additional)?;
         Ok(())
     }
 

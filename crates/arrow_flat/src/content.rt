@@ -170,13 +170,6 @@ impl<C: Content, O: Offset> MutableContentArray<C, O> {
         self.validity.len()
     }
 
-    /// How many bytes the slots have together.
-    pub fn byte_len(&self) -> usize
-        ensures { result ≡ self.now.bytes }
-    {
-        self.values.len()
-    }
-
     /// The data type: that of the content, with such offsets.
     pub fn data_type(&self) -> &DataType
         ensures same { result.now ≡ self.now.data_type }
@@ -248,17 +241,17 @@ impl<C: Content, O: Offset> MutableContentArray<C, O> {
 
     /// Makes spare capacity for so many more slots and bytes. `OutOfMemory` leaves the slots as
     /// they are.
-    pub fn reserve_for(&mut self, bytes: usize) -> Result<()>
+    pub fn reserve_for(&mut self, additional: usize) -> Result<()>
         ensures data_type { self.new.data_type ≡ self.old.data_type }
         ensures slots { self.new.slots ≡ self.old.slots }
         ensures bytes { self.new.bytes ≡ self.old.bytes }
         ensures memory { OnlyOutOfMemory result }
         ensures capacity { NoLessSpare (content_node self.old) (content_node self.new) }
-        ensures ok { OnOk result (HasSpare bytes (content_node self.new)) }
+        ensures ok { OnOk result (HasSpare additional (content_node self.new)) }
     {
-        self.offsets.reserve(bytes)?;
-        self.validity.reserve(bytes)?;
-        self.values.reserve(bytes)?;
+        self.offsets.reserve(additional)?;
+        self.validity.reserve(additional)?;
+        self.values.reserve(additional)?;
         Ok(())
     }
 

@@ -139,15 +139,15 @@ impl FixedItemsUtf8Dictionary {
     }
 
     /// Makes spare capacity for so many more slots. `OutOfMemory` leaves the slots as they are.
-    pub fn reserve_for(&mut self, bytes: usize) -> Result<()>
+    pub fn reserve_for(&mut self, additional: usize) -> Result<()>
         ensures data_type { self.new.data_type ≡ self.old.data_type }
         ensures items { self.new.items ≡ self.old.items }
         ensures slots { self.new.slots ≡ self.old.slots }
         ensures memory { OnlyOutOfMemory result }
         ensures capacity { NoLessSpare (dictionary_node self.old) (dictionary_node self.new) }
-        ensures ok { OnOk result (HasSpare bytes (dictionary_node self.new)) }
+        ensures ok { OnOk result (HasSpare additional (dictionary_node self.new)) }
     {
-        self.keys.reserve_for(bytes)
+        self.keys.reserve_for(additional)
     }
 
     /// Drops every slot and keeps the capacity and the values.

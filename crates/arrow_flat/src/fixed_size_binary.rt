@@ -196,16 +196,16 @@ impl MutableFixedSizeBinaryArray {
 
     /// Makes spare capacity for so many more slots and bytes. `OutOfMemory` leaves the slots as
     /// they are.
-    pub fn reserve_for(&mut self, bytes: usize) -> Result<()>
+    pub fn reserve_for(&mut self, additional: usize) -> Result<()>
         ensures data_type { self.new.data_type ≡ self.old.data_type }
         ensures slots { self.new.slots ≡ self.old.slots }
         ensures bytes { self.new.bytes ≡ self.old.bytes }
         ensures memory { OnlyOutOfMemory result }
         ensures capacity { NoLessSpare (content_node self.old) (content_node self.new) }
-        ensures ok { OnOk result (HasSpare bytes (content_node self.new)) }
+        ensures ok { OnOk result (HasSpare additional (content_node self.new)) }
     {
-        self.validity.reserve(bytes)?;
-        self.values.reserve(bytes)?;
+        self.validity.reserve(additional)?;
+        self.values.reserve(additional)?;
         Ok(())
     }
 

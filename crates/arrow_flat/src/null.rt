@@ -100,14 +100,14 @@ impl MutableNullArray {
     }
 
     /// Whether there is spare capacity for so many more slots; `OutOfMemory` where there isn't.
-    pub fn reserve_for(&mut self, bytes: usize) -> Result<()>
+    pub fn reserve_for(&mut self, additional: usize) -> Result<()>
         ensures data_type { self.new.data_type ≡ self.old.data_type }
         ensures slots { self.new.slots ≡ self.old.slots }
         ensures memory { OnlyOutOfMemory result }
         ensures capacity { NoLessSpare (plain_node self.old) (plain_node self.new) }
-        ensures ok { OnOk result (HasSpare bytes (plain_node self.new)) }
+        ensures ok { OnOk result (HasSpare additional (plain_node self.new)) }
     {
-        if bytes > usize::MAX - self.count {
+        if additional > usize::MAX - self.count {
             return Err(Error::OutOfMemory);
         }
         Ok(())

@@ -1,4 +1,4 @@
--- Of a source that tells its bytes: a file that has a canonical form is rewritten, and no other error than that of its
+-- Of a source whose bytes the contract knows: a file that has a canonical form is rewritten, and no other error than that of its
 -- fields is answered where they can't be rewritten.
 use Rattle.std.proofs.Common.{◌≡◌, ◌≢◌, ◌∙◌, ◌⊎◌, inl, inr, ℕ, zero, suc, ◌+◌, ◌-◌, ◌≤◌, List, [], ◌∷◌, ◌++◌, length, All, Option, Some, None, refl, sym, ap, subst, length-append, arith}
 use Rattle.std.proofs.lemmas.List.{append-nil}

@@ -1,4 +1,4 @@
--- What a rewriting of a file answers where the source tells its bytes.
+-- What a rewriting of a file answers where the contract knows the source's bytes.
 use Rattle.std.specs.Prelude.{◌≡◌, ◌≢◌, ℕ, List, ◌++◌, Some, ◌⊎◌}
 use Rattle.arrow_core.specs.declared.error.Error.{Error}
 use Rattle.arrow_core.specs.declared.error.Error.TheVariants.{OutOfMemory}

@@ -57,7 +57,7 @@ pub record RewritesFile (name marker bytes text : List ℕ) (count : ℕ) : Type
 -- ---- the whole rewriting
 
 -- All bytes of the source, no more than the limit, are a file, and the sink got its canonical form. Of a source or a
--- sink that tells its bytes, these are the bytes.
+-- sink whose bytes the contract knows, these are the bytes.
 pub record Rewrites (name marker : List ℕ) (limit : ℕ) (source sink : Change) (count : ℕ) : Type 0 where
   pub bytes : List ℕ
   pub text : List ℕ

@@ -1,4 +1,4 @@
--- Of a source that tells its bytes: a block or header that stands there within the limit is read, and each error
+-- Of a source whose bytes the contract knows: a block or header that stands there within the limit is read, and each error
 -- that speaks of the bytes is right.
 use Rattle.std.proofs.Common.{◌≡◌, ◌≢◌, ℕ, ◌≤◌, true, ◌⊎◌, inl, inr, List, [], ◌∷◌, ◌++◌, length, Option, Some, None, refl, sym, ◌∙◌, ap, subst, append_assoc, arith}
 use Rattle.std.proofs.lemmas.List.{append-nil}

@@ -1,4 +1,4 @@
--- Of a source that tells its bytes: where they are blocks that can be written, no other error comes than from outside.
+-- Of a source whose bytes the contract knows: where they are blocks that can be written, no other error comes than from outside.
 use Rattle.std.proofs.Common.{◌≡◌, ◌∙◌, inl, inr, ℕ, zero, suc, ◌+◌, ◌≤◌, List, [], ◌∷◌, ◌++◌, length, All, Option, Some, None, refl, sym, ap, subst, append_assoc, length-append, arith}
 use Rattle.std.proofs.lemmas.List.{append_cancel_left}
 use Rattle.std.specs.Io.KnownBytes.{Consumes}

@@ -23,7 +23,7 @@ Failed change = RoseOrFull change.faults change.faults_after
 abbrev pub header_of : ℕ → Change → Option (List ℕ) → ℕ → SourceChange
 header_of limit source left faults = record { left = source.bytes; faults = source.faults; left_after = left; faults_after = faults; limit = limit }
 
--- ---- of a source that tells its bytes
+-- ---- of a source whose bytes the contract knows
 
 -- the source told these bytes, no more than the limit, and didn't fail
 pub record IsTold (source : Change) (limit : ℕ) (bytes : List ℕ) : Type 0 where

@@ -33,7 +33,7 @@ fn take_block<S: Source>(
         (state_of S.left S.faults source.new allowed.new)) }
     ensures grown { vec_len bytes.new
         ≤ max (vec_len bytes.old) (allowed.old.limit - allowed.new.limit + 65536) }
-    ensures same { S.whose source.new ≡ S.whose source.old }
+    ensures same { S.identity source.new ≡ S.identity source.old }
 {
     let rows = count(source, allowed)?;
     let size = count(source, allowed)?;
@@ -112,7 +112,7 @@ impl<S: Source> BlockReader<S> {
             ≤ max (length block.old.bytes) (limit_of self.old - limit_of self.new + 65536) }
         ensures never_falls { S.faults (source_of self.old) ≤ S.faults (source_of self.new) }
         ensures marker { marker_of self.new ≡ marker_of self.old }
-        ensures same { S.whose (source_of self.new) ≡ S.whose (source_of self.old) }
+        ensures same { S.identity (source_of self.new) ≡ S.identity (source_of self.old) }
     {
         if let Some(error) = self.failed {
             return Err(error);
@@ -141,7 +141,7 @@ impl<S: Source> BlockReader<S> {
         ensures kept { (marker_of self.new ≡ marker_of self.old)
             × (has_ended self.new ≡ has_ended self.old)
             × (failure_of self.new ≡ failure_of self.old) }
-        ensures same { S.whose (source_of self.new) ≡ S.whose (source_of self.old) }
+        ensures same { S.identity (source_of self.new) ≡ S.identity (source_of self.old) }
     {
         let bytes = block.bytes.as_mut_vec();
         let mut allowed = Allowance {

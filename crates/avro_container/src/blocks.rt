@@ -70,8 +70,8 @@ fn write_next<S: Source, E: EncodesBlocks, K: Sink>(
     ensures encoder { encoder.new ≡ encoder.old }
     ensures never_falls { S.faults (source_of reader.old) ≤ S.faults (source_of reader.new) }
     ensures never_falls_sink { K.faults sink.old ≤ K.faults sink.new }
-    ensures same { S.whose (source_of reader.new) ≡ S.whose (source_of reader.old) }
-    ensures same_sink { K.whose sink.new ≡ K.whose sink.old }
+    ensures same { S.identity (source_of reader.new) ≡ S.identity (source_of reader.old) }
+    ensures same_sink { K.identity sink.new ≡ K.identity sink.old }
 {
     if !reader.next(&mut buffers.block)? {
         return Ok(None);
@@ -107,8 +107,8 @@ pub fn write_blocks<S: Source, E: EncodesBlocks, K: Sink>(
         (change_of (K.held sink.old) (K.faults sink.old) (K.held sink.new) (K.faults sink.new))) }
     ensures never_falls { S.faults (source_of reader.old) ≤ S.faults (source_of reader.new) }
     ensures never_falls_sink { K.faults sink.old ≤ K.faults sink.new }
-    ensures same { S.whose (source_of reader.new) ≡ S.whose (source_of reader.old) }
-    ensures same_sink { K.whose sink.new ≡ K.whose sink.old }
+    ensures same { S.identity (source_of reader.new) ≡ S.identity (source_of reader.old) }
+    ensures same_sink { K.identity sink.new ≡ K.identity sink.old }
 {
     let mut buffers = Buffers {
         block: Block {

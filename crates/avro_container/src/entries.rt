@@ -57,7 +57,7 @@ fn take_key<S: Source>(
     ensures stops { IfErr result (Stopped key_form
         (state_of S.left S.faults source.old allowed.old)
         (state_of S.left S.faults source.new allowed.new)) }
-    ensures same { S.whose source.new ≡ S.whose source.old }
+    ensures same { S.identity source.new ≡ S.identity source.old }
 {
     let mut key = Vec::new(alloc);
     sized(source, allowed, &mut key)?;
@@ -81,7 +81,7 @@ fn take_entry<S: Source>(
     ensures stops { IfErr result (Stopped entry
         (state_of S.left S.faults source.old allowed.old)
         (state_of S.left S.faults source.new allowed.new)) }
-    ensures same { S.whose source.new ≡ S.whose source.old }
+    ensures same { S.identity source.new ≡ S.identity source.old }
 {
     let key = take_key(alloc, source, allowed)?;
     let mut value = Vec::new(alloc);
@@ -105,7 +105,7 @@ fn take_entries<S: Source>(
     ensures stops { IfErr result (Stopped (many entry n)
         (state_of S.left S.faults source.old allowed.old)
         (state_of S.left S.faults source.new allowed.new)) }
-    ensures same { S.whose source.new ≡ S.whose source.old }
+    ensures same { S.identity source.new ≡ S.identity source.old }
 {
     for index in 0..n {
         take_entry(alloc, source, allowed, found)?;
@@ -130,7 +130,7 @@ fn block_count<S: Source>(source: &mut S, allowed: &mut Allowance) -> Result<Blo
     ensures stops { IfErr result (Stopped a_number
         (state_of S.left S.faults source.old allowed.old)
         (state_of S.left S.faults source.new allowed.new)) }
-    ensures same { S.whose source.new ≡ S.whose source.old }
+    ensures same { S.identity source.new ≡ S.identity source.old }
 {
     let n = number(source, allowed)?;
     Ok(BlockCount {
@@ -157,7 +157,7 @@ fn take_within<S: Source>(
         (state_of S.left S.faults source.old allowed.old)
         (state_of S.left S.faults source.new allowed.new)) }
     ensures size_left { allowed.new.size_left ≡ None }
-    ensures same { S.whose source.new ≡ S.whose source.old }
+    ensures same { S.identity source.new ≡ S.identity source.old }
 {
     allowed.size_left = Some(size as u64);
     let taken = take_entries(alloc, source, allowed, n, found);
@@ -199,7 +199,7 @@ fn take_sized_entries<S: Source>(
         (state_of S.left S.faults source.old allowed.old)
         (state_of S.left S.faults source.new allowed.new)) }
     ensures size_left { OnOk result (allowed.new.size_left ≡ None) }
-    ensures same { S.whose source.new ≡ S.whose source.old }
+    ensures same { S.identity source.new ≡ S.identity source.old }
 {
     let size = count(source, allowed)?;
     take_within(alloc, source, allowed, size, n, found)?;
@@ -225,7 +225,7 @@ fn take_block_of<S: Source>(
         (state_of S.left S.faults source.old allowed.old)
         (state_of S.left S.faults source.new allowed.new)) }
     ensures size_left { OnOk result (allowed.new.size_left ≡ None) }
-    ensures same { S.whose source.new ≡ S.whose source.old }
+    ensures same { S.identity source.new ≡ S.identity source.old }
 {
     if count.entries >= 1 << 63 {
         return Err(Stop::Wrong);
@@ -254,7 +254,7 @@ pub(crate) fn take_map<S: Source>(
         (state_of S.left S.faults source.old allowed.old)
         (state_of S.left S.faults source.new allowed.new)) }
     ensures size_left { OnOk result (allowed.new.size_left ≡ None) }
-    ensures same { S.whose source.new ≡ S.whose source.old }
+    ensures same { S.identity source.new ≡ S.identity source.old }
 {
     loop {
         let count = block_count(source, allowed)?;

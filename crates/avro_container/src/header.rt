@@ -33,7 +33,7 @@ fn take_magic<S: Source>(
     ensures stops { IfErr result (Stopped magic_form
         (state_of S.left S.faults source.old allowed.old)
         (state_of S.left S.faults source.new allowed.new)) }
-    ensures same { S.whose source.new ≡ S.whose source.old }
+    ensures same { S.identity source.new ≡ S.identity source.old }
 {
     let mut bytes = Vec::new(alloc);
     fill_buffer(source, allowed, &mut bytes, 4)?;
@@ -74,7 +74,7 @@ fn take_after_magic<S: Source>(
     ensures stops { IfErr result (Stopped after_magic
         (state_of S.left S.faults source.old allowed.old)
         (state_of S.left S.faults source.new allowed.new)) }
-    ensures same { S.whose source.new ≡ S.whose source.old }
+    ensures same { S.identity source.new ≡ S.identity source.old }
 {
     let mut entries = Found {
         schema: None,
@@ -142,7 +142,7 @@ pub fn read_header<S: Source>(
     ensures err { IfErr result (HeaderFails
         (change S.left S.faults source.old source.new byte_limit)) }
     ensures never_falls { S.faults source.old ≤ S.faults source.new }
-    ensures same { S.whose source.new ≡ S.whose source.old }
+    ensures same { S.identity source.new ≡ S.identity source.old }
 {
     let mut allowed = Allowance {
         limit: byte_limit,

@@ -2,9 +2,9 @@
 ghost use Rattle.avro_container.specs.FileForms.{marked_block, header};
 ghost use Rattle.avro_container.specs.Laws.{IsItself, OneFile, CanonicalIsFile, Settles, BlockIsRead, EndIsEnd, NoBytesAreEnd, ContainerCause, MarkerCause, BlockLimitCause, HeaderIsRead, MagicCause, HeaderCause, CodecCause, HeaderLimitCause, ShortestIsShortest};
 
-/// Bytes are a file of at most one schema text, marker and list of blocks. For a schema text of less
-/// than 2^63 bytes, a marker of sixteen bytes, and blocks each of less than 2^63 rows and less than
-/// 2^63 bytes, the canonical file is a file.
+/// Bytes are a file of at most one schema text, marker and list of blocks. For a schema text of
+/// less than 2^63 bytes, a marker of sixteen bytes, and blocks each of less than 2^63 rows and less
+/// than 2^63 bytes, the canonical file is a file.
 pub fn one_file()
     ensures one { OneFile IsItself }
     ensures canonical { CanonicalIsFile IsItself }
@@ -16,9 +16,9 @@ pub fn parts_settle()
     ensures header { Settles header }
 {}
 
-/// What `BlockReader::next` answers, where the source tells its bytes: a block that stands there
-/// within the limit is read; false is the end, and at the end, where no read fails, there is no
-/// other answer but `OutOfMemory`; each error that speaks of the bytes is right.
+/// What `BlockReader::next` answers, where the contract knows the source's bytes: a block that
+/// stands there within the limit is read; false is the end, and at the end, where no read fails,
+/// there is no other answer but `OutOfMemory`; each error that speaks of the bytes is right.
 pub fn block_answers()
     ensures read { BlockIsRead }
     ensures end { EndIsEnd }
@@ -28,8 +28,8 @@ pub fn block_answers()
     ensures limit { BlockLimitCause }
 {}
 
-/// What `read_header` answers, where the source tells its bytes: a header that stands there within
-/// the limit is read, and each error that speaks of the bytes is right.
+/// What `read_header` answers, where the contract knows the source's bytes: a header that stands
+/// there within the limit is read, and each error that speaks of the bytes is right.
 pub fn header_answers()
     ensures read { HeaderIsRead }
     ensures magic { MagicCause }

@@ -54,7 +54,7 @@ pub(crate) fn take_some<S: Source>(
         (state_of S.left S.faults source.old allowed.old)
         (state_of S.left S.faults source.new allowed.new)) }
     ensures never_rises { allowed.new.limit ≤ allowed.old.limit }
-    ensures same { S.whose source.new ≡ S.whose source.old }
+    ensures same { S.identity source.new ≡ S.identity source.old }
 {
     let most = allowed.most(buffer.len().min(PIECE))?;
     let prefix = &mut buffer[..most];
@@ -127,7 +127,7 @@ pub(crate) fn byte<S: Source>(source: &mut S, allowed: &mut Allowance) -> Result
     ensures stops { IfErr result (Stops
         (state_of S.left S.faults source.old allowed.old)
         (state_of S.left S.faults source.new allowed.new)) }
-    ensures same { S.whose source.new ≡ S.whose source.old }
+    ensures same { S.identity source.new ≡ S.identity source.old }
 {
     let mut buffer = [0u8; 1];
     take_some(source, allowed, &mut buffer)?;
@@ -150,7 +150,7 @@ pub(crate) fn number<S: Source>(source: &mut S, allowed: &mut Allowance) -> Resu
     ensures stops { IfErr result (Stopped a_number
         (state_of S.left S.faults source.old allowed.old)
         (state_of S.left S.faults source.new allowed.new)) }
-    ensures same { S.whose source.new ≡ S.whose source.old }
+    ensures same { S.identity source.new ≡ S.identity source.old }
 {
     let mut unsigned: u64 = 0;
     let mut index: u32 = 0;
@@ -187,7 +187,7 @@ fn fill_some<S: Source>(
         (state_of S.left S.faults source.new allowed.new)) }
     ensures len { vec_len bytes.new ≡ vec_len bytes.old }
     ensures never_rises { allowed.new.limit ≤ allowed.old.limit }
-    ensures same { S.whose source.new ≡ S.whose source.old }
+    ensures same { S.identity source.new ≡ S.identity source.old }
 {
     let n = take_some(source, allowed, &mut bytes[at..])?;
     Ok(n)
@@ -235,7 +235,7 @@ pub fn fill_buffer<S: Source>(
     // The limit falls by the bytes that were taken, the one past it aside.
     ensures grown { vec_len bytes.new
         ≤ max (vec_len bytes.old) (allowed.old.limit - allowed.new.limit + 65536) }
-    ensures same { S.whose source.new ≡ S.whose source.old }
+    ensures same { S.identity source.new ≡ S.identity source.old }
 {
     bytes.truncate(n);
     let mut at = 0;
@@ -255,7 +255,7 @@ pub(crate) fn count<S: Source>(source: &mut S, allowed: &mut Allowance) -> Resul
     ensures stops { IfErr result (Stopped a_count
         (state_of S.left S.faults source.old allowed.old)
         (state_of S.left S.faults source.new allowed.new)) }
-    ensures same { S.whose source.new ≡ S.whose source.old }
+    ensures same { S.identity source.new ≡ S.identity source.old }
 {
     let n = number(source, allowed)?;
     if n < 0 {
@@ -277,7 +277,7 @@ pub(crate) fn sized<S: Source>(
     ensures stops { IfErr result (Stopped a_sized
         (state_of S.left S.faults source.old allowed.old)
         (state_of S.left S.faults source.new allowed.new)) }
-    ensures same { S.whose source.new ≡ S.whose source.old }
+    ensures same { S.identity source.new ≡ S.identity source.old }
 {
     let n = count(source, allowed)?;
     fill_buffer(source, allowed, bytes, n)?;

@@ -22,7 +22,7 @@ pub fn write_block<K: Sink>(sink: &mut K, block: &Block, marker: [u8; 16]) -> Re
         (canonical_block marker (the_block block.now.number_of_rows block.now.bytes))) }
     ensures never_falls { K.faults sink.old ≤ K.faults sink.new }
     ensures cause { OnErr result (RoseOrFull (K.faults sink.old) (K.faults sink.new)) }
-    ensures same { K.whose sink.new ≡ K.whose sink.old }
+    ensures same { K.identity sink.new ≡ K.identity sink.old }
 {
     let bytes = block.bytes.as_slice();
     let count = EncodedNumber::of(block.number_of_rows as i64);
@@ -46,7 +46,7 @@ pub fn write_header<K: Sink>(sink: &mut K, text: &[u8], marker: [u8; 16]) -> Res
         (canonical_header text.now marker)) }
     ensures never_falls { K.faults sink.old ≤ K.faults sink.new }
     ensures cause { OnErr result (RoseOrFull (K.faults sink.old) (K.faults sink.new)) }
-    ensures same { K.whose sink.new ≡ K.whose sink.old }
+    ensures same { K.identity sink.new ≡ K.identity sink.old }
 {
     let size = EncodedNumber::of(text.len() as i64);
     write_all(sink, b"Obj\x01\x02\x16avro.schema")?;

@@ -44,7 +44,7 @@ grown_at (c ∷ cs) [] k e lt = absurd (omega (arith, e))
 grown_at (c ∷ cs) (x ∷ xs) zero e lt = refl
 grown_at (c ∷ cs) (x ∷ xs) (suc k) e lt = grown_at cs xs k (omega (arith, e)) (omega (arith, lt))
 
-wide_same : (m n : ℕ) (rows : List (List Slot)) → m ≡ n → AreWide m rows → AreWide n rows
+pub wide_same : (m n : ℕ) (rows : List (List Slot)) → m ≡ n → AreWide m rows → AreWide n rows
 wide_same m n rows e w = rw (sym e) w
 
 grown_by_at : (rows : List (List Slot)) (cs : List (List Slot)) (k : ℕ) → AreWide (length cs) rows → k < length cs → get_or (grown_by cs rows) k [] ≡ get_or cs k [] ++ column rows k

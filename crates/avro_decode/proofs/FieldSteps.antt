@@ -2,7 +2,7 @@
 use Rattle.std.proofs.Common.{◌≡◌, ◌∙◌, ℕ, ℤ, ◌+◌, ◌<◌, ◌⊎◌, Bool, true, false, List, [], ◌∷◌, ◌++◌, length, get_or, set, Some, Result, Ok, Err, refl, sym, ap, subst, inl, inr, arith}
 use Rattle.std.specs.Prelude.{All, OnOk, OnErr, IfErr, IsTrue}
 use Rattle.std.proofs.lemmas.Bool.{cases_eq}
-use Rattle.std.proofs.lemmas.List.{get_or-set_same, get_or-set_other}
+use Rattle.std.proofs.lemmas.List.{get_or-set_same, get_or-set_other, get_or_default}
 use Rattle.arrow_core.specs.declared.error.Error.{Error}
 use Rattle.arrow_core.specs.declared.slot.Slot.{Slot}
 use Rattle.arrow_core.specs.declared.slot.Slot.TheVariants as slot
@@ -26,7 +26,7 @@ use Rattle.avro_decode.specs.declared.steps.Kind.{Kind}
 use Rattle.avro_decode.specs.declared.steps.Kind.TheVariants as kind
 use Rattle.avro_decode.specs.declared.steps.Step.{Step}
 use Rattle.avro_decode.specs.declared.steps.Step.TheVariants.{Plain, Nullable}
-use Rattle.avro_decode.proofs.Members.{first_gives, second_gives, same_at, suits_first, suits_second}
+use Rattle.avro_decode.proofs.Members.{first_gives, second_gives, suits_first, suits_second}
 
 pub fits_union : (null_first : Bool) (k : Kind) (members : List Schema) → StepFits (Nullable null_first k) (Union members) ≡ PairFits null_first k members
 unfolding shape-the_row-Schema-1 hidden-the_row-Schema-1 denote.Hole.Carrier.hidden
@@ -108,7 +108,7 @@ fit_next n steps fields step f ls lf is so h = λ i d x lt. from i d x lt (cases
     from : (i : ℕ) (d : Step) (x : AvroField) → i < n + 1 → (i ≡ n) ⊎ (i ≡ n → ⊥) → StepFits (get_or (set steps n step) i d) (get_or fields i x).schema
     from i d x lt (inl e) =
         let a : get_or (set steps n step) i d ≡ step = ap (λ (j : ℕ). get_or (set steps n step) j d) e ∙ get_or-set_same steps n step d ls in
-        let b : get_or fields i x ≡ f = ap (λ (j : ℕ). get_or fields j x) e ∙ same_at fields n x f lf ∙ sym is in
+        let b : get_or fields i x ≡ f = ap (λ (j : ℕ). get_or fields j x) e ∙ get_or_default fields n x f lf ∙ sym is in
         subst (λ (t : Step). StepFits t (get_or fields i x).schema) (sym a) (subst (λ (y : AvroField). StepFits step y.schema) (sym b) h)
     from i d x lt (inr ne) =
         subst (λ (t : Step). StepFits t (get_or fields i x).schema) (sym (get_or-set_other steps n i step d ne)) (so i d x (omega (arith, lt, ne)))
@@ -126,7 +126,7 @@ pub kept_next : (n : ℕ) (projection : List Bool) → n < length projection →
 kept_next n projection ln is so = λ i d lt. from i d lt (cases_eq i n)
   where
     from : (i : ℕ) (d : Bool) → i < n + 1 → (i ≡ n) ⊎ (i ≡ n → ⊥) → get_or projection i d ≡ true
-    from i d lt (inl e) = ap (λ (j : ℕ). get_or projection j d) e ∙ same_at projection n d false ln ∙ is
+    from i d lt (inl e) = ap (λ (j : ℕ). get_or projection j d) e ∙ get_or_default projection n d false ln ∙ is
     from i d lt (inr ne) = so i d (omega (arith, lt, ne))
 
 pub not_all_kept : (n : ℕ) (projection : List Bool) → n < length projection → get_or projection n false ≡ false → All IsTrue projection → ⊥

@@ -299,9 +299,3 @@ record_reads b c fs new bytes rest m t g n =
 
 pub shapes_length : (bs cs : List MutableArray) → map shape cs ≡ map shape bs → length cs ≡ length bs
 shapes_length bs cs e = sym (length-map cs shape) ∙ ap length e ∙ length-map bs shape
-
-pub two_of : {A : Type 0} (xs : List A) (a b : A) → 2 ≤ length xs → length xs < 3 → a ≡ get_or xs 0 a → b ≡ get_or xs 1 b → xs ≡ a ∷ b ∷ []
-two_of [] a b le lt e d = absurd (omega (arith, le))
-two_of (x ∷ []) a b le lt e d = absurd (omega (arith, le))
-two_of (x ∷ y ∷ []) a b le lt e d = rw (e, d) refl
-two_of (x ∷ y ∷ z ∷ more) a b le lt e d = absurd (omega (arith, lt))

@@ -14,8 +14,8 @@ use Rattle.avro_decode.specs.Keeping.{KeepsWithin, Keeps, KeepsMember}
 use Rattle.avro_decode.proofs.Going.{grows_then, grows_behind, costs_behind, spare_on}
 use Rattle.avro_decode.proofs.Nodes.{grows_none, spare_less}
 
-pub keeps_all : {X Y E : Type 0} (rest : X → List ℕ) (shown calls whose : X → ℕ) (n m : ℕ) (mask : List Bool) (old new : X) (before now : MutableArray) (r : Result Y E) (has_memory : Result Y E → Type 0) → shape now ≡ shape before → OnOk r (IsTight now) → Grows mask n (nodes before) (nodes now) → (HaveSpare mask m (nodes before) → has_memory r) → whose new ≡ whose old → Moves rest calls old new → OnOk r (CostsKept rest shown calls old new) → KeepsWithin rest shown calls whose n m mask old new before now r has_memory
-keeps_all rest shown calls whose n m mask old new before now r has_memory s t g h w v c = record { same_shape = s; tight = t; grows = g; has_capacity = h; same = w; moves = v; costs = c }
+pub keeps_all : {X Y E : Type 0} (rest : X → List ℕ) (shown calls identity : X → ℕ) (n m : ℕ) (mask : List Bool) (old new : X) (before now : MutableArray) (r : Result Y E) (has_memory : Result Y E → Type 0) → shape now ≡ shape before → OnOk r (IsTight now) → Grows mask n (nodes before) (nodes now) → (HaveSpare mask m (nodes before) → has_memory r) → identity new ≡ identity old → Moves rest calls old new → OnOk r (CostsKept rest shown calls old new) → KeepsWithin rest shown calls identity n m mask old new before now r has_memory
+keeps_all rest shown calls identity n m mask old new before now r has_memory s t g h w v c = record { same_shape = s; tight = t; grows = g; has_capacity = h; same = w; moves = v; costs = c }
 
 -- ---- calls one after another
 
@@ -25,11 +25,11 @@ after-kept rest shown calls (Err e) x y z f c g d = tt
 
 -- all values were read so far
 abbrev pub KeepsSoFar : {X : Type 0} → (X → List ℕ) → (X → ℕ) → (X → ℕ) → (X → ℕ) → List Bool → X → X → MutableArray → MutableArray → Type 0
-KeepsSoFar rest shown calls whose mask x y a b = Keeps {Y = Unit {0}} rest shown calls whose mask x y a b (Ok tt)
+KeepsSoFar rest shown calls identity mask x y a b = Keeps {Y = Unit {0}} rest shown calls identity mask x y a b (Ok tt)
 
-module _ {X : Type 0} {rest : X → List ℕ} {shown calls whose : X → ℕ} {mask : List Bool} where
+module _ {X : Type 0} {rest : X → List ℕ} {shown calls identity : X → ℕ} {mask : List Bool} where
   -- no call was made yet
-  pub keeps_none : {x : X} {a : MutableArray} → IsTight a → KeepsSoFar rest shown calls whose mask x x a a
+  pub keeps_none : {x : X} {a : MutableArray} → IsTight a → KeepsSoFar rest shown calls identity mask x x a a
   keeps_none {x} {a} t = record {
     same_shape = refl;
     tight = t;
@@ -41,7 +41,7 @@ module _ {X : Type 0} {rest : X → List ℕ} {shown calls whose : X → ℕ} {m
   }
 
   -- a number that is no value
-  pub keeps_number : {x y : X} {a : MutableArray} → whose y ≡ whose x → Moves rest calls x y → CostsNumber rest shown calls x y → IsTight a → KeepsSoFar rest shown calls whose mask x y a a
+  pub keeps_number : {x y : X} {a : MutableArray} → identity y ≡ identity x → Moves rest calls x y → CostsNumber rest shown calls x y → IsTight a → KeepsSoFar rest shown calls identity mask x y a a
   keeps_number {x} {y} {a} w m n t = record {
     same_shape = refl;
     tight = t;
@@ -53,7 +53,7 @@ module _ {X : Type 0} {rest : X → List ℕ} {shown calls whose : X → ℕ} {m
   }
 
   -- a fault, and no value
-  pub keeps_unread : {E Y : Type 0} {n m : ℕ} {x y : X} {a : MutableArray} {e : E} {has_memory : Result Y E → Type 0} → whose y ≡ whose x → Moves rest calls x y → has_memory (Err e) → KeepsWithin rest shown calls whose n m mask x y a a (Err e) has_memory
+  pub keeps_unread : {E Y : Type 0} {n m : ℕ} {x y : X} {a : MutableArray} {e : E} {has_memory : Result Y E → Type 0} → identity y ≡ identity x → Moves rest calls x y → has_memory (Err e) → KeepsWithin rest shown calls identity n m mask x y a a (Err e) has_memory
   keeps_unread {n = n} {a = a} w m h = record {
     same_shape = refl;
     tight = tt;
@@ -65,7 +65,7 @@ module _ {X : Type 0} {rest : X → List ℕ} {shown calls whose : X → ℕ} {m
   }
 
   -- values, and then a fault
-  pub keeps_fault : {Y : Type 0} {x y : X} {a b : MutableArray} {r : Result Y DecodeFault} → Keeps rest shown calls whose mask x y a b r → Keeps {Y = Y} rest shown calls whose mask x y a b (Err Bytes)
+  pub keeps_fault : {Y : Type 0} {x y : X} {a b : MutableArray} {r : Result Y DecodeFault} → Keeps rest shown calls identity mask x y a b r → Keeps {Y = Y} rest shown calls identity mask x y a b (Err Bytes)
   keeps_fault k = record {
     same_shape = k.same_shape;
     tight = tt;
@@ -77,7 +77,7 @@ module _ {X : Type 0} {rest : X → List ℕ} {shown calls whose : X → ℕ} {m
   }
 
   -- values, and then others
-  pub keeps_then : {Y : Type 0} {x y z : X} {a b c : MutableArray} {r : Result Y DecodeFault} → KeepsSoFar rest shown calls whose mask x y a b → Keeps rest shown calls whose mask y z b c r → Keeps rest shown calls whose mask x z a c r
+  pub keeps_then : {Y : Type 0} {x y z : X} {a b c : MutableArray} {r : Result Y DecodeFault} → KeepsSoFar rest shown calls identity mask x y a b → Keeps rest shown calls identity mask y z b c r → Keeps rest shown calls identity mask x z a c r
   keeps_then {x = x} {y = y} {z = z} {a = a} {b = b} {c = c} {r = r} h k = record {
     same_shape = k.same_shape ∙ h.same_shape;
     tight = k.tight;
@@ -89,7 +89,7 @@ module _ {X : Type 0} {rest : X → List ℕ} {shown calls whose : X → ℕ} {m
   }
 
   -- a union's member after its index
-  pub keeps_behind : {Y : Type 0} {ms : List Bool} {x y z : X} {a b : MutableArray} {r : Result Y DecodeFault} → ms ≡ mask → whose y ≡ whose x → Moves rest calls x y → CostsNumber rest shown calls x y → KeepsMember rest shown calls whose ms y z a b r → Keeps rest shown calls whose mask x z a b r
+  pub keeps_behind : {Y : Type 0} {ms : List Bool} {x y z : X} {a b : MutableArray} {r : Result Y DecodeFault} → ms ≡ mask → identity y ≡ identity x → Moves rest calls x y → CostsNumber rest shown calls x y → KeepsMember rest shown calls identity ms y z a b r → Keeps rest shown calls identity mask x z a b r
   keeps_behind {ms = ms} {x = x} {y = y} {z = z} {a = a} {b = b} {r = r} e w m n k =
       let l = n.shorter in
       record {

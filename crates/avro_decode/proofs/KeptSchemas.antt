@@ -1,6 +1,7 @@
 -- What holds of each kept field, or of its schema, one field at a time.
-use Rattle.std.proofs.Common.{◌≡◌, ◌∙◌, ◌⊎◌, inl, inr, ◌+◌, ℕ, zero, suc, ◌<◌, ◌≤◌, Bool, true, false, List, [], ◌∷◌, length, get_or, All, refl, sym, ap, subst, arith}
+use Rattle.std.proofs.Common.{◌≡◌, ◌∙◌, ◌⊎◌, inl, inr, ◌+◌, ℕ, ◌<◌, ◌≤◌, Bool, true, false, List, length, get_or, All, sym, ap, subst, arith}
 use Rattle.std.proofs.lemmas.Bool.{cases_lt}
+use Rattle.std.proofs.lemmas.List.{get_or_default}
 use Rattle.avro_schema.specs.declared.schema.AvroField.{AvroField}
 use Rattle.avro_schema.specs.declared.schema.Schema.{Schema}
 use Rattle.avro_schema.specs.ValidBlock.{kept}
@@ -14,11 +15,6 @@ KeptSoFar {A} P xs projection i = (k : ℕ) (d : A) → k < i → get_or project
 abbrev pub HoldsSoFar : (Schema → Type 0) → List AvroField → List Bool → ℕ → Type 0
 HoldsSoFar P fields projection i = (k : ℕ) (d : AvroField) → k < i → get_or projection k false ≡ true → P (get_or fields k d).schema
 
-same_at : {A : Type 0} (xs : List A) (k : ℕ) (d e : A) → k < length xs → get_or xs k d ≡ get_or xs k e
-same_at [] k d e lt = absurd (omega (arith, lt))
-same_at (x ∷ xs) zero d e lt = refl
-same_at (x ∷ xs) (suc k) d e lt = same_at xs k d e (omega (arith, lt))
-
 module _ {A : Type 0} (P : A → Type 0) (xs : List A) (projection : List Bool) where
   pub kept_next : (i : ℕ) (a : A) → i < length xs → (get_or projection i false ≡ true → P (get_or xs i a)) → KeptSoFar P xs projection i → KeptSoFar P xs projection (i + 1)
   kept_next i a lt here before k d le e = from (cases_lt k i)
@@ -27,7 +23,7 @@ module _ {A : Type 0} (P : A → Type 0) (xs : List A) (projection : List Bool) 
       from (inl less) = before k d less e
       from (inr ge) =
           let same : k ≡ i = omega (arith, ge, le) in
-          let x : get_or xs k d ≡ get_or xs i a = ap (λ j. get_or xs j d) same ∙ same_at xs i d a lt in
+          let x : get_or xs k d ≡ get_or xs i a = ap (λ j. get_or xs j d) same ∙ get_or_default xs i d a lt in
           subst P (sym x) (here (ap (λ j. get_or projection j false) (sym same) ∙ e))
 
   pub kept_all : (i : ℕ) → length xs ≤ i → KeptSoFar P xs projection i → All P (kept xs projection)

@@ -34,11 +34,10 @@ use Rattle.avro_schema.specs.Carried.{IsFixedSize, Carried}
 use Rattle.avro_schema.specs.Encodes.{IsNull}
 use Rattle.avro_schema.specs.Listed.{CarriedMembersOf}
 use Rattle.avro_schema.specs.TypeLaws.{HasMemberTypeOf}
-use Rattle.avro_schema.specs.Types.{IsListOf as TheForm, HasType, HasColumnType, fixed_type}
+use Rattle.avro_schema.specs.Types.{IsListOf as TheForm, HasType, HasColumnType, Fits, fixed_type}
 use Rattle.avro_schema.specs.ValidBlock.{small_limit, HasFloat, SymbolsFit, EnumsFit}
 use Rattle.avro_schema.proofs.ByLists.{moved, carried_array, carried_union, carried_record}
 use Rattle.avro_schema.proofs.TypeLemmas.{type_composites, float_composites, enum_composites}
-use Rattle.avro_types.specs.Columns.{HasColumnTypes}
 use Rattle.avro_types.proofs.ColumnTypes.{flip}
 use Rattle.avro_decode.specs.Making.{CanBeKept, IsNewBuilder, AreNewBuilders, IsFlatType}
 use Rattle.avro_decode.specs.Growth.{SuitsPair}
@@ -263,7 +262,7 @@ are_two members k = from members (moved (carried_union members) k.carried)
 
 -- ---- records
 
-pub as_many : (fs : List Field) (avros : List AvroField) → HasColumnTypes true fs avros → length fs ≡ length avros
+pub as_many : (fs : List Field) (avros : List AvroField) → Fits fs avros → length fs ≡ length avros
 as_many [] [] h = refl
 as_many [] (a ∷ avros) h = absurd h
 as_many (f ∷ fs) [] h = absurd h
@@ -311,10 +310,10 @@ some_children (a ∷ avros) (f ∷ fs) [] some h = absurd h
 some_children (a ∷ avros) (f ∷ fs) (b ∷ bs) some h = omega arith
 
 module _ (s : Schema) (t : DataType) (r : TheRecord) (avros : List AvroField) (e : s ≡ Record r) (x : avros ≡ (out-Record r).fields) where
-  struct_type : HasType true s t → (gs : List Field) × (t ≡ data_type.Struct gs) × HasColumnTypes true gs avros
+  struct_type : HasType true s t → (gs : List Field) × (t ≡ data_type.Struct gs) × Fits gs avros
   struct_type h =
       let k = (type_composites.fields true r t).0 (subst (λ (y : Schema). HasType true y t) e h) in
-      (k.0, k.1, subst (HasColumnTypes true k.0) (sym x) (flip (λ (a : AvroField) (f : Field). HasColumnType true a.schema f) (out-Record r).fields k.0 k.2))
+      (k.0, k.1, subst (Fits k.0) (sym x) (flip (λ (a : AvroField) (f : Field). HasColumnType true a.schema f) (out-Record r).fields k.0 k.2))
 
   pub is_struct : HasType true s t → (gs : List Field) × (t ≡ data_type.Struct gs)
   is_struct h = let k = struct_type h in (k.0, k.1)
@@ -333,11 +332,11 @@ module _ (s : Schema) (t : DataType) (r : TheRecord) (avros : List AvroField) (e
       }
 
   module _ (fs ys : List Field) (d : t ≡ data_type.Struct fs) (z : ys ≡ fs) where
-    pub fields_typed : HasType true s t → HasColumnTypes true ys avros
+    pub fields_typed : HasType true s t → Fits ys avros
     fields_typed h =
         let k = struct_type h in
         let same : k.0 ≡ ys = sym (items_of_struct k.0) ∙ ap items_of (sym k.1 ∙ d) ∙ items_of_struct fs ∙ sym z in
-        subst (λ (gs : List Field). HasColumnTypes true gs avros) same k.2
+        subst (λ (gs : List Field). Fits gs avros) same k.2
 
     pub new_struct : (vs : List MutableArray) (b : MutableArray) → CanBeKept s → AreNewBuilders avros ys vs → shape b ≡ records t (fields_of (map shape vs)) → All IsEmpty (nodes b) → IsNewBuilder s t b
     new_struct vs b k h sh n =

@@ -1,5 +1,5 @@
 -- Unions, nulls and flat values, and a builder of records, as the cycle wants them.
-use Rattle.std.proofs.Common.{◌≡◌, ◌∙◌, ℕ, ℤ, pos, negsuc, zero, suc, ◌+◌, ◌<◌, ◌≤◌, Bool, true, false, ◌⊎◌, List, [], ◌∷◌, ◌++◌, length, map, get_or, Option, Some, None, Result, Ok, Err, refl, sym, ap, subst, arith, inl, inr}
+use Rattle.std.proofs.Common.{◌≡◌, ◌∙◌, ℕ, ℤ, pos, negsuc, zero, suc, ◌+◌, ◌<◌, Bool, true, false, ◌⊎◌, List, [], ◌∷◌, ◌++◌, length, map, Option, Some, None, Result, Ok, Err, refl, sym, ap, subst, arith, inl, inr}
 use Rattle.std.specs.Prelude.{OnOk, OnErr, IfErr, nat_abs, option_and_then, if◌then◌else◌}
 use Rattle.std.proofs.lemmas.Bool.{le-ltb}
 use Rattle.std.proofs.lemmas.List.{length-append}
@@ -17,7 +17,7 @@ use Rattle.avro_schema.specs.declared.schema.Schema.{Schema, Array, Record, Unio
 use Rattle.avro_schema.specs.declared.schema.Schema as schema
 use Rattle.avro_schema.specs.declared.schema.Schema.{Null as NullSchema}
 use Rattle.avro_schema.specs.declared.schema.AvroField.{AvroField}
-use denote.Param.Weighed.{most, at_most}
+use denote.Param.Weighed.{most}
 use Rattle.avro_schema.proofs.schema.Schema.TheLaws.{the_size}
 use Rattle.std.proofs.Common.{rules}
 use Rattle.avro_schema.specs.declared.schema.Schema.TheViews.{the_lemmas}
@@ -171,16 +171,6 @@ pub record_gives : {X : Type 0} (r : Result X DecodeFault) (a : Result (Unit {0}
 record_gives (Ok x) (Ok y) b c fs new bytes rest ok err m t g n = record_reads b c fs new bytes rest m t g n
 record_gives (Ok x) (Err y) b c fs new bytes rest ok err m t g n = absurd ok
 record_gives (Err d) a b c fs new bytes rest ok err m t g n = rw err tt
-
--- ---- indices and sizes
-
-pub same_at : {A : Type 0} (xs : List A) (i : ℕ) (d e : A) → i < length xs → get_or xs i d ≡ get_or xs i e
-same_at [] i d e lt = absurd (omega (arith, lt))
-same_at (x ∷ xs) zero d e lt = refl
-same_at (x ∷ xs) (suc i) d e lt = same_at xs i d e (omega (arith, lt))
-
-pub members_size : (ms : List Schema) (a b : Schema) → ms ≡ a ∷ b ∷ [] → (the_size a ≤ most the_size ms) × (the_size b ≤ most the_size ms)
-members_size ms a b e = subst (λ (xs : List Schema). (the_size a ≤ most the_size xs) × (the_size b ≤ most the_size xs)) (sym e) (at_most the_size (a ∷ b ∷ []) 0 a (omega arith), at_most the_size (a ∷ b ∷ []) 1 b (omega arith))
 
 -- ---- a value's arms
 

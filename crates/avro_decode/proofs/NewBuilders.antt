@@ -1,6 +1,6 @@
 -- New builders: their shapes, that they are empty, and one after the other.
-use Rattle.std.proofs.Common.{◌≡◌, ◌∙◌, ◌⊎◌, inl, inr, ◌↔◌, ℕ, zero, suc, ◌+◌, ◌<◌, ◌≤◌, Bool, true, false, List, [], ◌∷◌, ◌++◌, length, get_or, map, take, drop, All, Result, Ok, Err, Vec, Global, refl, sym, ap, subst, add-one, append_assoc, arith}
-use Rattle.std.proofs.lemmas.List.{map-append, take_more}
+use Rattle.std.proofs.Common.{◌≡◌, ◌∙◌, ◌⊎◌, inl, inr, ◌↔◌, ℕ, suc, ◌+◌, ◌<◌, ◌≤◌, Bool, true, false, List, [], ◌∷◌, ◌++◌, length, get_or, map, take, drop, All, Result, Ok, Err, Vec, Global, refl, sym, ap, subst, add-one, append_assoc, arith}
+use Rattle.std.proofs.lemmas.List.{map-append, take_more, drop_all}
 use Rattle.std.proofs.lemmas.List.Elements.{All-cons}
 use Rattle.arrow_core.specs.declared.physical.PhysicalType.TheVariants as physical
 use Rattle.arrow_core.specs.declared.types.Field.{Field}
@@ -131,12 +131,6 @@ new_ended avros fs more_avros more_fs done e d so =
 item_at : {A : Type 0} (xs : List A) (i : ℕ) (x : A) → i < length xs → drop i xs ≡ get_or xs i x ∷ drop (i + 1) xs
 item_at xs i x lt = drop-cons xs i x lt ∙ ap (λ (j : ℕ). get_or xs i x ∷ drop j xs) (sym (add-one i))
 
-none_left : {A : Type 0} (xs : List A) (k : ℕ) → length xs ≤ k → drop k xs ≡ []
-none_left [] zero h = refl
-none_left [] (suc k) h = refl
-none_left (x ∷ xs) zero h = absurd (omega (arith, h))
-none_left (x ∷ xs) (suc k) h = none_left xs k (omega (arith, h))
-
 -- ---- the children of a record
 
 abbrev pub ChildrenSoFar : List AvroField → List Field → ℕ → List MutableArray → Type 0
@@ -150,7 +144,7 @@ module _ (avros : List AvroField) (fs : List Field) where
       (subst (λ (xs : List AvroField). NewSoFar avros xs fs (drop i fs) done) (item_at avros i a lt) so)) n e
 
   pub children_ended : (i : ℕ) (done : List MutableArray) → length fs ≡ length avros → length avros ≤ i → ChildrenSoFar avros fs i done → AreNewBuilders avros fs done
-  children_ended i done same le so = new_ended avros fs (drop i avros) (drop i fs) done (none_left avros i le) (none_left fs i (omega (arith, le, same))) so
+  children_ended i done same le so = new_ended avros fs (drop i avros) (drop i fs) done (drop_all i avros le) (drop_all i fs (omega (arith, le, same))) so
 
 -- ---- the builders of the kept fields
 
@@ -177,7 +171,7 @@ module _ (avros : List AvroField) (fs : List Field) (keeps : List Bool) where
   pub kept_ended : (i : ℕ) (done : List MutableArray) → length fs ≡ length avros → length fs ≤ i → KeptSoFar avros fs keeps i done → AreNewBuilders (kept avros keeps) (kept fs keeps) done
   kept_ended i done same le so =
       new_ended (kept avros keeps) (kept fs keeps) (kept (drop i avros) (drop i keeps)) (kept (drop i fs) (drop i keeps)) done
-      (ap (λ (xs : List AvroField). kept xs (drop i keeps)) (none_left avros i (omega (arith, le, same)))) (ap (λ (xs : List Field). kept xs (drop i keeps)) (none_left fs i le)) so
+      (ap (λ (xs : List AvroField). kept xs (drop i keeps)) (drop_all i avros (omega (arith, le, same)))) (ap (λ (xs : List Field). kept xs (drop i keeps)) (drop_all i fs le)) so
 
 module _ (fields : List Field) (avro_fields : List AvroField) (projection : List Bool) (b : BelongTogether fields avro_fields projection) (i : ℕ) (f : Field) (a : AvroField) (lt : i < length fields) (taken : get_or projection i false ≡ true) where
   pub field_is_kept : CanBeKept (get_or avro_fields i a).schema

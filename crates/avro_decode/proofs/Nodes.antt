@@ -2,26 +2,17 @@
 use Rattle.std.proofs.Common.{◌≡◌, ℕ, ◌+◌, ◌≤◌, Bool, true, false, ◌&&◌, List, [], ◌∷◌, ◌++◌, length, refl, arith}
 use Rattle.arrow_core.specs.Numbers.{greatest_offset}
 use Rattle.std.specs.Prelude.{if◌then◌else◌}
-use Rattle.arrow_builders.specs.Nodes.{Node, Takes, HasSpare}
+use Rattle.arrow_builders.specs.Nodes.{Node, HasSpare}
 use Rattle.avro_decode.specs.Masks.{bounded, later, content}
 use Rattle.avro_decode.specs.Growth.{Fills, AllFill, Grows, Reaches, AllReach, HaveSpare}
 use Rattle.avro_flat.proofs.Pushes.{takes_none}
+use Rattle.avro_flat.proofs.Filled.{takes_more}
 
 -- ---- one node
 
 fills_some : (m : Bool) (n : ℕ) (x : Node) → Fills m n x x
 fills_some true n x = takes_none n n x
 fills_some false n x = (0, takes_none n 0 x)
-
-takes_more : (a b c d m n : ℕ) (x y z : Node) → Takes a b x y → Takes c d y z → a + c ≤ m → b + d ≤ n → Takes m n x z
-takes_more a b c d m n x y z h k le less = record {
-  slots_added = omega (arith, h.slots_added, k.slots_added, le);
-  slots_kept = omega (arith, h.slots_kept, k.slots_kept);
-  bytes_added = omega (arith, h.bytes_added, k.bytes_added, less);
-  bytes_kept = omega (arith, h.bytes_kept, k.bytes_kept);
-  slot_capacity = omega (arith, h.slot_capacity, k.slot_capacity);
-  byte_capacity = omega (arith, h.byte_capacity, k.byte_capacity);
-}
 
 fill_more : (p : Bool) (m n k : ℕ) (x y z : Node) → Fills p m x y → Fills p n y z → m + n ≤ k → Fills p k x z
 fill_more true m n k x y z h g le = takes_more m m n n k k x y z h g le le

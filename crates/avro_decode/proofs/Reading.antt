@@ -26,29 +26,6 @@ unfolding push_one
 push_none_parts old None h = refl
 push_none_parts old (Some (x, r)) h = absurd cc
 
--- ---- items
-
-pub items-done : (f : Reader Slot) (n : ℕ) (old : List Slot) (bytes : List ℕ) (target : State) → n ≡ 0 → items f n old bytes ≡ target → target ≡ Some (old, bytes)
-unfolding items
-items-done f zero old bytes target z e = sym e
-items-done f (suc n) old bytes target z e = absurd cc
-
-pub items-next : (f : Reader Slot) (n m : ℕ) (old xs : List Slot) (bytes r : List ℕ) (target : State) → n ≡ suc m → push_one old (f bytes) ≡ Some (xs, r) → items f n old bytes ≡ target → items f m xs r ≡ target
-unfolding items
-items-next f n m old xs bytes r target s p e =
-    let e' = rw s at e in
-    rw p at e'
-
-items-bad : (f : Reader Slot) (n m : ℕ) (old : List Slot) (bytes : List ℕ) (target : State) → n ≡ suc m → push_one old (f bytes) ≡ None → items f n old bytes ≡ target → target ≡ None
-unfolding items
-items-bad f n m old bytes target s p e =
-    let e' = rw s at e in
-    sym (rw p at e')
-
-pub items-err : (d : DecodeFault) (f : Reader Slot) (n m : ℕ) (old : List Slot) (bytes : List ℕ) (target : State) → n ≡ suc m → Fails d (push_one old (f bytes)) → items f n old bytes ≡ target → Fails d target
-items-err Bytes f n m old bytes target s h e = items-bad f n m old bytes target s h e
-items-err Memory f n m old bytes target s h e = tt
-
 -- ---- blocks
 
 other_count : (v : ℤ) → (v ≡ pos 0 → ⊥) → is_count v 0 ≡ false

@@ -1,6 +1,6 @@
 -- One step of the loops over fields and over rows.
 use Rattle.std.proofs.Common.{◌≡◌, ◌∙◌, ℕ, zero, suc, ◌+◌, ◌-◌, ◌<◌, ◌≤◌, Bool, true, false, List, [], ◌∷◌, ◌++◌, length, get_or, set, drop, map, Some, Ok, Err, refl, sym, ap, add-one, arith}
-use Rattle.std.proofs.lemmas.List.{map-set, get_or-map, map-append, length-append}
+use Rattle.std.proofs.lemmas.List.{map-set, get_or-map, map-append, length-append, drop_all}
 use Rattle.std.proofs.Math.Seq.{drop-cons}
 use Rattle.arrow_core.specs.declared.slot.Slot.{Slot}
 use Rattle.arrow_builders.specs.declared.array.MutableArray.{MutableArray}
@@ -19,7 +19,7 @@ use Rattle.avro_decode.specs.Decoding.{grown, grown_by, FieldFails, IsFault, Are
 use Rattle.avro_decode.specs.declared.fault.BlockFault.{BlockFault}
 use Rattle.avro_decode.specs.declared.fault.BlockFault.TheVariants.{Bytes, NegativeSize, Memory}
 use Rattle.avro_decode.proofs.RowCosts.{kept_more, skipped_more, rows_more}
-use Rattle.avro_decode.proofs.Columns.{grown_none, length-grown, grown_next, grown_by_next, wide_next}
+use Rattle.avro_decode.proofs.Columns.{grown_none, length-grown, grown_next, grown_by_next, wide_next, wide_same}
 use Rattle.avro_decode.proofs.Reading.{push_parts, push_none_parts}
 
 -- ---- the fields of a row
@@ -94,19 +94,13 @@ module _ (i k : ℕ) (fields : List AvroField) (projection : List Bool) (f : Avr
   pub kept_later : get_or projection i false ≡ false → drop k ks ≡ kept (drop (i + 1) fields) (drop (i + 1) projection)
   kept_later passed = here ∙ ap (λ (v : Bool). kept (f ∷ drop (i + 1) fields) (v ∷ drop (i + 1) projection)) passed
 
-none_left : {A : Type 0} (xs : List A) (k : ℕ) → length xs ≤ k → drop k xs ≡ []
-none_left [] zero h = refl
-none_left [] (suc k) h = refl
-none_left (x ∷ xs) zero h = absurd (omega (arith, h))
-none_left (x ∷ xs) (suc k) h = none_left xs k (omega (arith, h))
-
 all_dropped : {A : Type 0} (xs : List A) (k : ℕ) → drop k xs ≡ [] → length xs ≤ k
 all_dropped [] k h = omega arith
 all_dropped (x ∷ xs) zero h = absurd cc
 all_dropped (x ∷ xs) (suc k) h = let r = all_dropped xs k h in omega (arith, r)
 
 pub kept_ended : (i k : ℕ) (fields : List AvroField) (projection : List Bool) (ks : List AvroField) → length fields ≤ i → drop k ks ≡ kept (drop i fields) (drop i projection) → length ks ≤ k
-kept_ended i k fields projection ks le left = all_dropped ks k (left ∙ (rw (none_left fields i le) refl))
+kept_ended i k fields projection ks le left = all_dropped ks k (left ∙ (rw (drop_all i fields le) refl))
 
 -- ---- one builder of many
 
@@ -133,9 +127,6 @@ RowsSoFar rest shown calls start here n m fields projection before now =
 
 pub rows_begun : {X : Type 0} (rest : X → List ℕ) (shown calls : X → ℕ) (start : X) (n m : ℕ) (fields : List AvroField) (projection : List Bool) (before : List (List Slot)) → m ≡ n → RowsSoFar rest shown calls start start n m fields projection before before
 rows_begun rest shown calls start n m fields projection before e = ([], rw e refl, refl, tt, costs_none rest shown calls start)
-
-wide_same : (m n : ℕ) (rs : List (List Slot)) → m ≡ n → AreWide m rs → AreWide n rs
-wide_same m n rs e w = rw (sym e) w
 
 module _ {X : Type 0} (rest : X → List ℕ) (shown calls : X → ℕ) (start here : X) (n m l : ℕ) (fields : List AvroField) (projection : List Bool) (before now : List (List Slot)) (s : m ≡ suc l) (so : RowsSoFar rest shown calls start here n m fields projection before now) where
   pub rows_step : (next : X) (new : List (List Slot)) → (y : Pieces) × (row fields projection (rest here) ≡ Ok (y, rest next)) × (new ≡ grown now y.slots) × (length y.slots ≡ length new) × Costs rest shown calls here next (y.kept + y.passed.seen) y.passed.hidden → RowsSoFar rest shown calls start next n l fields projection before new

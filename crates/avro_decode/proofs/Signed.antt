@@ -1,7 +1,7 @@
 -- Integers of 64 bits as the code compares them.
-use Rattle.std.proofs.Common.{◌≡◌, ◌∙◌, ℤ, pos, sym, ap, w64, of_z, to_z}
+use Rattle.std.proofs.Common.{◌≡◌, ℤ, pos, sym, w64, of_z}
 use mir.Val.{SFits}
-use Rattle.std.proofs.lemmas.Int.{to_z-of_z, ints}
+use Rattle.std.proofs.lemmas.Int.{ints}
 use Rattle.std.proofs.Common.{ℕ, zero, suc, negsuc, List, Bool, true, false, None, Result, refl, subst, arith, ◌<◌, ◌^◌, ltb}
 use lib.Signed.{lt_z}
 use lib.IntN.{neg_ℤ}
@@ -13,15 +13,6 @@ use Rattle.avro_decode.specs.Decoding.{sized_items}
 use Rattle.avro_flat.specs.declared.fault.DecodeFault.{DecodeFault}
 use Rattle.avro_decode.proofs.Reading.{block_sized, block_too_many}
 use Rattle.std.proofs.lemmas.Bool.{lt-ltb, ltb-true}
-
-pub is_zero : (v : ℤ) → SFits w64 v → of_z w64 v ≡ 0 → v ≡ pos 0
-is_zero v s e = sym (to_z-of_z w64 v s) ∙ ap (to_z w64) e
-
-pub not_is : (v k : ℤ) → (of_z w64 v ≡ of_z w64 k → ⊥) → v ≡ k → ⊥
-not_is v k h e = h (ap (of_z w64) e)
-
-pub not_as : (v k : ℤ) → SFits w64 v → (of_z w64 v ≡ of_z w64 k → ⊥) → to_z w64 (of_z w64 v) ≡ k → ⊥
-not_as v k s h e = h (ap (of_z w64) (sym (to_z-of_z w64 v s) ∙ e))
 
 -- ---- the count of a block
 

@@ -1,5 +1,5 @@
 -- A block's columns, and the arrays of its builders.
-use Rattle.std.proofs.Common.{◌≡◌, ◌∙◌, ℕ, zero, suc, ◌+◌, ◌<◌, ◌≤◌, Bool, List, [], ◌∷◌, ◌++◌, length, get_or, drop, set, map, Result, Ok, Err, refl, sym, ap, add-one, arith}
+use Rattle.std.proofs.Common.{◌≡◌, ◌∙◌, ℕ, ◌+◌, ◌<◌, ◌≤◌, Bool, List, [], ◌∷◌, ◌++◌, length, get_or, drop, set, map, Result, Ok, Err, refl, sym, ap, add-one, arith}
 use Rattle.std.specs.Prelude.{IfErr}
 use Rattle.std.proofs.lemmas.List.{length-map, get_or-map, drop-set-lt}
 use Rattle.std.proofs.lemmas.List.FromFn.{get_or-map-range_with_len}
@@ -28,10 +28,7 @@ use Rattle.avro_decode.specs.Faults.{fault_error}
 use Rattle.avro_decode.specs.declared.fault.BlockFault.{BlockFault}
 use Rattle.avro_decode.specs.declared.fault.BlockFault.TheVariants.{Bytes, NegativeSize as BelowZero, Memory}
 use Rattle.avro_schema.specs.Refusals.{AreCounted, BytesRefused}
-use Rattle.avro_decode.proofs.Columns.{AreEmpty, grown_columns, length-grown_by}
-
-wide_same : (m n : ℕ) (rs : List (List Slot)) → m ≡ n → AreWide m rs → AreWide n rs
-wide_same m n rs e w = rw (sym e) w
+use Rattle.avro_decode.proofs.Columns.{AreEmpty, grown_columns, length-grown_by, wide_same}
 
 -- a column for each field whose values its builders take
 pub a_column_each : (fields : List AvroField) (old new : List MutableArray) → AllSuit fields old → map shape new ≡ map shape old → length (map builder_slots new) ≡ length fields
@@ -97,12 +94,6 @@ done_more {A} {B} {X} f g done builders i a b new whole lt so e =
     pushed : {A X : Type 0} (f : A → X) (xs : List A) (x : A) (more : List X) → map f (xs ++ x ∷ []) ++ more ≡ map f xs ++ f x ∷ more
     pushed f [] x more = refl
     pushed {A} {X} f (y ∷ xs) x more = ap (λ (zs : List X). f y ∷ zs) (pushed f xs x more)
-
-none_left : {A : Type 0} (xs : List A) (k : ℕ) → length xs ≤ k → drop k xs ≡ []
-none_left [] zero h = refl
-none_left [] (suc k) h = refl
-none_left (x ∷ xs) zero h = absurd (omega (arith, h))
-none_left (x ∷ xs) (suc k) h = none_left xs k (omega (arith, h))
 
 -- ---- the columns of a table have one length
 

@@ -30,10 +30,10 @@ pub record PlanFits (p : Plan) (n : ℕ) (builders : List MutableArray) : Type 0
 -- passed; where the bytes bound all content, and each node has spare capacity for the bytes ahead, memory doesn't run
 -- out; and the cursor is the same one and only moves forward. On Ok the builders are tight. What an Ok costs is told
 -- beside what it gives (`GivesRows`).
-pub record KeepsRows {X Y : Type 0} (rest : X → List ℕ) (calls whose : X → ℕ) (p : Plan) (old new : X) (before now : List MutableArray) (r : Result Y BlockFault) : Type 0 where
+pub record KeepsRows {X Y : Type 0} (rest : X → List ℕ) (calls identity : X → ℕ) (p : Plan) (old new : X) (before now : List MutableArray) (r : Result Y BlockFault) : Type 0 where
   pub shapes : map shape now ≡ map shape before
   pub tight : OnOk r (All IsTight now)
   pub grows : ChildrenGrow (passed (rest old) (rest new)) (kept_fields p) before now
   pub has_capacity : ChildrenHaveSpare (length (rest old)) (kept_fields p) before → BlockHasMemory r
-  pub same : whose new ≡ whose old
+  pub same : identity new ≡ identity old
   pub moves : Moves rest calls old new

@@ -28,7 +28,7 @@ use arrow_builders::{
     DynMutableLargeListArray, DynMutableListArray, DynMutableStructArray, MutableArray,
 };
 use avro_flat::{DecodeFault, pushed};
-use avro_reference::Ahead;
+use avro_reference::ByteReader;
 use avro_schema::{AvroField, AvroSchema};
 use avro_types::is_null;
 
@@ -38,7 +38,7 @@ use avro_types::is_null;
 #[cycle(decode)]
 #[inline(always)]
 #[tactic(auto, using(crate::proofs::Sets::values))]
-pub fn decode_value<C: Ahead>(
+pub fn decode_value<C: ByteReader>(
     cursor: &mut C,
     schema: &AvroSchema,
     builder: &mut MutableArray,
@@ -48,7 +48,7 @@ pub fn decode_value<C: Ahead>(
     requires tight { IsTight builder.old }
     requires offsets { AllOffsetsReach (mask true schema.now) (length (C.rest cursor.old))
         builder.old }
-    ensures keeps { Keeps C.rest C.shown C.calls C.whose (mask false schema.now)
+    ensures keeps { Keeps C.rest C.shown C.calls C.identity (mask false schema.now)
         cursor.old cursor.new builder.old builder.new result }
     ensures shorter { OnOk result (length (C.rest cursor.new) < length (C.rest cursor.old)) }
     ensures reads { Gives (λ _. (builder_slots builder.new, C.rest cursor.new)) result
@@ -64,7 +64,7 @@ pub fn decode_value<C: Ahead>(
 #[cycle(decode)]
 #[inline(always)]
 #[tactic(auto, using(crate::proofs::Sets::values))]
-fn decode_no_union<C: Ahead>(
+fn decode_no_union<C: ByteReader>(
     cursor: &mut C,
     schema: &AvroSchema,
     builder: &mut MutableArray,
@@ -75,7 +75,7 @@ fn decode_no_union<C: Ahead>(
     requires tight { IsTight builder.old }
     requires offsets { AllOffsetsReach (mask true schema.now) (length (C.rest cursor.old))
         builder.old }
-    ensures keeps { Keeps C.rest C.shown C.calls C.whose (mask false schema.now)
+    ensures keeps { Keeps C.rest C.shown C.calls C.identity (mask false schema.now)
         cursor.old cursor.new builder.old builder.new result }
     ensures shorter { OnOk result (length (C.rest cursor.new) < length (C.rest cursor.old)) }
     ensures reads { Gives (λ _. (builder_slots builder.new, C.rest cursor.new)) result
@@ -100,7 +100,7 @@ fn decode_no_union<C: Ahead>(
 #[cycle(decode)]
 #[inline(never)]
 #[tactic(auto, using(crate::proofs::Sets::values))]
-fn decode_union<C: Ahead>(
+fn decode_union<C: ByteReader>(
     cursor: &mut C,
     members: &[AvroSchema],
     builder: &mut MutableArray,
@@ -109,7 +109,7 @@ fn decode_union<C: Ahead>(
     requires tight { IsTight builder.old }
     requires offsets { AllOffsetsReach (mask_pair members.now) (length (C.rest cursor.old))
         builder.old }
-    ensures keeps { Keeps C.rest C.shown C.calls C.whose (mask_pair members.now)
+    ensures keeps { Keeps C.rest C.shown C.calls C.identity (mask_pair members.now)
         cursor.old cursor.new builder.old builder.new result }
     ensures shorter { OnOk result (length (C.rest cursor.new) < length (C.rest cursor.old)) }
     ensures reads { Gives (λ _. (builder_slots builder.new, C.rest cursor.new)) result
@@ -132,7 +132,7 @@ fn decode_union<C: Ahead>(
 #[cycle(decode)]
 #[inline(always)]
 #[tactic(auto, using(crate::proofs::Sets::values))]
-fn decode_pair<C: Ahead>(
+fn decode_pair<C: ByteReader>(
     cursor: &mut C,
     index: i64,
     null_first: bool,
@@ -144,7 +144,7 @@ fn decode_pair<C: Ahead>(
     requires tight { IsTight builder.old }
     requires offsets { AllOffsetsReach (mask true schema.now) (length (C.rest cursor.old) + 1)
         builder.old }
-    ensures keeps { KeepsMember C.rest C.shown C.calls C.whose (mask true schema.now)
+    ensures keeps { KeepsMember C.rest C.shown C.calls C.identity (mask true schema.now)
         cursor.old cursor.new builder.old builder.new result }
     ensures reads { Gives (λ _. (builder_slots builder.new, C.rest cursor.new)) result
         (push_one (builder_slots builder.old)
@@ -175,7 +175,7 @@ pub fn is_null_at(index: i64, null_first: bool) -> Option<bool>
 #[cycle(decode)]
 #[inline(always)]
 #[tactic(auto, using(crate::proofs::Sets::values))]
-fn decode_member<C: Ahead>(
+fn decode_member<C: ByteReader>(
     cursor: &mut C,
     null: bool,
     schema: &AvroSchema,
@@ -186,7 +186,7 @@ fn decode_member<C: Ahead>(
     requires tight { IsTight builder.old }
     requires offsets { AllOffsetsReach (mask true schema.now) (length (C.rest cursor.old) + 1)
         builder.old }
-    ensures keeps { KeepsMember C.rest C.shown C.calls C.whose (mask true schema.now)
+    ensures keeps { KeepsMember C.rest C.shown C.calls C.identity (mask true schema.now)
         cursor.old cursor.new builder.old builder.new result }
     ensures reads { Gives (λ _. (builder_slots builder.new, C.rest cursor.new)) result
         (push_one (builder_slots builder.old) (null_or null schema.now (C.rest cursor.old))) }
@@ -202,7 +202,7 @@ fn decode_member<C: Ahead>(
 #[cycle(decode)]
 #[inline(never)]
 #[tactic(auto, using(crate::proofs::Sets::values))]
-fn decode_array<C: Ahead>(
+fn decode_array<C: ByteReader>(
     cursor: &mut C,
     item: &AvroSchema,
     lists: &mut DynMutableListArray,
@@ -211,7 +211,7 @@ fn decode_array<C: Ahead>(
     requires tight { IsTight (List lists.old) }
     requires offsets { AllOffsetsReach (mask true (Array item.now)) (length (C.rest cursor.old))
         (List lists.old) }
-    ensures keeps { Keeps C.rest C.shown C.calls C.whose (mask false (Array item.now))
+    ensures keeps { Keeps C.rest C.shown C.calls C.identity (mask false (Array item.now))
         cursor.old cursor.new (List lists.old) (List lists.new) result }
     ensures shorter { OnOk result (length (C.rest cursor.new) < length (C.rest cursor.old)) }
     ensures reads { Gives (λ _. (builder_slots (List lists.new), C.rest cursor.new)) result
@@ -225,7 +225,7 @@ fn decode_array<C: Ahead>(
 #[cycle(decode)]
 #[inline(never)]
 #[tactic(auto, using(crate::proofs::Sets::values))]
-fn decode_large_array<C: Ahead>(
+fn decode_large_array<C: ByteReader>(
     cursor: &mut C,
     item: &AvroSchema,
     lists: &mut DynMutableLargeListArray,
@@ -234,7 +234,7 @@ fn decode_large_array<C: Ahead>(
     requires tight { IsTight (LargeList lists.old) }
     requires offsets { AllOffsetsReach (mask true (Array item.now)) (length (C.rest cursor.old))
         (LargeList lists.old) }
-    ensures keeps { Keeps C.rest C.shown C.calls C.whose (mask false (Array item.now))
+    ensures keeps { Keeps C.rest C.shown C.calls C.identity (mask false (Array item.now))
         cursor.old cursor.new (LargeList lists.old) (LargeList lists.new) result }
     ensures shorter { OnOk result (length (C.rest cursor.new) < length (C.rest cursor.old)) }
     ensures reads { Gives (λ _. (builder_slots (LargeList lists.new), C.rest cursor.new)) result
@@ -249,7 +249,7 @@ fn decode_large_array<C: Ahead>(
 #[cycle(decode)]
 #[inline(always)]
 #[tactic(auto, using(crate::proofs::Sets::values))]
-fn decode_blocks<C: Ahead>(
+fn decode_blocks<C: ByteReader>(
     cursor: &mut C,
     item: &AvroSchema,
     child: &mut MutableArray,
@@ -258,7 +258,7 @@ fn decode_blocks<C: Ahead>(
     requires tight { IsTight child.old }
     requires offsets { AllOffsetsReach (mask true item.now) (length (C.rest cursor.old))
         child.old }
-    ensures keeps { Keeps C.rest C.shown C.calls C.whose (mask false item.now) cursor.old cursor.new
+    ensures keeps { Keeps C.rest C.shown C.calls C.identity (mask false item.now) cursor.old cursor.new
         child.old child.new result }
     ensures shorter { OnOk result (length (C.rest cursor.new) < length (C.rest cursor.old)) }
     ensures reads { Gives (λ _. (builder_slots child.new, C.rest cursor.new)) result
@@ -278,7 +278,7 @@ fn decode_blocks<C: Ahead>(
 /// Reads the items of a block after its count; where this is below 0, after their size too.
 #[cycle(decode)]
 #[tactic(auto, using(crate::proofs::Sets::values))]
-fn decode_block_items<C: Ahead>(
+fn decode_block_items<C: ByteReader>(
     cursor: &mut C,
     item: &AvroSchema,
     count: i64,
@@ -289,7 +289,7 @@ fn decode_block_items<C: Ahead>(
     requires tight { IsTight child.old }
     requires offsets { AllOffsetsReach (mask true item.now) (length (C.rest cursor.old))
         child.old }
-    ensures keeps { Keeps C.rest C.shown C.calls C.whose (mask false item.now) cursor.old cursor.new
+    ensures keeps { Keeps C.rest C.shown C.calls C.identity (mask false item.now) cursor.old cursor.new
         child.old child.new result }
     ensures reads { Gives (λ _. (builder_slots child.new, C.rest cursor.new)) result
         (block_items (read item.now) count (builder_slots child.old) (C.rest cursor.old)) }
@@ -306,7 +306,7 @@ fn decode_block_items<C: Ahead>(
 
 #[cycle(decode)]
 #[tactic(auto, using(crate::proofs::Sets::values))]
-fn decode_sized<C: Ahead>(
+fn decode_sized<C: ByteReader>(
     cursor: &mut C,
     item: &AvroSchema,
     count: u64,
@@ -316,7 +316,7 @@ fn decode_sized<C: Ahead>(
     requires tight { IsTight child.old }
     requires offsets { AllOffsetsReach (mask true item.now) (length (C.rest cursor.old))
         child.old }
-    ensures keeps { Keeps C.rest C.shown C.calls C.whose (mask false item.now) cursor.old cursor.new
+    ensures keeps { Keeps C.rest C.shown C.calls C.identity (mask false item.now) cursor.old cursor.new
         child.old child.new result }
     ensures reads { Gives (λ _. (builder_slots child.new, C.rest cursor.new)) result
         (sized_items (read item.now) count (builder_slots child.old) (C.rest cursor.old)) }
@@ -335,7 +335,7 @@ fn decode_sized<C: Ahead>(
 /// Reads so many values of one schema. Flat ones are read in a loop outside of the cycle.
 #[cycle(decode)]
 #[tactic(auto, using(crate::proofs::Sets::values))]
-pub fn decode_items<C: Ahead>(
+pub fn decode_items<C: ByteReader>(
     cursor: &mut C,
     item: &AvroSchema,
     count: u64,
@@ -345,7 +345,7 @@ pub fn decode_items<C: Ahead>(
     requires tight { IsTight child.old }
     requires offsets { AllOffsetsReach (mask true item.now) (length (C.rest cursor.old))
         child.old }
-    ensures keeps { Keeps C.rest C.shown C.calls C.whose (mask false item.now) cursor.old cursor.new
+    ensures keeps { Keeps C.rest C.shown C.calls C.identity (mask false item.now) cursor.old cursor.new
         child.old child.new result }
     ensures reads { Gives (λ _. (builder_slots child.new, C.rest cursor.new)) result
         (items (read item.now) count (builder_slots child.old) (C.rest cursor.old)) }
@@ -360,7 +360,7 @@ pub fn decode_items<C: Ahead>(
 
 #[cycle(decode)]
 #[tactic(auto, using(crate::proofs::Sets::values))]
-fn decode_nested_items<C: Ahead>(
+fn decode_nested_items<C: ByteReader>(
     cursor: &mut C,
     item: &AvroSchema,
     count: u64,
@@ -370,7 +370,7 @@ fn decode_nested_items<C: Ahead>(
     requires tight { IsTight child.old }
     requires offsets { AllOffsetsReach (mask true item.now) (length (C.rest cursor.old))
         child.old }
-    ensures keeps { Keeps C.rest C.shown C.calls C.whose (mask false item.now) cursor.old cursor.new
+    ensures keeps { Keeps C.rest C.shown C.calls C.identity (mask false item.now) cursor.old cursor.new
         child.old child.new result }
     ensures reads { Gives (λ _. (builder_slots child.new, C.rest cursor.new)) result
         (items (read item.now) count (builder_slots child.old) (C.rest cursor.old)) }
@@ -385,7 +385,7 @@ fn decode_nested_items<C: Ahead>(
 #[cycle(decode)]
 #[inline(never)]
 #[tactic(auto, using(crate::proofs::Sets::values))]
-fn decode_record<C: Ahead>(
+fn decode_record<C: ByteReader>(
     cursor: &mut C,
     fields: &[AvroField],
     records: &mut DynMutableStructArray,
@@ -395,7 +395,7 @@ fn decode_record<C: Ahead>(
     requires tight { IsTight (Struct records.old) }
     requires offsets { AllOffsetsReach (true ∷ masks true fields.now) (length (C.rest cursor.old))
         (Struct records.old) }
-    ensures keeps { Keeps C.rest C.shown C.calls C.whose (true ∷ masks false fields.now)
+    ensures keeps { Keeps C.rest C.shown C.calls C.identity (true ∷ masks false fields.now)
         cursor.old cursor.new (Struct records.old) (Struct records.new) result }
     ensures shorter { OnOk result (length (C.rest cursor.new) < length (C.rest cursor.old)) }
     ensures reads { Gives (λ _. (builder_slots (Struct records.new), C.rest cursor.new)) result
@@ -408,7 +408,7 @@ fn decode_record<C: Ahead>(
 
 #[cycle(decode)]
 #[tactic(auto, using(crate::proofs::Sets::values))]
-fn decode_fields<C: Ahead>(
+fn decode_fields<C: ByteReader>(
     cursor: &mut C,
     fields: &[AvroField],
     records: &mut DynMutableStructArray,
@@ -425,7 +425,7 @@ fn decode_fields<C: Ahead>(
         records.old.values.items records.new.values.items }
     ensures has_capacity { ChildrenHaveSpare (length (C.rest cursor.old))
         fields.now records.old.values.items → HasMemory result }
-    ensures same { C.whose cursor.new ≡ C.whose cursor.old }
+    ensures same { C.identity cursor.new ≡ C.identity cursor.old }
     ensures moves { Moves C.rest C.calls cursor.old cursor.new }
     ensures shorter { OnOk result (length (C.rest cursor.new) + length
         fields.now ≤ length (C.rest cursor.old)) }

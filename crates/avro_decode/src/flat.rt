@@ -18,13 +18,13 @@ use avro_flat::{
     DecodeFault, decode_binary, decode_boolean, decode_decimal, decode_duration, decode_fixed,
     decode_fixed_decimal, decode_int, decode_long, decode_string, decode_symbol,
 };
-use avro_reference::Ahead;
+use avro_reference::ByteReader;
 use avro_schema::{AvroSchema, Fixed, FixedLogical};
 
 /// Reads one value of a flat schema into one more slot.
 #[inline(always)]
 #[tactic(auto, using(crate::proofs::Sets::kinds))]
-pub fn decode_flat<C: Ahead>(
+pub fn decode_flat<C: ByteReader>(
     cursor: &mut C,
     schema: &AvroSchema,
     builder: &mut MutableArray,
@@ -34,7 +34,7 @@ pub fn decode_flat<C: Ahead>(
     requires suits { Suits schema.now (shape builder.old) }
     requires offsets { AllOffsetsReach (mask true schema.now) (length (C.rest cursor.old))
         builder.old }
-    ensures keeps { Keeps C.rest C.shown C.calls C.whose (mask false schema.now)
+    ensures keeps { Keeps C.rest C.shown C.calls C.identity (mask false schema.now)
         cursor.old cursor.new builder.old builder.new result }
     ensures reads { Gives (λ _. (builder_slots builder.new, C.rest cursor.new)) result
         (push_one (builder_slots builder.old) (read schema.now (C.rest cursor.old))) }
@@ -88,7 +88,7 @@ pub fn decode_flat<C: Ahead>(
 /// Reads a value of a fixed type, of any logical type, into one more slot.
 #[inline(always)]
 #[tactic(auto, using(crate::proofs::Sets::kinds))]
-fn decode_fixed_type<C: Ahead>(
+fn decode_fixed_type<C: ByteReader>(
     cursor: &mut C,
     fixed: &Fixed,
     builder: &mut MutableArray,
@@ -96,7 +96,7 @@ fn decode_fixed_type<C: Ahead>(
     requires size { IsFixedSize fixed.now.size fixed.now.logical }
     requires kind { builder_kind builder.old ≡ fixed_kind fixed.now.logical }
     requires suits { Suits (FixedSchema fixed.now) (shape builder.old) }
-    ensures keeps { Keeps C.rest C.shown C.calls C.whose (true ∷ []) cursor.old cursor.new
+    ensures keeps { Keeps C.rest C.shown C.calls C.identity (true ∷ []) cursor.old cursor.new
         builder.old builder.new result }
     ensures reads { Gives (λ _. (builder_slots builder.new, C.rest cursor.new)) result
         (push_one (builder_slots builder.old)

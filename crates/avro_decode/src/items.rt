@@ -21,12 +21,12 @@ use avro_flat::{
     decode_fixed_decimals, decode_fixed_values, decode_ints, decode_longs, decode_strings,
     decode_symbols,
 };
-use avro_reference::Ahead;
+use avro_reference::ByteReader;
 use avro_schema::{AvroSchema, Fixed, FixedLogical};
 
 /// Reads so many values of a flat schema, each into one more slot.
 #[tactic(auto, using(crate::proofs::Sets::kinds))]
-pub fn decode_flat_items<C: Ahead>(
+pub fn decode_flat_items<C: ByteReader>(
     cursor: &mut C,
     schema: &AvroSchema,
     count: u64,
@@ -38,7 +38,7 @@ pub fn decode_flat_items<C: Ahead>(
     requires tight { IsTight builder.old }
     requires offsets { AllOffsetsReach (mask true schema.now) (length (C.rest cursor.old))
         builder.old }
-    ensures keeps { Keeps C.rest C.shown C.calls C.whose (mask false schema.now)
+    ensures keeps { Keeps C.rest C.shown C.calls C.identity (mask false schema.now)
         cursor.old cursor.new builder.old builder.new result }
     ensures reads { Gives (λ _. (builder_slots builder.new, C.rest cursor.new)) result
         (items (read schema.now) count (builder_slots builder.old) (C.rest cursor.old)) }
@@ -91,7 +91,7 @@ pub fn decode_flat_items<C: Ahead>(
 
 /// Reads so many values of a fixed type, of any logical type, each into one more slot.
 #[tactic(auto, using(crate::proofs::Sets::kinds))]
-fn decode_fixed_items<C: Ahead>(
+fn decode_fixed_items<C: ByteReader>(
     cursor: &mut C,
     fixed: &Fixed,
     count: u64,
@@ -100,7 +100,7 @@ fn decode_fixed_items<C: Ahead>(
     requires size { IsFixedSize fixed.now.size fixed.now.logical }
     requires kind { builder_kind builder.old ≡ fixed_kind fixed.now.logical }
     requires suits { Suits (FixedSchema fixed.now) (shape builder.old) }
-    ensures keeps { Keeps C.rest C.shown C.calls C.whose (true ∷ []) cursor.old cursor.new
+    ensures keeps { Keeps C.rest C.shown C.calls C.identity (true ∷ []) cursor.old cursor.new
         builder.old builder.new result }
     ensures reads { Gives (λ _. (builder_slots builder.new, C.rest cursor.new)) result
         (items (fixed_at fixed.now.size fixed.now.logical) count (builder_slots builder.old)

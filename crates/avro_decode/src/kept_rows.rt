@@ -11,7 +11,7 @@ use crate::fault::BlockFault;
 use crate::plan::Plan;
 use crate::steps::{MOST_STEPS, Step, decode_by_step, steps_of};
 use arrow_builders::MutableArray;
-use avro_reference::Ahead;
+use avro_reference::ByteReader;
 
 /// Whether each field is kept.
 pub fn all_kept(projection: &[bool]) -> bool
@@ -26,7 +26,7 @@ pub fn all_kept(projection: &[bool]) -> bool
 }
 
 /// Reads so many rows of which each field is kept, by the steps of the fields.
-pub fn decode_kept_rows<C: Ahead>(
+pub fn decode_kept_rows<C: ByteReader>(
     cursor: &mut C,
     rows: usize,
     plan: &Plan,
@@ -35,7 +35,7 @@ pub fn decode_kept_rows<C: Ahead>(
     requires few { length plan.now.avro_fields.now ≤ MOST_STEPS }
     requires all { All IsTrue plan.now.projection.now }
     requires plan { PlanFits plan.now (length (C.rest cursor.old)) builders.old }
-    ensures keeps { KeepsRows C.rest C.calls C.whose plan.now cursor.old cursor.new
+    ensures keeps { KeepsRows C.rest C.calls C.identity plan.now cursor.old cursor.new
         builders.old builders.new result }
     ensures reads { GivesRows C.rest C.shown C.calls cursor.old cursor.new
         (map builder_slots builders.old) (map builder_slots builders.new) result
@@ -52,7 +52,7 @@ pub fn decode_kept_rows<C: Ahead>(
 
 /// Reads one row, each field into its builder.
 #[inline(always)]
-fn decode_kept_row<C: Ahead>(
+fn decode_kept_row<C: ByteReader>(
     cursor: &mut C,
     steps: &[Step],
     plan: &Plan,
@@ -62,7 +62,7 @@ fn decode_kept_row<C: Ahead>(
     requires enough { length plan.now.avro_fields.now ≤ length steps.now }
     requires all { All IsTrue plan.now.projection.now }
     requires plan { PlanFits plan.now (length (C.rest cursor.old)) builders.old }
-    ensures keeps { KeepsRows C.rest C.calls C.whose plan.now cursor.old cursor.new
+    ensures keeps { KeepsRows C.rest C.calls C.identity plan.now cursor.old cursor.new
         builders.old builders.new result }
     ensures reads { GivesRow C.rest C.shown C.calls cursor.old cursor.new
         (map builder_slots builders.old) (map builder_slots builders.new) result

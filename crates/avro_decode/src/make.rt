@@ -11,9 +11,8 @@ ghost use Rattle.arrow_builders.specs.MutableArrays.{nodes};
 ghost use Rattle.arrow_builders.specs.Nodes.{IsEmpty};
 ghost use Rattle.arrow_builders.specs.Shapes.{shape, flat, dictionary, lists, records};
 ghost use Rattle.avro_schema.specs.declared.schema.Schema.{Union};
-ghost use Rattle.avro_schema.specs.Types.{HasType, symbol_type};
+ghost use Rattle.avro_schema.specs.Types.{HasType, Fits, symbol_type};
 ghost use Rattle.avro_schema.specs.ValidBlock.{small_limit};
-ghost use Rattle.avro_types.specs.Columns.{HasColumnTypes};
 ghost use Rattle.avro_decode.specs.Making.{CanBeKept, IsNewBuilder, AreNewBuilders, IsFlatType};
 
 use arrow_array::Utf8Array;
@@ -94,7 +93,7 @@ fn make_children(
     fields: &[Field],
 ) -> Result<Vec<MutableArray>>
     requires kept { All (λ a. CanBeKept a.schema) avro_fields.now }
-    requires typed { HasColumnTypes true fields.now avro_fields.now }
+    requires typed { Fits fields.now avro_fields.now }
     ensures made { IfOk result (λ bs. AreNewBuilders avro_fields.now fields.now bs.items) }
     ensures memory { OnlyOutOfMemory result }
 {

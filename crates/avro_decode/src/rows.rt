@@ -23,13 +23,13 @@ use crate::plan::Plan;
 use crate::steps::MOST_STEPS;
 use arrow_builders::MutableArray;
 use avro_flat::DecodeFault;
-use avro_reference::Ahead;
+use avro_reference::ByteReader;
 use avro_schema::AvroSchema;
 use avro_skip::{SkipFault, skip_value};
 
 /// Reads the rows of a whole block.
 #[inline(always)]
-pub fn decode_block<C: Ahead>(
+pub fn decode_block<C: ByteReader>(
     cursor: &mut C,
     rows: usize,
     plan: &Plan,
@@ -37,7 +37,7 @@ pub fn decode_block<C: Ahead>(
 ) -> Result<(), BlockFault>
     requires plan { PlanFits plan.now (length (C.rest cursor.old)) builders.old }
     requires enough { rows ≤ length (C.rest cursor.old) }
-    ensures keeps { KeepsRows C.rest C.calls C.whose plan.now cursor.old cursor.new
+    ensures keeps { KeepsRows C.rest C.calls C.identity plan.now cursor.old cursor.new
         builders.old builders.new result }
     ensures reads { GivesBlock C.rest C.shown C.calls cursor.old cursor.new
         (map builder_slots builders.old) (map builder_slots builders.new) result
@@ -54,14 +54,14 @@ pub fn decode_block<C: Ahead>(
 /// and no field has to be found again for each row. Where each field is kept, and they are no more
 /// than there are steps, how a field is read is told once and not again for each row.
 #[inline(always)]
-fn decode_rows<C: Ahead>(
+fn decode_rows<C: ByteReader>(
     cursor: &mut C,
     rows: usize,
     plan: &Plan,
     builders: &mut [MutableArray],
 ) -> Result<(), BlockFault>
     requires plan { PlanFits plan.now (length (C.rest cursor.old)) builders.old }
-    ensures keeps { KeepsRows C.rest C.calls C.whose plan.now cursor.old cursor.new
+    ensures keeps { KeepsRows C.rest C.calls C.identity plan.now cursor.old cursor.new
         builders.old builders.new result }
     ensures reads { GivesRows C.rest C.shown C.calls cursor.old cursor.new
         (map builder_slots builders.old) (map builder_slots builders.new) result
@@ -81,14 +81,14 @@ fn decode_rows<C: Ahead>(
 }
 
 #[inline(always)]
-fn decode_each_row<C: Ahead>(
+fn decode_each_row<C: ByteReader>(
     cursor: &mut C,
     rows: usize,
     plan: &Plan,
     builders: &mut [MutableArray],
 ) -> Result<(), BlockFault>
     requires plan { PlanFits plan.now (length (C.rest cursor.old)) builders.old }
-    ensures keeps { KeepsRows C.rest C.calls C.whose plan.now cursor.old cursor.new
+    ensures keeps { KeepsRows C.rest C.calls C.identity plan.now cursor.old cursor.new
         builders.old builders.new result }
     ensures reads { GivesRows C.rest C.shown C.calls cursor.old cursor.new
         (map builder_slots builders.old) (map builder_slots builders.new) result
@@ -101,7 +101,7 @@ fn decode_each_row<C: Ahead>(
 }
 
 /// Reads the rows of the one field that there is.
-fn decode_only_field<C: Ahead>(
+fn decode_only_field<C: ByteReader>(
     cursor: &mut C,
     rows: usize,
     schema: &AvroSchema,
@@ -111,7 +111,7 @@ fn decode_only_field<C: Ahead>(
     requires tight { IsTight builder.old }
     requires offsets { AllOffsetsReach (mask true schema.now) (length (C.rest cursor.old))
         builder.old }
-    ensures keeps { KeepsField C.rest C.shown C.calls C.whose (mask false schema.now)
+    ensures keeps { KeepsField C.rest C.shown C.calls C.identity (mask false schema.now)
         cursor.old cursor.new builder.old builder.new result }
     ensures reads { GivesField (λ _. (builder_slots builder.new, C.rest cursor.new)) result
         (items (read schema.now) rows (builder_slots builder.old) (C.rest cursor.old)) }
@@ -125,13 +125,13 @@ fn decode_only_field<C: Ahead>(
 
 /// Reads one row: each kept field into its builder, each other field skipped.
 #[inline(always)]
-fn decode_row<C: Ahead>(
+fn decode_row<C: ByteReader>(
     cursor: &mut C,
     plan: &Plan,
     builders: &mut [MutableArray],
 ) -> Result<(), BlockFault>
     requires plan { PlanFits plan.now (length (C.rest cursor.old)) builders.old }
-    ensures keeps { KeepsRows C.rest C.calls C.whose plan.now cursor.old cursor.new
+    ensures keeps { KeepsRows C.rest C.calls C.identity plan.now cursor.old cursor.new
         builders.old builders.new result }
     ensures reads { GivesRow C.rest C.shown C.calls cursor.old cursor.new
         (map builder_slots builders.old) (map builder_slots builders.new) result
@@ -156,7 +156,7 @@ fn decode_row<C: Ahead>(
 
 /// Reads a kept field's value into one more slot of its builder.
 #[inline(always)]
-fn decode_field<C: Ahead>(
+fn decode_field<C: ByteReader>(
     cursor: &mut C,
     schema: &AvroSchema,
     builder: &mut MutableArray,
@@ -165,7 +165,7 @@ fn decode_field<C: Ahead>(
     requires tight { IsTight builder.old }
     requires offsets { AllOffsetsReach (mask true schema.now) (length (C.rest cursor.old))
         builder.old }
-    ensures keeps { KeepsField C.rest C.shown C.calls C.whose (mask false schema.now)
+    ensures keeps { KeepsField C.rest C.shown C.calls C.identity (mask false schema.now)
         cursor.old cursor.new builder.old builder.new result }
     ensures reads { GivesField (λ _. (builder_slots builder.new, C.rest cursor.new)) result
         (push_one (builder_slots builder.old) (read schema.now (C.rest cursor.old))) }
@@ -179,10 +179,10 @@ fn decode_field<C: Ahead>(
 
 /// Skips the value of a field that isn't kept.
 #[inline(always)]
-fn skip_field<C: Ahead>(cursor: &mut C, schema: &AvroSchema) -> Result<(), BlockFault>
+fn skip_field<C: ByteReader>(cursor: &mut C, schema: &AvroSchema) -> Result<(), BlockFault>
     requires carried { Carried schema.now }
     ensures memory { BlockHasMemory result }
-    ensures same { C.whose cursor.new ≡ C.whose cursor.old }
+    ensures same { C.identity cursor.new ≡ C.identity cursor.old }
     ensures moves { Moves C.rest C.calls cursor.old cursor.new }
     ensures passes { PassesField C.rest C.shown C.calls cursor.old cursor.new result
         (skip schema.now (C.rest cursor.old)) }

@@ -20,7 +20,7 @@ use crate::decode::{decode_value, is_null_at};
 use crate::fault::BlockFault;
 use arrow_builders::MutableArray;
 use avro_flat::{DecodeFault, decode_boolean, decode_int, decode_long, decode_string, pushed};
-use avro_reference::Ahead;
+use avro_reference::ByteReader;
 use avro_schema::{AvroField, AvroSchema};
 use avro_types::is_null;
 
@@ -109,7 +109,7 @@ pub(crate) fn steps_of(avro_fields: &[AvroField]) -> [Step; MOST_STEPS]
 
 /// Reads a field's value by its step.
 #[inline(always)]
-pub(crate) fn decode_by_step<C: Ahead>(
+pub(crate) fn decode_by_step<C: ByteReader>(
     cursor: &mut C,
     step: Step,
     schema: &AvroSchema,
@@ -120,7 +120,7 @@ pub(crate) fn decode_by_step<C: Ahead>(
     requires tight { IsTight builder.old }
     requires offsets { AllOffsetsReach (mask true schema.now) (length (C.rest cursor.old))
         builder.old }
-    ensures keeps { KeepsField C.rest C.shown C.calls C.whose (mask false schema.now)
+    ensures keeps { KeepsField C.rest C.shown C.calls C.identity (mask false schema.now)
         cursor.old cursor.new builder.old builder.new result }
     ensures reads { GivesField (λ _. (builder_slots builder.new, C.rest cursor.new)) result
         (push_one (builder_slots builder.old) (read schema.now (C.rest cursor.old))) }
@@ -133,7 +133,7 @@ pub(crate) fn decode_by_step<C: Ahead>(
 }
 
 #[inline(always)]
-fn decode_step<C: Ahead>(
+fn decode_step<C: ByteReader>(
     cursor: &mut C,
     step: Step,
     schema: &AvroSchema,
@@ -144,7 +144,7 @@ fn decode_step<C: Ahead>(
     requires tight { IsTight builder.old }
     requires offsets { AllOffsetsReach (mask true schema.now) (length (C.rest cursor.old))
         builder.old }
-    ensures keeps { Keeps C.rest C.shown C.calls C.whose (mask false schema.now)
+    ensures keeps { Keeps C.rest C.shown C.calls C.identity (mask false schema.now)
         cursor.old cursor.new builder.old builder.new result }
     ensures reads { Gives (λ _. (builder_slots builder.new, C.rest cursor.new)) result
         (push_one (builder_slots builder.old) (read schema.now (C.rest cursor.old))) }
@@ -164,7 +164,7 @@ fn decode_step<C: Ahead>(
 // The patterns on the schema can't fail; they tell the proof which value is read.
 #[inline(always)]
 #[tactic(auto, using(crate::proofs::Sets::kinds))]
-fn decode_kind<C: Ahead>(
+fn decode_kind<C: ByteReader>(
     cursor: &mut C,
     kind: Kind,
     schema: &AvroSchema,
@@ -176,7 +176,7 @@ fn decode_kind<C: Ahead>(
     requires tight { IsTight builder.old }
     requires offsets { AllOffsetsReach (mask true schema.now) (length (C.rest cursor.old))
         builder.old }
-    ensures keeps { Keeps C.rest C.shown C.calls C.whose (mask false schema.now)
+    ensures keeps { Keeps C.rest C.shown C.calls C.identity (mask false schema.now)
         cursor.old cursor.new builder.old builder.new result }
     ensures reads { Gives (λ _. (builder_slots builder.new, C.rest cursor.new)) result
         (push_one (builder_slots builder.old) (read schema.now (C.rest cursor.old))) }
@@ -210,7 +210,7 @@ fn decode_kind<C: Ahead>(
 // inline.
 #[inline(always)]
 #[tactic(auto, using(crate::proofs::Sets::kinds))]
-fn decode_frequent<C: Ahead>(
+fn decode_frequent<C: ByteReader>(
     cursor: &mut C,
     kind: Kind,
     schema: &AvroSchema,
@@ -222,7 +222,7 @@ fn decode_frequent<C: Ahead>(
     requires tight { IsTight builder.old }
     requires offsets { AllOffsetsReach (mask true schema.now) (length (C.rest cursor.old))
         builder.old }
-    ensures keeps { Keeps C.rest C.shown C.calls C.whose (mask false schema.now)
+    ensures keeps { Keeps C.rest C.shown C.calls C.identity (mask false schema.now)
         cursor.old cursor.new builder.old builder.new result }
     ensures reads { Gives (λ _. (builder_slots builder.new, C.rest cursor.new)) result
         (push_one (builder_slots builder.old) (read schema.now (C.rest cursor.old))) }
@@ -253,7 +253,7 @@ fn decode_frequent<C: Ahead>(
 
 /// Reads a value by its schema, in a call of its own, so that less is inlined where rows are read.
 #[inline(never)]
-fn decode_any<C: Ahead>(
+fn decode_any<C: ByteReader>(
     cursor: &mut C,
     schema: &AvroSchema,
     builder: &mut MutableArray,
@@ -262,7 +262,7 @@ fn decode_any<C: Ahead>(
     requires tight { IsTight builder.old }
     requires offsets { AllOffsetsReach (mask true schema.now) (length (C.rest cursor.old))
         builder.old }
-    ensures keeps { Keeps C.rest C.shown C.calls C.whose (mask false schema.now)
+    ensures keeps { Keeps C.rest C.shown C.calls C.identity (mask false schema.now)
         cursor.old cursor.new builder.old builder.new result }
     ensures reads { Gives (λ _. (builder_slots builder.new, C.rest cursor.new)) result
         (push_one (builder_slots builder.old) (read schema.now (C.rest cursor.old))) }
@@ -273,7 +273,7 @@ fn decode_any<C: Ahead>(
 /// Reads a value of a union of null and a kind.
 #[inline(always)]
 #[tactic(auto, using(crate::proofs::Sets::values))]
-fn decode_nullable<C: Ahead>(
+fn decode_nullable<C: ByteReader>(
     cursor: &mut C,
     null_first: bool,
     kind: Kind,
@@ -285,7 +285,7 @@ fn decode_nullable<C: Ahead>(
     requires tight { IsTight builder.old }
     requires offsets { AllOffsetsReach (mask_pair members.now) (length (C.rest cursor.old))
         builder.old }
-    ensures keeps { Keeps C.rest C.shown C.calls C.whose (mask_pair members.now)
+    ensures keeps { Keeps C.rest C.shown C.calls C.identity (mask_pair members.now)
         cursor.old cursor.new builder.old builder.new result }
     ensures reads { Gives (λ _. (builder_slots builder.new, C.rest cursor.new)) result
         (push_one (builder_slots builder.old) (read_union_of members.now (C.rest cursor.old))) }
@@ -309,7 +309,7 @@ fn other_of(members: &[AvroSchema], null_first: bool) -> &AvroSchema
 /// Reads the value of the member at an index, where null is the first one or the second.
 #[inline(always)]
 #[tactic(auto, using(crate::proofs::Sets::values))]
-fn decode_pair<C: Ahead>(
+fn decode_pair<C: ByteReader>(
     cursor: &mut C,
     index: i64,
     null_first: bool,
@@ -322,7 +322,7 @@ fn decode_pair<C: Ahead>(
     requires tight { IsTight builder.old }
     requires offsets { AllOffsetsReach (mask true schema.now) (length (C.rest cursor.old) + 1)
         builder.old }
-    ensures keeps { KeepsMember C.rest C.shown C.calls C.whose (mask true schema.now)
+    ensures keeps { KeepsMember C.rest C.shown C.calls C.identity (mask true schema.now)
         cursor.old cursor.new builder.old builder.new result }
     ensures reads { Gives (λ _. (builder_slots builder.new, C.rest cursor.new)) result
         (push_one (builder_slots builder.old)
@@ -337,7 +337,7 @@ fn decode_pair<C: Ahead>(
 /// Reads one member. A null has no bytes.
 #[inline(always)]
 #[tactic(auto, using(crate::proofs::Sets::values))]
-fn decode_member<C: Ahead>(
+fn decode_member<C: ByteReader>(
     cursor: &mut C,
     null: bool,
     kind: Kind,
@@ -349,7 +349,7 @@ fn decode_member<C: Ahead>(
     requires tight { IsTight builder.old }
     requires offsets { AllOffsetsReach (mask true schema.now) (length (C.rest cursor.old) + 1)
         builder.old }
-    ensures keeps { KeepsMember C.rest C.shown C.calls C.whose (mask true schema.now)
+    ensures keeps { KeepsMember C.rest C.shown C.calls C.identity (mask true schema.now)
         cursor.old cursor.new builder.old builder.new result }
     ensures reads { Gives (λ _. (builder_slots builder.new, C.rest cursor.new)) result
         (push_one (builder_slots builder.old)

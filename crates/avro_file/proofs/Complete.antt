@@ -1,5 +1,5 @@
--- Of a source that tells its bytes: metadata that stands there within the limit is read, and nothing else is answered.
-use Rattle.std.proofs.Common.{◌≡◌, ℕ, ◌≤◌, inl, inr, List, ◌++◌, length, Option, Some, None, refl, sym, ◌∙◌, ap, subst}
+-- Of a source whose bytes the contract knows: metadata that stands there within the limit is read, and nothing else is answered.
+use Rattle.std.proofs.Common.{◌≡◌, ℕ, ◌≤◌, inl, inr, List, ◌++◌, length, Some, None, refl, sym, ◌∙◌, ap, subst}
 use Rattle.std.proofs.lemmas.List.{append_cancel_left}
 use Rattle.std.specs.Io.KnownBytes.{Consumes}
 use Rattle.arrow_base.specs.Outside.{RoseOrFull}
@@ -9,14 +9,15 @@ use Rattle.arrow_core.specs.declared.error.Reason.TheVariants as reason
 use Rattle.avro_schema.specs.declared.schema.Schema as schema
 use Rattle.avro_schema.specs.declared.schema.Record.{Record}
 use Rattle.avro_file.specs.Reading.{SchemaTextRefused}
-use Rattle.avro_file.specs.declared.fault.Fault.{Fault}
-use Rattle.avro_file.specs.declared.fault.Fault.TheVariants.{Form, Reference, Depth, Memory}
+use Rattle.avro_file.specs.declared.fault.SchemaTextFault.{SchemaTextFault}
+use Rattle.avro_file.specs.declared.fault.SchemaTextFault.TheVariants.{Form, Reference, Depth, Memory}
 use Rattle.avro_file.proofs.Answered.{one_schema, only_memory}
 use Rattle.avro_container.specs.File.{HeaderParts, header_parts, schema_entry}
 use Rattle.avro_container.specs.ReadHeader.{Change, ReadsHeader, NoHeader}
 use Rattle.avro_container.specs.Taking.{state}
 use Rattle.avro_container.proofs.OneFile.{header_reads}
 use Rattle.avro_container.proofs.Complete.{header_is_read}
+use Rattle.avro_container.proofs.Reading.{consumed_some}
 use Rattle.avro_file.specs.File.{StandsFor}
 use Rattle.avro_file.specs.Laws.{IsMetadata}
 use Rattle.avro_file.specs.Metadata.{ReadsMetadata, RootFails, IsRecord, MetadataFails}
@@ -25,7 +26,7 @@ use Rattle.avro_file.proofs.Roots.{one_root}
 -- ---- the schema's text
 
 module _ (text : List ℕ) (root : Record) (stands : StandsFor text root) where
-  no_fault : (fault : Fault) → (fault ≡ Memory → ⊥) → SchemaTextRefused text fault → ⊥
+  no_fault : (fault : SchemaTextFault) → (fault ≡ Memory → ⊥) → SchemaTextRefused text fault → ⊥
   no_fault fault isnt f = isnt (only_memory text (schema.Record root) stands.means fault f)
 
   root_is_read : (e : Error) → RootFails text e → e ≡ OutOfMemory
@@ -38,10 +39,6 @@ module _ (text : List ℕ) (root : Record) (stands : StandsFor text root) where
   root_is_read _ f = absurd f
 
 -- ---- the header
-
-consumed_some : (all taken : List ℕ) (left : Option (List ℕ)) → Consumes (Some all) left taken → (rest : List ℕ) × (left ≡ Some rest) × (all ≡ taken ++ rest)
-consumed_some all taken None h = absurd h
-consumed_some all taken (Some rest) h = (rest, refl, h)
 
 some_is : (a b : List ℕ) → Some a ≡ Some b → a ≡ b
 some_is a b e = cc

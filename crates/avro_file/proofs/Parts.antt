@@ -7,8 +7,8 @@ use Rattle.json_tree.specs.declared.value.Value.{out-Value}
 use Rattle.json_tree.specs.declared.value.Object.{Object as Attributes}
 use Rattle.avro_schema.specs.declared.schema.Schema.{Schema, Record, Enum, Fixed}
 use Rattle.avro_schema.specs.declared.schema.Record.{roll-Record}
-use Rattle.avro_file.specs.declared.fault.Fault.{Fault}
-use Rattle.avro_file.specs.declared.fault.Fault.TheVariants.{Form, Reference, Depth, Memory}
+use Rattle.avro_file.specs.declared.fault.SchemaTextFault.{SchemaTextFault}
+use Rattle.avro_file.specs.declared.fault.SchemaTextFault.TheVariants.{Form, Reference, Depth, Memory}
 use Rattle.avro_file.specs.Outcome.{Outcome, wrong, found, then_for, need, each}
 use Rattle.avro_file.specs.Attributes.{attribute, string_at, items_at, count_at, attributes_of, string_of, strings_of}
 use Rattle.avro_file.specs.Types.{fixed_logical}
@@ -18,13 +18,13 @@ use Rattle.avro_file.proofs.Together.{strings_after}
 
 -- ---- a part's fault is the whole's
 
-pub told : {A : Type 0} (r : Result A Fault) (o p : Outcome A) → o ≡ p → Gives r p → Gives r o
+pub told : {A : Type 0} (r : Result A SchemaTextFault) (o p : Outcome A) → o ≡ p → Gives r p → Gives r o
 told r o p e h = subst (λ x. Gives r x) (sym e) h
 
-pub then_fault : {A B : Type 0} (r : Result B Fault) (e : Fault) (f : A → B) (o : Outcome A) → r ≡ Err e → Gives {A = A} (Err e) o → Gives r (then_for f o)
+pub then_fault : {A B : Type 0} (r : Result B SchemaTextFault) (e : SchemaTextFault) (f : A → B) (o : Outcome A) → r ≡ Err e → Gives {A = A} (Err e) o → Gives r (then_for f o)
 then_fault {A} {B} r e f o is h = subst (λ x. Gives x (then_for f o)) (sym is) (at e h)
   where
-    at : (e : Fault) → Gives {A = A} (Err e) o → Gives {A = B} (Err e) (then_for f o)
+    at : (e : SchemaTextFault) → Gives {A = A} (Err e) o → Gives {A = B} (Err e) (then_for f o)
     at Form h = ap (then_for f) h
     at Reference h = ap (then_for f) h
     at Depth h = h
@@ -147,5 +147,5 @@ unfolding strings_of
 strings_end items i xs l = at_drop_all (λ rest. strings_after xs (strings_of rest)) items i l ∙ ap (λ y. Some y) (append-nil xs)
 
 -- the fault of the one part that is the whole
-pub passed : {B : Type 0} (r : Result B Fault) (e : Fault) (o : Outcome B) → r ≡ Err e → Gives {A = B} (Err e) o → Gives r o
+pub passed : {B : Type 0} (r : Result B SchemaTextFault) (e : SchemaTextFault) (o : Outcome B) → r ≡ Err e → Gives {A = B} (Err e) o → Gives r o
 passed r e o is h = subst (λ x. Gives x o) (sym is) h

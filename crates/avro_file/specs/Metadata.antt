@@ -8,7 +8,7 @@ use Rattle.arrow_core.specs.declared.error.Reason.TheVariants as reason
 use Rattle.avro_schema.specs.declared.schema.Schema.{Schema}
 use Rattle.avro_schema.specs.declared.schema.Schema as schema
 use Rattle.avro_schema.specs.declared.schema.Record.{Record}
-use Rattle.avro_file.specs.declared.fault.Fault.TheVariants as fault
+use Rattle.avro_file.specs.declared.fault.SchemaTextFault.TheVariants as fault
 use Rattle.avro_file.specs.Reading.{IsSchemaText, SchemaTextRefused}
 use Rattle.avro_container.specs.ReadHeader.{Change, ReadsHeader, HeaderFails}
 use Rattle.avro_file.specs.File.{StandsFor}

@@ -15,8 +15,8 @@ use Rattle.avro_schema.specs.declared.schema.AvroField.{AvroField}
 use Rattle.avro_file.specs.Outcome.{Outcome, wrong, reference, found, then_for, need, each}
 use Rattle.avro_file.specs.Attributes.{attribute, string_at, items_at, count_at, strings_of, attributes_of}
 use Rattle.avro_file.specs.Types.{primitives, int_logical, long_logical, string_logical, bytes_logical, fixed_logical}
-use Rattle.avro_file.specs.declared.fault.Fault.{Fault}
-use Rattle.avro_file.specs.declared.fault.Fault.TheVariants.{Form, Reference, Depth, Memory}
+use Rattle.avro_file.specs.declared.fault.SchemaTextFault.{SchemaTextFault}
+use Rattle.avro_file.specs.declared.fault.SchemaTextFault.TheVariants.{Form, Reference, Depth, Memory}
 
 -- a type by its name: a primitive type, or one that is declared elsewhere ("Names")
 abbrev pub named_by : Option Schema → Outcome Schema
@@ -113,14 +113,14 @@ abbrev pub IsSchemaText : List ℕ → Schema → Type 0
 IsSchemaText bytes schema = (value : Json) × IsJson value bytes × (schema_of value ≡ found schema)
 
 -- the bytes are no text of a schema, and why
-abbrev pub SchemaTextRefused : List ℕ → Fault → Type 0
+abbrev pub SchemaTextRefused : List ℕ → SchemaTextFault → Type 0
 SchemaTextRefused bytes Depth = HoldsTooMany bytes
 SchemaTextRefused bytes Form = (HoldsTooMany bytes → ⊥) × ((value : Json) → IsJson value bytes → schema_of value ≡ wrong)
 SchemaTextRefused bytes Reference = (value : Json) × IsJson value bytes × (schema_of value ≡ reference)
 SchemaTextRefused bytes Memory = Unit {0}
 
 -- the error that a fault becomes
-abbrev pub IsErrorOf : Fault → Error → Type 0
+abbrev pub IsErrorOf : SchemaTextFault → Error → Type 0
 IsErrorOf Form e = e ≡ ExternalFormat SchemaText
 IsErrorOf Reference e = e ≡ NotYetImplemented TypeReference
 IsErrorOf Depth e = e ≡ LimitExceeded

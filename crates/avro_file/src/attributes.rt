@@ -2,9 +2,9 @@
 ghost use Rattle.std.specs.Prelude.{◌≡◌, ◌≤◌, ℕ, List, Option, None, Some, IfOk, IfErr, IfSome, MatchOption};
 ghost use Rattle.std.specs.Str.Parse.{IsNumeral, digits_value};
 ghost use Rattle.avro_file.specs.Attributes as spec;
-ghost use Rattle.avro_file.specs.declared.fault.Fault.TheVariants.{Memory};
+ghost use Rattle.avro_file.specs.declared.fault.SchemaTextFault.TheVariants.{Memory};
 
-use crate::fault::Fault;
+use crate::fault::SchemaTextFault;
 use arrow_core::Text;
 use json_tree::{Number, Object, Value};
 use std::alloc::Global;
@@ -35,7 +35,11 @@ pub(crate) fn string_at<'a>(object: &'a Object, name: &str) -> Option<&'a str>
 }
 
 /// A copy of an attribute that is a string.
-pub(crate) fn copy_at(alloc: Global, object: &Object, name: &str) -> Result<Option<Text>, Fault>
+pub(crate) fn copy_at(
+    alloc: Global,
+    object: &Object,
+    name: &str,
+) -> Result<Option<Text>, SchemaTextFault>
     ensures copy { IfOk result (λ copied. copied ≡ spec.string_at name.now object.now) }
     ensures memory { IfErr result (λ fault. fault ≡ Memory) }
 {
@@ -45,13 +49,13 @@ pub(crate) fn copy_at(alloc: Global, object: &Object, name: &str) -> Result<Opti
     }
 }
 
-pub(crate) fn copy_of(alloc: Global, text: &str) -> Result<Text, Fault>
+pub(crate) fn copy_of(alloc: Global, text: &str) -> Result<Text, SchemaTextFault>
     ensures copy { IfOk result (λ copied. copied ≡ text.now) }
     ensures memory { IfErr result (λ fault. fault ≡ Memory) }
 {
     match Text::try_from_str(alloc, text) {
         Ok(copy) => Ok(copy),
-        Err(_) => Err(Fault::Memory),
+        Err(_) => Err(SchemaTextFault::Memory),
     }
 }
 

@@ -5,7 +5,7 @@ use std::alloc::{AllocError, AllocFailed};
 
 /// Why bytes give no schema.
 #[derive(Clone, Copy, PartialEq, Eq, Debug)]
-pub enum Fault {
+pub enum SchemaTextFault {
     /// The bytes are no JSON text, or the JSON text is no schema.
     Form,
     /// The text is a schema, and gives a type by reference.
@@ -16,39 +16,39 @@ pub enum Fault {
     Memory,
 }
 
-impl From<Fault> for Error {
+impl From<SchemaTextFault> for Error {
     ghost use Rattle.avro_file.specs.Reading.{IsErrorOf};
 
     ghost from_gives = { IsErrorOf };
 
-    fn from(fault: Fault) -> Error {
+    fn from(fault: SchemaTextFault) -> Error {
         match fault {
-            Fault::Form => Error::ExternalFormat(Reason::SchemaText),
-            Fault::Reference => Error::NotYetImplemented(Reason::TypeReference),
-            Fault::Depth => Error::LimitExceeded,
-            Fault::Memory => Error::OutOfMemory,
+            SchemaTextFault::Form => Error::ExternalFormat(Reason::SchemaText),
+            SchemaTextFault::Reference => Error::NotYetImplemented(Reason::TypeReference),
+            SchemaTextFault::Depth => Error::LimitExceeded,
+            SchemaTextFault::Memory => Error::OutOfMemory,
         }
     }
 }
 
-impl From<AllocError> for Fault {
+impl From<AllocError> for SchemaTextFault {
     ghost use Rattle.std.specs.Prelude.{◌≡◌};
-    ghost use Rattle.avro_file.specs.declared.fault.Fault.TheVariants.{Memory};
+    ghost use Rattle.avro_file.specs.declared.fault.SchemaTextFault.TheVariants.{Memory};
 
     ghost from_gives = { λ _ fault. fault ≡ Memory };
 
-    fn from(_error: AllocError) -> Fault {
-        Fault::Memory
+    fn from(_error: AllocError) -> SchemaTextFault {
+        SchemaTextFault::Memory
     }
 }
 
-impl<T: Drop> From<AllocFailed<T>> for Fault {
+impl<T: Drop> From<AllocFailed<T>> for SchemaTextFault {
     ghost use Rattle.std.specs.Prelude.{◌≡◌};
-    ghost use Rattle.avro_file.specs.declared.fault.Fault.TheVariants.{Memory};
+    ghost use Rattle.avro_file.specs.declared.fault.SchemaTextFault.TheVariants.{Memory};
 
     ghost from_gives = { λ _ fault. fault ≡ Memory };
 
-    fn from(_error: AllocFailed<T>) -> Fault {
-        Fault::Memory
+    fn from(_error: AllocFailed<T>) -> SchemaTextFault {
+        SchemaTextFault::Memory
     }
 }

@@ -1,4 +1,5 @@
-//! The header of an Avro file and the record that its schema text stands for.
+//! Avro files without their rows: the header with its record, and schemas as JSON texts, both read
+//! and written; with the calls that read and write blocks, and the types of schemas.
 #![tactic(auto)]
 
 mod attributes;
@@ -17,7 +18,7 @@ pub use avro_schema::{
     AvroField, AvroSchema, Block, BytesLogical, Cursor, Enum, Fixed, FixedLogical, IntLogical,
     LongLogical, Record, Schema, SliceCursor, StringLogical, next_number, zigzag_i64,
 };
-pub use fault::Fault;
+pub use fault::SchemaTextFault;
 pub use laws::{metadata_answers, one_avro_file};
 pub use metadata::{Compression, FileMetadata, read_metadata, write_metadata};
 pub use schema_laws::{depth_is_enough, one_text_one_schema, written_text_is_read};

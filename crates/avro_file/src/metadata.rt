@@ -70,7 +70,7 @@ pub fn read_metadata<S: Source>(
     ensures err { IfErr result (MetadataFails
         (change S.left S.faults source.old source.new byte_limit)) }
     ensures never_falls { S.faults source.old ≤ S.faults source.new }
-    ensures same { S.whose source.new ≡ S.whose source.old }
+    ensures same { S.identity source.new ≡ S.identity source.old }
 {
     let (header, count) = read_header(alloc, source, byte_limit)?;
     let root = read_root(alloc, header.schema.as_slice())?;
@@ -97,7 +97,7 @@ pub fn write_metadata<K: Sink>(
     ensures err { IfErr result (WriteFails (K.held sink.old) (K.held sink.new)
         (K.faults sink.old) (K.faults sink.new) (metadata_bytes root.now marker)) }
     ensures never_falls { K.faults sink.old ≤ K.faults sink.new }
-    ensures same { K.whose sink.new ≡ K.whose sink.old }
+    ensures same { K.identity sink.new ≡ K.identity sink.old }
 {
     let text = record_text(alloc, root)?;
     write_header(sink, text.as_slice(), marker)

@@ -7,7 +7,7 @@ ghost use Rattle.avro_file.specs.Outcome.{each, then_for};
 ghost use Rattle.avro_file.specs.Reading.{reading, named, field as field_of, record_of, enum_of, inner_at, fixed_of, typed_as, of_object, strings};
 
 use crate::attributes::{copy_at, copy_of, count_at, items_at, object_of, string_at, string_of};
-use crate::fault::Fault;
+use crate::fault::SchemaTextFault;
 use crate::logical::{bytes_logical, fixed_logical, int_logical, long_logical, string_logical};
 use arrow_core::{Box, Items, Text};
 use avro_schema::{AvroField, AvroSchema, Enum, Fixed, Record};
@@ -16,22 +16,26 @@ use std::alloc::Global;
 
 /// The schema that a value declares, where schemas nest at most so deep.
 #[cycle(read)]
-pub(crate) fn read_value(alloc: Global, value: &Value, depth: usize) -> Result<AvroSchema, Fault>
+pub(crate) fn read_value(
+    alloc: Global,
+    value: &Value,
+    depth: usize,
+) -> Result<AvroSchema, SchemaTextFault>
     ensures { Gives result (reading depth value.now) }
 {
     if depth == 0 {
-        return Err(Fault::Form);
+        return Err(SchemaTextFault::Form);
     }
     match value {
         Value::String(name) => read_name(name.as_str()),
         Value::Array(members) => read_union(alloc, members.as_slice(), depth - 1),
         Value::Object(object) => read_object(alloc, object, depth - 1),
-        _ => Err(Fault::Form),
+        _ => Err(SchemaTextFault::Form),
     }
 }
 
 /// The type of a name.
-fn read_name(name: &str) -> Result<AvroSchema, Fault>
+fn read_name(name: &str) -> Result<AvroSchema, SchemaTextFault>
     ensures { Gives result (named name.now) }
 {
     match name {
@@ -43,13 +47,13 @@ fn read_name(name: &str) -> Result<AvroSchema, Fault>
         "double" => Ok(AvroSchema::Double),
         "bytes" => Ok(AvroSchema::Bytes(None)),
         "string" => Ok(AvroSchema::String(None)),
-        _ => Err(Fault::Reference),
+        _ => Err(SchemaTextFault::Reference),
     }
 }
 
 /// The union of these members.
 #[cycle(read)]
-fn read_union(alloc: Global, members: &[Value], depth: usize) -> Result<AvroSchema, Fault>
+fn read_union(alloc: Global, members: &[Value], depth: usize) -> Result<AvroSchema, SchemaTextFault>
     ensures { Gives result (then_for Union (each (map (reading depth) members.now))) }
 {
     let mut schemas = Vec::new(alloc);
@@ -57,34 +61,39 @@ fn read_union(alloc: Global, members: &[Value], depth: usize) -> Result<AvroSche
     for member in members {
         match read_value(alloc, member, depth) {
             Ok(schema) => schemas.push(schema)?,
-            Err(Fault::Reference) => refers = true,
+            Err(SchemaTextFault::Reference) => refers = true,
             Err(fault) => return Err(fault),
         }
     }
     if refers {
-        return Err(Fault::Reference);
+        return Err(SchemaTextFault::Reference);
     }
     Ok(AvroSchema::Union(Items::from_vec(schemas)))
 }
 
 /// The schema that an object declares.
 #[cycle(read)]
-fn read_object(alloc: Global, object: &Object, depth: usize) -> Result<AvroSchema, Fault>
+fn read_object(alloc: Global, object: &Object, depth: usize) -> Result<AvroSchema, SchemaTextFault>
     ensures { Gives result (of_object (reading depth) object.now) }
 {
     let Some(type_value) = object.get("type") else {
-        return Err(Fault::Form);
+        return Err(SchemaTextFault::Form);
     };
     match type_value {
         Value::String(name) => read_typed(alloc, name.as_str(), object, depth),
         Value::Array(_) | Value::Object(_) => read_value(alloc, type_value, depth),
-        _ => Err(Fault::Form),
+        _ => Err(SchemaTextFault::Form),
     }
 }
 
 /// The schema of an object whose type has this name.
 #[cycle(read)]
-fn read_typed(alloc: Global, name: &str, object: &Object, depth: usize) -> Result<AvroSchema, Fault>
+fn read_typed(
+    alloc: Global,
+    name: &str,
+    object: &Object,
+    depth: usize,
+) -> Result<AvroSchema, SchemaTextFault>
     ensures { Gives result (typed_as (reading depth) object.now name.now) }
 {
     match name {
@@ -108,28 +117,28 @@ fn read_inner(
     object: &Object,
     name: &str,
     depth: usize,
-) -> Result<Box<AvroSchema>, Fault>
+) -> Result<Box<AvroSchema>, SchemaTextFault>
     ensures { Gives result (inner_at (reading depth) name.now object.now) }
 {
     let Some(value) = object.get(name) else {
-        return Err(Fault::Form);
+        return Err(SchemaTextFault::Form);
     };
     let schema = read_value(alloc, value, depth)?;
     match Box::new(alloc, schema) {
         Ok(boxed) => Ok(boxed),
-        Err(_) => Err(Fault::Memory),
+        Err(_) => Err(SchemaTextFault::Memory),
     }
 }
 
 #[cycle(read)]
-fn read_record(alloc: Global, object: &Object, depth: usize) -> Result<AvroSchema, Fault>
+fn read_record(alloc: Global, object: &Object, depth: usize) -> Result<AvroSchema, SchemaTextFault>
     ensures { Gives result (record_of (reading depth) object.now) }
 {
     let Some(name) = string_at(object, "name") else {
-        return Err(Fault::Form);
+        return Err(SchemaTextFault::Form);
     };
     let Some(items) = items_at(object, "fields") else {
-        return Err(Fault::Form);
+        return Err(SchemaTextFault::Form);
     };
     let fields = read_fields(alloc, items, depth)?;
     Ok(AvroSchema::Record(Record {
@@ -141,7 +150,11 @@ fn read_record(alloc: Global, object: &Object, depth: usize) -> Result<AvroSchem
 }
 
 #[cycle(read)]
-fn read_fields(alloc: Global, items: &[Value], depth: usize) -> Result<Items<AvroField>, Fault>
+fn read_fields(
+    alloc: Global,
+    items: &[Value],
+    depth: usize,
+) -> Result<Items<AvroField>, SchemaTextFault>
     ensures { Gives result (each (map (field_of (reading depth)) items.now)) }
 {
     let mut fields = Vec::new(alloc);
@@ -149,28 +162,28 @@ fn read_fields(alloc: Global, items: &[Value], depth: usize) -> Result<Items<Avr
     for item in items {
         match read_field(alloc, item, depth) {
             Ok(field) => fields.push(field)?,
-            Err(Fault::Reference) => refers = true,
+            Err(SchemaTextFault::Reference) => refers = true,
             Err(fault) => return Err(fault),
         }
     }
     if refers {
-        return Err(Fault::Reference);
+        return Err(SchemaTextFault::Reference);
     }
     Ok(Items::from_vec(fields))
 }
 
 #[cycle(read)]
-fn read_field(alloc: Global, item: &Value, depth: usize) -> Result<AvroField, Fault>
+fn read_field(alloc: Global, item: &Value, depth: usize) -> Result<AvroField, SchemaTextFault>
     ensures { Gives result (field_of (reading depth) item.now) }
 {
     let Some(object) = object_of(item) else {
-        return Err(Fault::Form);
+        return Err(SchemaTextFault::Form);
     };
     let Some(name) = string_at(object, "name") else {
-        return Err(Fault::Form);
+        return Err(SchemaTextFault::Form);
     };
     let Some(value) = object.get("type") else {
-        return Err(Fault::Form);
+        return Err(SchemaTextFault::Form);
     };
     let schema = read_value(alloc, value, depth)?;
     Ok(AvroField {
@@ -180,14 +193,14 @@ fn read_field(alloc: Global, item: &Value, depth: usize) -> Result<AvroField, Fa
     })
 }
 
-fn read_enum(alloc: Global, object: &Object) -> Result<AvroSchema, Fault>
+fn read_enum(alloc: Global, object: &Object) -> Result<AvroSchema, SchemaTextFault>
     ensures { Gives result (enum_of object.now) }
 {
     let Some(name) = string_at(object, "name") else {
-        return Err(Fault::Form);
+        return Err(SchemaTextFault::Form);
     };
     let Some(items) = items_at(object, "symbols") else {
-        return Err(Fault::Form);
+        return Err(SchemaTextFault::Form);
     };
     let symbols = read_symbols(alloc, items)?;
     Ok(AvroSchema::Enum(Enum {
@@ -198,27 +211,27 @@ fn read_enum(alloc: Global, object: &Object) -> Result<AvroSchema, Fault>
     }))
 }
 
-fn read_symbols(alloc: Global, items: &[Value]) -> Result<Items<Text>, Fault>
+fn read_symbols(alloc: Global, items: &[Value]) -> Result<Items<Text>, SchemaTextFault>
     ensures { Gives result (strings items.now) }
 {
     let mut symbols = Vec::new(alloc);
     for item in items {
         let Some(symbol) = string_of(item) else {
-            return Err(Fault::Form);
+            return Err(SchemaTextFault::Form);
         };
         symbols.push(copy_of(alloc, symbol)?)?;
     }
     Ok(Items::from_vec(symbols))
 }
 
-fn read_fixed(alloc: Global, object: &Object) -> Result<AvroSchema, Fault>
+fn read_fixed(alloc: Global, object: &Object) -> Result<AvroSchema, SchemaTextFault>
     ensures { Gives result (fixed_of object.now) }
 {
     let Some(name) = string_at(object, "name") else {
-        return Err(Fault::Form);
+        return Err(SchemaTextFault::Form);
     };
     let Some(size) = count_at(object, "size") else {
-        return Err(Fault::Form);
+        return Err(SchemaTextFault::Form);
     };
     Ok(AvroSchema::Fixed(Fixed {
         name: copy_of(alloc, name)?,

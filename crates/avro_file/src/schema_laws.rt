@@ -4,8 +4,8 @@ ghost use Rattle.json_tree.specs.Meaning.{IsJson};
 ghost use Rattle.json_tree.specs.Tree.{Json};
 ghost use Rattle.avro_schema.specs.declared.schema.Schema.{Schema};
 ghost use Rattle.avro_file.specs.Reading.{IsSchemaText, SchemaTextRefused, reading, schema_of};
-ghost use Rattle.avro_file.specs.declared.fault.Fault.{Fault};
-ghost use Rattle.avro_file.specs.declared.fault.Fault.TheVariants.{Memory};
+ghost use Rattle.avro_file.specs.declared.fault.SchemaTextFault.{SchemaTextFault};
+ghost use Rattle.avro_file.specs.declared.fault.SchemaTextFault.TheVariants.{Memory};
 ghost use Rattle.avro_file.specs.Writable.{IsWritable};
 ghost use Rattle.avro_file.specs.Writing.{schema_text_of};
 
@@ -29,6 +29,6 @@ pub fn written_text_is_read()
         → IsSchemaText (schema_text_of schema) schema }
     ensures one { (schema other : Schema) → IsWritable schema
         → IsSchemaText (schema_text_of schema) other → other ≡ schema }
-    ensures memory { (schema : Schema) (fault : Fault) → IsWritable schema
+    ensures memory { (schema : Schema) (fault : SchemaTextFault) → IsWritable schema
         → SchemaTextRefused (schema_text_of schema) fault → fault ≡ Memory }
 {}

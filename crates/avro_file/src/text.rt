@@ -5,7 +5,7 @@ ghost use Rattle.avro_schema.specs.declared.schema.Schema.{Record as RecordSchem
 ghost use Rattle.avro_file.specs.Reading.{IsSchemaText, SchemaTextRefused};
 ghost use Rattle.avro_file.specs.Writing.{schema_text_of};
 
-use crate::fault::Fault;
+use crate::fault::SchemaTextFault;
 use crate::read::read_value;
 use crate::write::{push_record, push_schema};
 use arrow_core::{Bytes, Error};
@@ -28,15 +28,15 @@ const MOST_DEPTH: usize = 129;
 /// which at most 128 brackets are open at once; else `Form` exactly where the bytes are no JSON text
 /// or no schema; else `Reference` exactly where a type is given by the name of
 /// one that is declared elsewhere. `Memory` may come in place of any answer.
-pub fn read_schema_text(alloc: Global, bytes: &[u8]) -> Result<AvroSchema, Fault>
+pub fn read_schema_text(alloc: Global, bytes: &[u8]) -> Result<AvroSchema, SchemaTextFault>
     ensures ok { IfOk result (λ schema. IsSchemaText bytes.now schema) }
     ensures err { IfErr result (λ fault. SchemaTextRefused bytes.now fault) }
 {
     match parse(alloc, bytes) {
         Ok(value) => read_value(alloc, &value, MOST_DEPTH),
-        Err(JsonFault::Text) => Err(Fault::Form),
-        Err(JsonFault::Depth) => Err(Fault::Depth),
-        Err(JsonFault::Memory) => Err(Fault::Memory),
+        Err(JsonFault::Text) => Err(SchemaTextFault::Form),
+        Err(JsonFault::Depth) => Err(SchemaTextFault::Depth),
+        Err(JsonFault::Memory) => Err(SchemaTextFault::Memory),
     }
 }
 

@@ -90,8 +90,8 @@ items-short {f} h n old bytes lt = none-where (items f n old bytes) (λ x e. let
 -- ---- nothing is read
 
 -- a fault, and no value
-unread : {X : Type 0} (rest : X → List ℕ) (shown calls whose : X → ℕ) (y z : X) (s : DataType) (a : Node) (xs : List Slot) (reading : Option (List Slot × List ℕ)) → whose z ≡ whose y → Moves rest calls y z → reading ≡ None → Reads rest shown calls whose y z s s a a xs (Err Bytes) reading
-unread rest shown calls whose y z s a xs reading w m e = record {
+unread : {X : Type 0} (rest : X → List ℕ) (shown calls identity : X → ℕ) (y z : X) (s : DataType) (a : Node) (xs : List Slot) (reading : Option (List Slot × List ℕ)) → identity z ≡ identity y → Moves rest calls y z → reading ≡ None → Reads rest shown calls identity y z s s a a xs (Err Bytes) reading
+unread rest shown calls identity y z s a xs reading w m e = record {
   data_type = λ _. s;
   grows = fills_none (passed (rest y) (rest z)) a;
   has_capacity = λ _. tt;
@@ -118,28 +118,28 @@ no-less-fills n x y h = record {
   byte_capacity = omega (arith, h.bytes, h.byte_capacity);
 }
 
-module _ {X : Type 0} (rest : X → List ℕ) (shown calls whose : X → ℕ) (f : Reader Slot) (count : ℕ) (x : X) where
+module _ {X : Type 0} (rest : X → List ℕ) (shown calls identity : X → ℕ) (f : Reader Slot) (count : ℕ) (x : X) where
   -- fewer bytes are ahead than values are wanted
-  pub many_short : (s : DataType) (a : Node) (xs : List Slot) → HasByte f → length (rest x) < count → Reads rest shown calls whose x x s s a a xs (Err Bytes) (items f count xs (rest x))
-  many_short s a xs h lt = unread rest shown calls whose x x s a xs (items f count xs (rest x)) refl (moves_none rest calls x) (items-short {f = f} h count xs (rest x) lt)
+  pub many_short : (s : DataType) (a : Node) (xs : List Slot) → HasByte f → length (rest x) < count → Reads rest shown calls identity x x s s a a xs (Err Bytes) (items f count xs (rest x))
+  many_short s a xs h lt = unread rest shown calls identity x x s a xs (items f count xs (rest x)) refl (moves_none rest calls x) (items-short {f = f} h count xs (rest x) lt)
 
   -- there is no memory for so many
-  pub many_refused : (s t : DataType) (a b : Node) (xs ys : List Slot) (d : DecodeFault) → count ≤ length (rest x) → t ≡ s → NoLessSpare a b → (count ≤ a.spare → HasMemory {X = Unit {0}} (Err d)) → d ≡ Memory → Reads rest shown calls whose x x s t a b ys (Err d) (items f count xs (rest x))
+  pub many_refused : (s t : DataType) (a b : Node) (xs ys : List Slot) (d : DecodeFault) → count ≤ length (rest x) → t ≡ s → NoLessSpare a b → (count ≤ a.spare → HasMemory {X = Unit {0}} (Err d)) → d ≡ Memory → Reads rest shown calls identity x x s t a b ys (Err d) (items f count xs (rest x))
   many_refused s t a b xs ys d le e c h m = rw m (record {
     data_type = e;
     grows = no-less-fills (passed (rest x) (rest x)) a b c;
     has_capacity = λ k. rw m at h (omega (arith, le, k.slots));
-    same = λ _. whose x;
+    same = λ _. identity x;
     moves = moves_none rest calls x;
     costs = tt;
     reads = tt;
   })
 
   -- no turn was made yet, after capacity was asked for
-  pub many_begin : (s t : DataType) (a b : Node) (xs ys : List Slot) (turns : ℕ) → turns ≡ 0 → t ≡ s → ys ≡ xs → NoLessSpare a b → ManySoFar rest shown calls whose f count turns x x s t a b xs ys
+  pub many_begin : (s t : DataType) (a b : Node) (xs ys : List Slot) (turns : ℕ) → turns ≡ 0 → t ≡ s → ys ≡ xs → NoLessSpare a b → ManySoFar rest shown calls identity f count turns x x s t a b xs ys
   many_begin s t a b xs ys turns z d e c = record {
     data_type = d;
-    same = λ _. whose x;
+    same = λ _. identity x;
     forward = forward_none (rest x);
     grows = no-less-fills (passed (rest x) (rest x)) a b c;
     costs = kept_none rest shown calls x;
@@ -148,9 +148,9 @@ module _ {X : Type 0} (rest : X → List ℕ) (shown calls whose : X → ℕ) (f
 
 -- ---- one turn
 
-module _ {X : Type 0} (rest : X → List ℕ) (shown calls whose : X → ℕ) (f : Reader Slot) (y z : X) where
+module _ {X : Type 0} (rest : X → List ℕ) (shown calls identity : X → ℕ) (f : Reader Slot) (y z : X) where
   -- a value is read, and pushed into spare capacity
-  pub value_pushed : (old new : PlainBuilder) (x : Slot) → whose z ≡ whose y → Moves rest calls y z → length (rest z) < length (rest y) → CostsKept rest shown calls y z → f (rest y) ≡ Some (x, rest z) → new.data_type ≡ old.data_type → new.slots ≡ old.slots ++ x ∷ [] → new.spare + 1 ≡ old.spare → Reads rest shown calls whose y z old.data_type new.data_type (plain_node old) (plain_node new) new.slots (Ok tt) (push_one old.slots (f (rest y)))
+  pub value_pushed : (old new : PlainBuilder) (x : Slot) → identity z ≡ identity y → Moves rest calls y z → length (rest z) < length (rest y) → CostsKept rest shown calls y z → f (rest y) ≡ Some (x, rest z) → new.data_type ≡ old.data_type → new.slots ≡ old.slots ++ x ∷ [] → new.spare + 1 ≡ old.spare → Reads rest shown calls identity y z old.data_type new.data_type (plain_node old) (plain_node new) new.slots (Ok tt) (push_one old.slots (f (rest y)))
   unfolding push_one
   value_pushed old new x w m lt c e d s k =
       let l : length new.slots ≡ length old.slots + 1 = omega (arith, ap length s, length-append old.slots (x ∷ [])) in
@@ -172,5 +172,5 @@ module _ {X : Type 0} (rest : X → List ℕ) (shown calls whose : X → ℕ) (f
       }
 
   -- no value is read
-  pub value_missing : (s : DataType) (a : Node) (xs : List Slot) → whose z ≡ whose y → Moves rest calls y z → f (rest y) ≡ None → Reads rest shown calls whose y z s s a a xs (Err Bytes) (push_one xs (f (rest y)))
-  value_missing s a xs w m e = unread rest shown calls whose y z s a xs (push_one xs (f (rest y))) w m (ap (push_one xs) e ∙ push_none xs)
+  pub value_missing : (s : DataType) (a : Node) (xs : List Slot) → identity z ≡ identity y → Moves rest calls y z → f (rest y) ≡ None → Reads rest shown calls identity y z s s a a xs (Err Bytes) (push_one xs (f (rest y)))
+  value_missing s a xs w m e = unread rest shown calls identity y z s a xs (push_one xs (f (rest y))) w m (ap (push_one xs) e ∙ push_none xs)

@@ -12,7 +12,7 @@ ghost use Rattle.avro_flat.specs.Growing.{OffsetsReach, Fills};
 use crate::fault::{DecodeFault, pushed};
 use arrow_core::Offset;
 use arrow_flat::MutableBinaryArray;
-use avro_reference::{Ahead, read_length};
+use avro_reference::{ByteReader, read_length};
 use std::convert::AsSlice;
 
 /// Reads a binary value: a length of 0 or more, and as many bytes (Avro 1.11, "Primitive Types").
@@ -20,7 +20,7 @@ use std::convert::AsSlice;
 /// count what it holds and all bytes ahead.
 #[inline(never)]
 #[tactic(auto, using(crate::proofs::Sets::binaries))]
-pub fn decode_binary<C: Ahead, O: Offset>(
+pub fn decode_binary<C: ByteReader, O: Offset>(
     cursor: &mut C,
     values: &mut MutableBinaryArray<O>,
 ) -> Result<(), DecodeFault>
@@ -31,7 +31,7 @@ pub fn decode_binary<C: Ahead, O: Offset>(
         (content_node values.new) }
     ensures has_capacity { HasSpare (length (C.rest cursor.old)) (content_node values.old)
         → HasMemory result }
-    ensures same { C.whose cursor.new ≡ C.whose cursor.old }
+    ensures same { C.identity cursor.new ≡ C.identity cursor.old }
     ensures moves { Moves C.rest C.calls cursor.old cursor.new }
     ensures costs { OnOk result (CostsKept C.rest C.shown C.calls cursor.old cursor.new) }
     ensures reads { Gives (λ _. (values.new.slots, C.rest cursor.new)) result
@@ -49,7 +49,7 @@ pub fn decode_binary<C: Ahead, O: Offset>(
 /// Reads `count` binary values, each into one more slot. `Bytes` where the bytes ahead don't begin
 /// with so many of them; `Memory`. After an error the values before it may have their slots. The
 /// builder's offsets can count what it holds and all bytes ahead.
-pub fn decode_binaries<C: Ahead, O: Offset>(
+pub fn decode_binaries<C: ByteReader, O: Offset>(
     cursor: &mut C,
     count: u64,
     values: &mut MutableBinaryArray<O>,
@@ -61,7 +61,7 @@ pub fn decode_binaries<C: Ahead, O: Offset>(
         (content_node values.new) }
     ensures has_capacity { HasSpare (length (C.rest cursor.old)) (content_node values.old)
         → HasMemory result }
-    ensures same { C.whose cursor.new ≡ C.whose cursor.old }
+    ensures same { C.identity cursor.new ≡ C.identity cursor.old }
     ensures moves { Moves C.rest C.calls cursor.old cursor.new }
     ensures costs { OnOk result (CostsKept C.rest C.shown C.calls cursor.old cursor.new) }
     ensures reads { Gives (λ _. (values.new.slots, C.rest cursor.new)) result

@@ -14,7 +14,7 @@ ghost use Rattle.avro_flat.specs.Growing.{Fills};
 
 use crate::fault::{DecodeFault, pushed};
 use arrow_flat::MutablePrimitiveArray;
-use avro_reference::{Ahead, read_length};
+use avro_reference::{ByteReader, read_length};
 use std::convert::AsSlice;
 
 /// The most bytes of a decimal, which are those of an `i128`.
@@ -25,7 +25,7 @@ const MAX_LEN: usize = 16;
 /// follow; `Memory`.
 #[inline(never)]
 #[tactic(auto, using(crate::proofs::Sets::decimals))]
-pub fn decode_decimal<C: Ahead>(
+pub fn decode_decimal<C: ByteReader>(
     cursor: &mut C,
     values: &mut MutablePrimitiveArray<i128>,
 ) -> Result<(), DecodeFault>
@@ -34,7 +34,7 @@ pub fn decode_decimal<C: Ahead>(
         (plain_node values.new) }
     ensures has_capacity { HasSpare (length (C.rest cursor.old)) (plain_node values.old)
         → HasMemory result }
-    ensures same { C.whose cursor.new ≡ C.whose cursor.old }
+    ensures same { C.identity cursor.new ≡ C.identity cursor.old }
     ensures moves { Moves C.rest C.calls cursor.old cursor.new }
     ensures costs { OnOk result (CostsKept C.rest C.shown C.calls cursor.old cursor.new) }
     ensures reads { Gives (λ _. (values.new.slots, C.rest cursor.new)) result
@@ -52,7 +52,7 @@ pub fn decode_decimal<C: Ahead>(
 /// Reads `count` decimals over bytes, each into one more slot. `Bytes` where the bytes ahead don't
 /// begin with so many of them, each of at most 16 bytes; `Memory`. After an error the decimals
 /// before it may have their slots.
-pub fn decode_decimals<C: Ahead>(
+pub fn decode_decimals<C: ByteReader>(
     cursor: &mut C,
     count: u64,
     values: &mut MutablePrimitiveArray<i128>,
@@ -62,7 +62,7 @@ pub fn decode_decimals<C: Ahead>(
         (plain_node values.new) }
     ensures has_capacity { HasSpare (length (C.rest cursor.old)) (plain_node values.old)
         → HasMemory result }
-    ensures same { C.whose cursor.new ≡ C.whose cursor.old }
+    ensures same { C.identity cursor.new ≡ C.identity cursor.old }
     ensures moves { Moves C.rest C.calls cursor.old cursor.new }
     ensures costs { OnOk result (CostsKept C.rest C.shown C.calls cursor.old cursor.new) }
     ensures reads { Gives (λ _. (values.new.slots, C.rest cursor.new)) result
@@ -79,7 +79,7 @@ pub fn decode_decimals<C: Ahead>(
 /// ahead; `Memory`. The type has a byte at least.
 #[inline(never)]
 #[tactic(auto, using(crate::proofs::Sets::decimals))]
-pub fn decode_fixed_decimal<C: Ahead>(
+pub fn decode_fixed_decimal<C: ByteReader>(
     cursor: &mut C,
     size: usize,
     values: &mut MutablePrimitiveArray<i128>,
@@ -90,7 +90,7 @@ pub fn decode_fixed_decimal<C: Ahead>(
         (plain_node values.new) }
     ensures has_capacity { HasSpare (length (C.rest cursor.old)) (plain_node values.old)
         → HasMemory result }
-    ensures same { C.whose cursor.new ≡ C.whose cursor.old }
+    ensures same { C.identity cursor.new ≡ C.identity cursor.old }
     ensures moves { Moves C.rest C.calls cursor.old cursor.new }
     ensures costs { OnOk result (CostsKept C.rest C.shown C.calls cursor.old cursor.new) }
     ensures reads { Gives (λ _. (values.new.slots, C.rest cursor.new)) result
@@ -106,7 +106,7 @@ pub fn decode_fixed_decimal<C: Ahead>(
 /// fewer bytes are ahead than so many decimals have, or where there is one and the type has more
 /// than 16; `Memory`. After an error the decimals before it may have their slots. The type has a
 /// byte at least.
-pub fn decode_fixed_decimals<C: Ahead>(
+pub fn decode_fixed_decimals<C: ByteReader>(
     cursor: &mut C,
     size: usize,
     count: u64,
@@ -118,7 +118,7 @@ pub fn decode_fixed_decimals<C: Ahead>(
         (plain_node values.new) }
     ensures has_capacity { HasSpare (length (C.rest cursor.old)) (plain_node values.old)
         → HasMemory result }
-    ensures same { C.whose cursor.new ≡ C.whose cursor.old }
+    ensures same { C.identity cursor.new ≡ C.identity cursor.old }
     ensures moves { Moves C.rest C.calls cursor.old cursor.new }
     ensures costs { OnOk result (CostsKept C.rest C.shown C.calls cursor.old cursor.new) }
     ensures reads { Gives (λ _. (values.new.slots, C.rest cursor.new)) result
@@ -133,8 +133,8 @@ pub fn decode_fixed_decimals<C: Ahead>(
 /// Takes so many bytes for a decimal. None where fewer are ahead, or where more than 16 are asked
 /// for.
 #[tactic(auto, using(crate::proofs::Sets::decimal_bytes))]
-fn take_decimal<C: Ahead>(cursor: &mut C, size: usize) -> Option<i128>
-    ensures same { C.whose cursor.new ≡ C.whose cursor.old }
+fn take_decimal<C: ByteReader>(cursor: &mut C, size: usize) -> Option<i128>
+    ensures same { C.identity cursor.new ≡ C.identity cursor.old }
     ensures moves { Moves C.rest C.calls cursor.old cursor.new }
     ensures taken { OnSome result ((size ≤ length (C.rest cursor.old))
         × (C.rest cursor.new ≡ drop size (C.rest cursor.old))) }

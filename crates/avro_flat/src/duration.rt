@@ -13,7 +13,7 @@ ghost use Rattle.avro_flat.specs.Growing.{Fills};
 use crate::fault::{DecodeFault, pushed};
 use arrow_core::MonthsDaysNs;
 use arrow_flat::MutablePrimitiveArray;
-use avro_reference::Ahead;
+use avro_reference::ByteReader;
 use std::convert::AsSlice;
 
 /// The bytes of a duration: three numbers of four bytes.
@@ -27,7 +27,7 @@ const NANOS: i64 = 1_000_000;
 /// are ahead; `Memory`.
 #[inline(never)]
 #[tactic(auto, using(crate::proofs::Sets::durations))]
-pub fn decode_duration<C: Ahead>(
+pub fn decode_duration<C: ByteReader>(
     cursor: &mut C,
     values: &mut MutablePrimitiveArray<MonthsDaysNs>,
 ) -> Result<(), DecodeFault>
@@ -36,7 +36,7 @@ pub fn decode_duration<C: Ahead>(
         (plain_node values.new) }
     ensures has_capacity { HasSpare (length (C.rest cursor.old)) (plain_node values.old)
         → HasMemory result }
-    ensures same { C.whose cursor.new ≡ C.whose cursor.old }
+    ensures same { C.identity cursor.new ≡ C.identity cursor.old }
     ensures moves { Moves C.rest C.calls cursor.old cursor.new }
     ensures costs { OnOk result (CostsKept C.rest C.shown C.calls cursor.old cursor.new) }
     ensures reads { Gives (λ _. (values.new.slots, C.rest cursor.new)) result
@@ -50,7 +50,7 @@ pub fn decode_duration<C: Ahead>(
 
 /// Reads `count` durations, each into one more slot. `Bytes` where fewer bytes are ahead than so
 /// many durations have; `Memory`. After an error the durations before it may have their slots.
-pub fn decode_durations<C: Ahead>(
+pub fn decode_durations<C: ByteReader>(
     cursor: &mut C,
     count: u64,
     values: &mut MutablePrimitiveArray<MonthsDaysNs>,
@@ -60,7 +60,7 @@ pub fn decode_durations<C: Ahead>(
         (plain_node values.new) }
     ensures has_capacity { HasSpare (length (C.rest cursor.old)) (plain_node values.old)
         → HasMemory result }
-    ensures same { C.whose cursor.new ≡ C.whose cursor.old }
+    ensures same { C.identity cursor.new ≡ C.identity cursor.old }
     ensures moves { Moves C.rest C.calls cursor.old cursor.new }
     ensures costs { OnOk result (CostsKept C.rest C.shown C.calls cursor.old cursor.new) }
     ensures reads { Gives (λ _. (values.new.slots, C.rest cursor.new)) result

@@ -12,14 +12,14 @@ ghost use Rattle.avro_flat.specs.Growing.{Fills};
 
 use crate::fault::{DecodeFault, pushed};
 use arrow_flat::MutableFixedSizeBinaryArray;
-use avro_reference::Ahead;
+use avro_reference::ByteReader;
 use std::convert::AsSlice;
 
 /// Reads as many bytes as the type has into one more slot (Avro 1.11, "Fixed"). `Bytes` where fewer
 /// are ahead; `Memory`. The type has a byte at least, and the builder is of its width.
 #[inline(never)]
 #[tactic(auto, using(crate::proofs::Sets::fixed_values))]
-pub fn decode_fixed<C: Ahead>(
+pub fn decode_fixed<C: ByteReader>(
     cursor: &mut C,
     size: usize,
     values: &mut MutableFixedSizeBinaryArray,
@@ -31,7 +31,7 @@ pub fn decode_fixed<C: Ahead>(
         (content_node values.new) }
     ensures has_capacity { HasSpare (length (C.rest cursor.old)) (content_node values.old)
         → HasMemory result }
-    ensures same { C.whose cursor.new ≡ C.whose cursor.old }
+    ensures same { C.identity cursor.new ≡ C.identity cursor.old }
     ensures moves { Moves C.rest C.calls cursor.old cursor.new }
     ensures costs { OnOk result (CostsKept C.rest C.shown C.calls cursor.old cursor.new) }
     ensures reads { Gives (λ _. (values.new.slots, C.rest cursor.new)) result
@@ -46,7 +46,7 @@ pub fn decode_fixed<C: Ahead>(
 /// Reads `count` values of a fixed type of `size` bytes, each into one more slot. `Bytes` where
 /// fewer bytes are ahead than so many values have; `Memory`. After an error the values before it
 /// may have their slots. The type has a byte at least, and the builder is of its width.
-pub fn decode_fixed_values<C: Ahead>(
+pub fn decode_fixed_values<C: ByteReader>(
     cursor: &mut C,
     size: usize,
     count: u64,
@@ -59,7 +59,7 @@ pub fn decode_fixed_values<C: Ahead>(
         (content_node values.new) }
     ensures has_capacity { HasSpare (length (C.rest cursor.old)) (content_node values.old)
         → HasMemory result }
-    ensures same { C.whose cursor.new ≡ C.whose cursor.old }
+    ensures same { C.identity cursor.new ≡ C.identity cursor.old }
     ensures moves { Moves C.rest C.calls cursor.old cursor.new }
     ensures costs { OnOk result (CostsKept C.rest C.shown C.calls cursor.old cursor.new) }
     ensures reads { Gives (λ _. (values.new.slots, C.rest cursor.new)) result

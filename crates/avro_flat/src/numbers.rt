@@ -11,12 +11,12 @@ ghost use Rattle.avro_flat.specs.Growing.{Fills};
 
 use crate::fault::{DecodeFault, pushed};
 use arrow_flat::{MutableBooleanArray, MutablePrimitiveArray};
-use avro_reference::Ahead;
+use avro_reference::ByteReader;
 
 /// `count` as a number of slots. Each value has a byte or more, so it is `Bytes` where fewer bytes
 /// are ahead: no capacity is made for a count that the bytes don't back.
 #[inline(always)]
-fn slots_for<C: Ahead>(cursor: &C, count: u64) -> Result<usize, DecodeFault>
+fn slots_for<C: ByteReader>(cursor: &C, count: u64) -> Result<usize, DecodeFault>
     ensures ok { IfOk result (λ n. (n ≡ count) × (n ≤ length (C.rest cursor.now))) }
     ensures err { IfErr result (λ e. (e ≡ DecodeFault.Bytes)
         × (length (C.rest cursor.now) < count)) }
@@ -31,8 +31,8 @@ fn slots_for<C: Ahead>(cursor: &C, count: u64) -> Result<usize, DecodeFault>
 /// byte, or for none; how far the cursor moved is then not told.
 #[inline(always)]
 #[tactic(auto, using(crate::proofs::Sets::next_values))]
-fn next_boolean<C: Ahead>(cursor: &mut C) -> Option<bool>
-    ensures same { C.whose cursor.new ≡ C.whose cursor.old }
+fn next_boolean<C: ByteReader>(cursor: &mut C) -> Option<bool>
+    ensures same { C.identity cursor.new ≡ C.identity cursor.old }
     ensures moves { Moves C.rest C.calls cursor.old cursor.new }
     ensures shorter { OnSome result (length (C.rest cursor.new) < length (C.rest cursor.old)) }
     ensures costs { OnSome result (CostsKept C.rest C.shown C.calls cursor.old cursor.new) }
@@ -50,8 +50,8 @@ fn next_boolean<C: Ahead>(cursor: &mut C) -> Option<bool>
 /// them is a number, or where the number has more bits; how far the cursor moved is then not told.
 #[inline(always)]
 #[tactic(auto, using(crate::proofs::Sets::next_values))]
-fn next_int<C: Ahead>(cursor: &mut C) -> Option<i32>
-    ensures same { C.whose cursor.new ≡ C.whose cursor.old }
+fn next_int<C: ByteReader>(cursor: &mut C) -> Option<i32>
+    ensures same { C.identity cursor.new ≡ C.identity cursor.old }
     ensures moves { Moves C.rest C.calls cursor.old cursor.new }
     ensures costs { OnSome result (CostsNumber C.rest C.shown C.calls cursor.old cursor.new) }
     ensures reads { MatchOption result (int_at (C.rest cursor.old) ≡ None)
@@ -65,7 +65,7 @@ fn next_int<C: Ahead>(cursor: &mut C) -> Option<i32>
 /// `Memory`.
 #[inline(always)]
 #[tactic(auto, using(crate::proofs::Sets::flats))]
-pub fn decode_boolean<C: Ahead>(
+pub fn decode_boolean<C: ByteReader>(
     cursor: &mut C,
     values: &mut MutableBooleanArray,
 ) -> Result<(), DecodeFault>
@@ -74,7 +74,7 @@ pub fn decode_boolean<C: Ahead>(
         (plain_node values.new) }
     ensures has_capacity { HasSpare (length (C.rest cursor.old)) (plain_node values.old)
         → HasMemory result }
-    ensures same { C.whose cursor.new ≡ C.whose cursor.old }
+    ensures same { C.identity cursor.new ≡ C.identity cursor.old }
     ensures moves { Moves C.rest C.calls cursor.old cursor.new }
     ensures costs { OnOk result (CostsKept C.rest C.shown C.calls cursor.old cursor.new) }
     ensures reads { Gives (λ _. (values.new.slots, C.rest cursor.new)) result
@@ -88,7 +88,7 @@ pub fn decode_boolean<C: Ahead>(
 
 /// Reads `count` booleans, each into one more slot. `Bytes` where the bytes ahead don't begin with
 /// so many booleans; `Memory`. After `Bytes` the booleans before the fault may have their slots.
-pub fn decode_booleans<C: Ahead>(
+pub fn decode_booleans<C: ByteReader>(
     cursor: &mut C,
     count: u64,
     values: &mut MutableBooleanArray,
@@ -98,7 +98,7 @@ pub fn decode_booleans<C: Ahead>(
         (plain_node values.new) }
     ensures has_capacity { HasSpare (length (C.rest cursor.old)) (plain_node values.old)
         → HasMemory result }
-    ensures same { C.whose cursor.new ≡ C.whose cursor.old }
+    ensures same { C.identity cursor.new ≡ C.identity cursor.old }
     ensures moves { Moves C.rest C.calls cursor.old cursor.new }
     ensures costs { OnOk result (CostsKept C.rest C.shown C.calls cursor.old cursor.new) }
     ensures reads { Gives (λ _. (values.new.slots, C.rest cursor.new)) result
@@ -119,7 +119,7 @@ pub fn decode_booleans<C: Ahead>(
 /// or it has more bits; `Memory`.
 #[inline(always)]
 #[tactic(auto, using(crate::proofs::Sets::flats))]
-pub fn decode_int<C: Ahead>(
+pub fn decode_int<C: ByteReader>(
     cursor: &mut C,
     values: &mut MutablePrimitiveArray<i32>,
 ) -> Result<(), DecodeFault>
@@ -128,7 +128,7 @@ pub fn decode_int<C: Ahead>(
         (plain_node values.new) }
     ensures has_capacity { HasSpare (length (C.rest cursor.old)) (plain_node values.old)
         → HasMemory result }
-    ensures same { C.whose cursor.new ≡ C.whose cursor.old }
+    ensures same { C.identity cursor.new ≡ C.identity cursor.old }
     ensures moves { Moves C.rest C.calls cursor.old cursor.new }
     ensures costs { OnOk result (CostsKept C.rest C.shown C.calls cursor.old cursor.new) }
     ensures reads { Gives (λ _. (values.new.slots, C.rest cursor.new)) result
@@ -143,7 +143,7 @@ pub fn decode_int<C: Ahead>(
 /// Reads `count` numbers of 32 bits, each into one more slot. `Bytes` where the bytes ahead don't
 /// begin with so many of them; `Memory`. After `Bytes` the numbers before the fault may have their
 /// slots.
-pub fn decode_ints<C: Ahead>(
+pub fn decode_ints<C: ByteReader>(
     cursor: &mut C,
     count: u64,
     values: &mut MutablePrimitiveArray<i32>,
@@ -153,7 +153,7 @@ pub fn decode_ints<C: Ahead>(
         (plain_node values.new) }
     ensures has_capacity { HasSpare (length (C.rest cursor.old)) (plain_node values.old)
         → HasMemory result }
-    ensures same { C.whose cursor.new ≡ C.whose cursor.old }
+    ensures same { C.identity cursor.new ≡ C.identity cursor.old }
     ensures moves { Moves C.rest C.calls cursor.old cursor.new }
     ensures costs { OnOk result (CostsKept C.rest C.shown C.calls cursor.old cursor.new) }
     ensures reads { Gives (λ _. (values.new.slots, C.rest cursor.new)) result
@@ -174,7 +174,7 @@ pub fn decode_ints<C: Ahead>(
 /// `Memory`.
 #[inline(always)]
 #[tactic(auto, using(crate::proofs::Sets::flats))]
-pub fn decode_long<C: Ahead>(
+pub fn decode_long<C: ByteReader>(
     cursor: &mut C,
     values: &mut MutablePrimitiveArray<i64>,
 ) -> Result<(), DecodeFault>
@@ -183,7 +183,7 @@ pub fn decode_long<C: Ahead>(
         (plain_node values.new) }
     ensures has_capacity { HasSpare (length (C.rest cursor.old)) (plain_node values.old)
         → HasMemory result }
-    ensures same { C.whose cursor.new ≡ C.whose cursor.old }
+    ensures same { C.identity cursor.new ≡ C.identity cursor.old }
     ensures moves { Moves C.rest C.calls cursor.old cursor.new }
     ensures costs { OnOk result (CostsKept C.rest C.shown C.calls cursor.old cursor.new) }
     ensures reads { Gives (λ _. (values.new.slots, C.rest cursor.new)) result
@@ -198,7 +198,7 @@ pub fn decode_long<C: Ahead>(
 /// Reads `count` numbers of 64 bits, each into one more slot. `Bytes` where the bytes ahead don't
 /// begin with so many of them; `Memory`. After `Bytes` the numbers before the fault may have their
 /// slots.
-pub fn decode_longs<C: Ahead>(
+pub fn decode_longs<C: ByteReader>(
     cursor: &mut C,
     count: u64,
     values: &mut MutablePrimitiveArray<i64>,
@@ -208,7 +208,7 @@ pub fn decode_longs<C: Ahead>(
         (plain_node values.new) }
     ensures has_capacity { HasSpare (length (C.rest cursor.old)) (plain_node values.old)
         → HasMemory result }
-    ensures same { C.whose cursor.new ≡ C.whose cursor.old }
+    ensures same { C.identity cursor.new ≡ C.identity cursor.old }
     ensures moves { Moves C.rest C.calls cursor.old cursor.new }
     ensures costs { OnOk result (CostsKept C.rest C.shown C.calls cursor.old cursor.new) }
     ensures reads { Gives (λ _. (values.new.slots, C.rest cursor.new)) result

@@ -13,7 +13,7 @@ ghost use Rattle.avro_flat.specs.Growing.{OffsetsReach, Fills};
 use crate::fault::{DecodeFault, pushed};
 use arrow_core::{Offset, is_utf8};
 use arrow_flat::MutableUtf8Array;
-use avro_reference::{Ahead, read_length};
+use avro_reference::{ByteReader, read_length};
 use std::convert::AsSlice;
 
 /// Reads a string: a length of 0 or more, and as many bytes, which have to be UTF-8 (Avro 1.11,
@@ -22,7 +22,7 @@ use std::convert::AsSlice;
 // Inlined into the loop over rows it would make the other fields slower.
 #[inline(never)]
 #[tactic(auto, using(crate::proofs::Sets::strings))]
-pub fn decode_string<C: Ahead, O: Offset>(
+pub fn decode_string<C: ByteReader, O: Offset>(
     cursor: &mut C,
     values: &mut MutableUtf8Array<O>,
 ) -> Result<(), DecodeFault>
@@ -33,7 +33,7 @@ pub fn decode_string<C: Ahead, O: Offset>(
         (content_node values.new) }
     ensures has_capacity { HasSpare (length (C.rest cursor.old)) (content_node values.old)
         → HasMemory result }
-    ensures same { C.whose cursor.new ≡ C.whose cursor.old }
+    ensures same { C.identity cursor.new ≡ C.identity cursor.old }
     ensures moves { Moves C.rest C.calls cursor.old cursor.new }
     ensures costs { OnOk result (CostsKept C.rest C.shown C.calls cursor.old cursor.new) }
     ensures reads { Gives (λ _. (values.new.slots, C.rest cursor.new)) result
@@ -51,7 +51,7 @@ pub fn decode_string<C: Ahead, O: Offset>(
 /// Reads `count` strings, each into one more slot. `Bytes` where the bytes ahead don't begin with
 /// so many strings; `Memory`. After an error the strings before it may have their slots. The
 /// builder's offsets can count what it holds and all bytes ahead.
-pub fn decode_strings<C: Ahead, O: Offset>(
+pub fn decode_strings<C: ByteReader, O: Offset>(
     cursor: &mut C,
     count: u64,
     values: &mut MutableUtf8Array<O>,
@@ -63,7 +63,7 @@ pub fn decode_strings<C: Ahead, O: Offset>(
         (content_node values.new) }
     ensures has_capacity { HasSpare (length (C.rest cursor.old)) (content_node values.old)
         → HasMemory result }
-    ensures same { C.whose cursor.new ≡ C.whose cursor.old }
+    ensures same { C.identity cursor.new ≡ C.identity cursor.old }
     ensures moves { Moves C.rest C.calls cursor.old cursor.new }
     ensures costs { OnOk result (CostsKept C.rest C.shown C.calls cursor.old cursor.new) }
     ensures reads { Gives (λ _. (values.new.slots, C.rest cursor.new)) result

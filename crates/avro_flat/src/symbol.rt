@@ -13,14 +13,14 @@ ghost use Rattle.avro_flat.specs.Growing.{Fills};
 use crate::fault::{DecodeFault, pushed};
 use arrow_core::Text;
 use arrow_flat::FixedItemsUtf8Dictionary;
-use avro_reference::Ahead;
+use avro_reference::ByteReader;
 
 /// Reads a symbol of an enum, which is encoded as its index among the symbols, from 0 (Avro 1.11,
 /// "Enums"). The builder's values are these symbols in order, 2147483647 at most. `Bytes` where the
 /// number is no such index; `Memory`.
 #[inline(never)]
 #[tactic(auto, using(crate::proofs::Sets::symbols))]
-pub fn decode_symbol<C: Ahead>(
+pub fn decode_symbol<C: ByteReader>(
     cursor: &mut C,
     symbols: &[Text],
     values: &mut FixedItemsUtf8Dictionary,
@@ -33,7 +33,7 @@ pub fn decode_symbol<C: Ahead>(
         (dictionary_node values.old) (dictionary_node values.new) }
     ensures has_capacity { HasSpare (length (C.rest cursor.old)) (dictionary_node values.old)
         → HasMemory result }
-    ensures same { C.whose cursor.new ≡ C.whose cursor.old }
+    ensures same { C.identity cursor.new ≡ C.identity cursor.old }
     ensures moves { Moves C.rest C.calls cursor.old cursor.new }
     ensures costs { OnOk result (CostsKept C.rest C.shown C.calls cursor.old cursor.new) }
     ensures reads { Gives (λ _. (values.new.slots, C.rest cursor.new)) result
@@ -52,7 +52,7 @@ pub fn decode_symbol<C: Ahead>(
 /// symbols in order, 2147483647 at most. `Bytes` where the bytes ahead don't begin with so many
 /// numbers, each an index among the symbols; `Memory`. After an error the symbols before it may
 /// have their slots.
-pub fn decode_symbols<C: Ahead>(
+pub fn decode_symbols<C: ByteReader>(
     cursor: &mut C,
     symbols: &[Text],
     count: u64,
@@ -66,7 +66,7 @@ pub fn decode_symbols<C: Ahead>(
         (dictionary_node values.old) (dictionary_node values.new) }
     ensures has_capacity { HasSpare (length (C.rest cursor.old)) (dictionary_node values.old)
         → HasMemory result }
-    ensures same { C.whose cursor.new ≡ C.whose cursor.old }
+    ensures same { C.identity cursor.new ≡ C.identity cursor.old }
     ensures moves { Moves C.rest C.calls cursor.old cursor.new }
     ensures costs { OnOk result (CostsKept C.rest C.shown C.calls cursor.old cursor.new) }
     ensures reads { Gives (λ _. (values.new.slots, C.rest cursor.new)) result

@@ -1,4 +1,4 @@
--- Of a source that tells its bytes: a file is counted, and has one count.
+-- Of a source whose bytes the contract knows: a file is counted, and has one count.
 use Rattle.std.proofs.Common.{◌≡◌, ◌∙◌, inl, inr, ℕ, ◌+◌, ◌-◌, List, [], ◌∷◌, ◌++◌, length, Option, Some, None, refl, sym, ap, subst, length-append, arith}
 use Rattle.std.specs.Prelude.{sum_by}
 use Rattle.arrow_core.specs.declared.error.Error.{Error}

@@ -1,4 +1,4 @@
--- What is answered of a source that tells its bytes, and what bytes have at most.
+-- What is answered of a source whose bytes the contract knows, and what bytes have at most.
 use Rattle.std.specs.Prelude.{◌≡◌, ℕ, List, ◌++◌, Some}
 use Rattle.arrow_core.specs.declared.error.Error.{Error}
 use Rattle.arrow_core.specs.declared.error.Error.TheVariants.{OutOfMemory}

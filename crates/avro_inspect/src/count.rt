@@ -32,7 +32,7 @@ fn count_blocks<S: Source>(alloc: Global, reader: &mut BlockReader<S>) -> Result
     ensures err { IfErr result (StopsCounting (marker_of reader.old)
         (state_of S.left S.faults reader.old) (state_of S.left S.faults reader.new)) }
     ensures never_falls { S.faults (source_of reader.old) ≤ S.faults (source_of reader.new) }
-    ensures same { S.whose (source_of reader.new) ≡ S.whose (source_of reader.old) }
+    ensures same { S.identity (source_of reader.new) ≡ S.identity (source_of reader.old) }
 {
     let mut block = Block {
         number_of_rows: 0,

@@ -19,7 +19,7 @@ pub fn schema_of<S: Source>(alloc: Global, source: &mut S, byte_limit: u64) -> R
     ensures err { IfErr result (MetadataFails
         (change S.left S.faults source.old source.new byte_limit)) }
     ensures never_falls { S.faults source.old ≤ S.faults source.new }
-    ensures same { S.whose source.new ≡ S.whose source.old }
+    ensures same { S.identity source.new ≡ S.identity source.old }
 {
     let (metadata, _) = read_metadata(alloc, source, byte_limit)?;
     record_text(alloc, &metadata.root)

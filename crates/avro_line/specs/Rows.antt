@@ -1,7 +1,8 @@
 -- What was shown of a block's rows: their table, and its lines.
-use Rattle.std.specs.Prelude.{◌≡◌, ℕ, Bool, true, List, ◌++◌, map, codes, Some, Ok}
+use Rattle.std.specs.Prelude.{◌≡◌, ℕ, All, Bool, true, List, ◌++◌, map, codes, Some, Ok}
 use Rattle.std.specs.List.{AllZip, list_all}
 use Rattle.arrow_core.specs.declared.slot.Slot.{Slot}
+use Rattle.arrow_core.specs.declared.types.DataType.{DataType}
 use Rattle.arrow_core.specs.declared.types.Field.{Field}
 use Rattle.avro_schema.specs.declared.schema.AvroField.{AvroField}
 use Rattle.avro_schema.specs.declared.schema.Schema.{Schema}
@@ -13,8 +14,12 @@ use Rattle.avro_schema.specs.ValidBlock.{kept}
 use Rattle.avro_reference.specs.Skip.{skip}
 use Rattle.json_text.specs.declared.columns.Column.{Column}
 use Rattle.json_text.specs.Columns.{AreNamedFrom}
-use Rattle.json_text.specs.Refusals.{all_in_range}
+use Rattle.json_text.specs.Refusals.{all_in_range, has_text}
 use Rattle.json_write.specs.Rows.{lines, names_of, row_object}
+
+-- the type of each of these fields has a JSON text
+abbrev pub HaveTexts : List AvroField → Type 0
+HaveTexts = All (λ a. (t : DataType) → inferred a.schema ≡ Some t → has_text t ≡ true)
 
 -- The fields have the types of the Avro fields' schemas, and the columns are theirs. `is_first`: they begin a row.
 pub record ArePreparedFrom (is_first : Bool) (avro_fields : List AvroField) (fields : List Field) (columns : List Column) : Type 0 where

@@ -8,7 +8,7 @@ ghost use Rattle.avro_line.specs.Values.{AddsInteger, ShowsSlot, ShowsIntegers, 
 
 use crate::given_up::GivenUp;
 use arrow_core::is_utf8;
-use avro_reference::{Ahead, read_length};
+use avro_reference::{ByteReader, read_length};
 use avro_schema::AvroSchema;
 use json_text::{IntegerForm, integer_in_range, push_boolean_if, push_integer_if, push_string};
 use std::convert::AsSlice;
@@ -17,7 +17,7 @@ use std::convert::AsSlice;
 ///
 /// `GivenUp` may come at any time, and then anything may have been appended.
 #[inline(always)]
-pub(crate) fn push_flat<A: Ahead>(
+pub(crate) fn push_flat<A: ByteReader>(
     out: &mut Vec<u8>,
     cursor: &mut A,
     schema: &AvroSchema,
@@ -37,7 +37,7 @@ pub(crate) fn push_flat<A: Ahead>(
 
 /// Appends the text of a boolean: one byte, 0 or 1.
 #[inline(always)]
-fn push_boolean<A: Ahead>(out: &mut Vec<u8>, cursor: &mut A) -> Result<(), GivenUp>
+fn push_boolean<A: ByteReader>(out: &mut Vec<u8>, cursor: &mut A) -> Result<(), GivenUp>
     ensures { OnOk result (ShowsSlot boolean_at BooleanType
         (A.rest cursor.old) (A.rest cursor.new) out.old.items out.new.items) }
 {
@@ -53,7 +53,11 @@ fn push_boolean<A: Ahead>(out: &mut Vec<u8>, cursor: &mut A) -> Result<(), Given
 
 /// Appends the text of a number of 32 bits.
 #[inline(always)]
-fn push_int<A: Ahead>(out: &mut Vec<u8>, cursor: &mut A, form: &IntegerForm) -> Result<(), GivenUp>
+fn push_int<A: ByteReader>(
+    out: &mut Vec<u8>,
+    cursor: &mut A,
+    form: &IntegerForm,
+) -> Result<(), GivenUp>
     ensures { OnOk result (ShowsIntegers int_at form.now
         (A.rest cursor.old) (A.rest cursor.new) out.old.items out.new.items) }
 {
@@ -68,7 +72,11 @@ fn push_int<A: Ahead>(out: &mut Vec<u8>, cursor: &mut A, form: &IntegerForm) -> 
 
 /// Appends the text of a number of 64 bits.
 #[inline(always)]
-fn push_long<A: Ahead>(out: &mut Vec<u8>, cursor: &mut A, form: &IntegerForm) -> Result<(), GivenUp>
+fn push_long<A: ByteReader>(
+    out: &mut Vec<u8>,
+    cursor: &mut A,
+    form: &IntegerForm,
+) -> Result<(), GivenUp>
     ensures { OnOk result (ShowsIntegers long_at form.now
         (A.rest cursor.old) (A.rest cursor.new) out.old.items out.new.items) }
 {
@@ -93,7 +101,7 @@ fn push_formed(out: &mut Vec<u8>, form: &IntegerForm, number: i64) -> Result<(),
 /// Appends the text of a string: a length of 0 or more, and as many bytes, which have to be UTF-8.
 // Inlined wherever a value is read it would make the other values slower.
 #[inline(never)]
-fn push_text<A: Ahead>(out: &mut Vec<u8>, cursor: &mut A) -> Result<(), GivenUp>
+fn push_text<A: ByteReader>(out: &mut Vec<u8>, cursor: &mut A) -> Result<(), GivenUp>
     ensures { OnOk result (ShowsSlot string_at Utf8
         (A.rest cursor.old) (A.rest cursor.new) out.old.items out.new.items) }
 {

@@ -1,11 +1,12 @@
 //! The rows of a block, each a line.
 ghost use Rattle.std.specs.Prelude.{◌≡◌, length, OnOk};
 ghost use Rattle.avro_schema.specs.Carried.{Carried, CarriedList};
-ghost use Rattle.avro_line.specs.Rows.{SkipsTo, ShowsLine, ShowsLines, ShowsRowsOf};
+ghost use Rattle.avro_schema.specs.ValidBlock.{kept};
+ghost use Rattle.avro_line.specs.Rows.{HaveTexts, SkipsTo, ShowsLine, ShowsLines, ShowsRowsOf};
 
 use crate::given_up::GivenUp;
 use crate::values::{next_column, push_value};
-use avro_reference::{Ahead, Lent};
+use avro_reference::{ByteReader, Lent};
 use avro_schema::{AvroField, AvroSchema, SliceCursor};
 use avro_skip::skip_value;
 use json_text::{Column, push, push_key};
@@ -14,7 +15,7 @@ use std::marker::PhantomData;
 /// Appends the lines of a block's rows: for each an object (RFC 8259) with a member for each kept
 /// field, in order, and a line feed. The bytes are the rows and nothing else (Avro 1.11, "Object
 /// Container Files"). The columns are those that `json_text::push_column` makes of the kept fields,
-/// one after another, of the types of their schemas.
+/// one after another, of the types of their schemas, each of which has a JSON text.
 ///
 /// `GivenUp` may come at any time, and then anything may have been appended: at bytes that aren't
 /// such rows, at a date that is in no year from 0 to 9999, at a value that isn't a boolean, an
@@ -30,6 +31,7 @@ pub fn push_rows(
 ) -> Result<(), GivenUp>
     requires lengths { length avro_fields.now ≡ length projection.now }
     requires carried { CarriedList avro_fields.now }
+    requires texts { HaveTexts (kept avro_fields.now projection.now) }
     ensures { OnOk result (ShowsRowsOf number_of_rows avro_fields.now projection.now columns.now
         bytes.now out.old.items out.new.items) }
 {
@@ -54,7 +56,7 @@ pub fn push_rows(
 
 /// Appends the lines of so many rows.
 #[inline(always)]
-fn push_lines<A: Ahead>(
+fn push_lines<A: ByteReader>(
     out: &mut Vec<u8>,
     cursor: &mut A,
     avro_fields: &[AvroField],
@@ -75,7 +77,7 @@ fn push_lines<A: Ahead>(
 
 /// Appends the line of one row. A field that isn't kept is skipped.
 #[inline(always)]
-fn push_line<A: Ahead>(
+fn push_line<A: ByteReader>(
     out: &mut Vec<u8>,
     cursor: &mut A,
     avro_fields: &[AvroField],
@@ -108,7 +110,7 @@ fn push_line<A: Ahead>(
 
 /// Skips the value of a field that isn't kept.
 #[inline(always)]
-fn skip_field<A: Ahead>(cursor: &mut A, schema: &AvroSchema) -> Result<(), GivenUp>
+fn skip_field<A: ByteReader>(cursor: &mut A, schema: &AvroSchema) -> Result<(), GivenUp>
     requires carried { Carried schema.now }
     ensures { OnOk result (SkipsTo schema.now (A.rest cursor.old) (A.rest cursor.new)) }
 {

@@ -3,12 +3,12 @@ ghost use Rattle.std.specs.Prelude.{IfOk};
 ghost use Rattle.avro_line.specs.Values.{TakesMember};
 
 use crate::given_up::GivenUp;
-use avro_reference::Ahead;
+use avro_reference::ByteReader;
 use avro_schema::AvroSchema;
 
 /// The member of a union of two whose number stands there, 0 or 1.
 #[inline(always)]
-pub(crate) fn take_member<'s, A: Ahead>(
+pub(crate) fn take_member<'s, A: ByteReader>(
     cursor: &mut A,
     members: &'s [AvroSchema],
 ) -> Result<&'s AvroSchema, GivenUp>

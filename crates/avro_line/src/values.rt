@@ -6,7 +6,7 @@ ghost use Rattle.avro_line.specs.Values.{IsNextColumn, ShowsArray, ShowsItemsOf,
 use crate::flat::push_flat;
 use crate::given_up::GivenUp;
 use crate::union::take_member;
-use avro_reference::{Ahead, read_length};
+use avro_reference::{ByteReader, read_length};
 use avro_schema::{AvroField, AvroSchema};
 use avro_types::is_null;
 use json_text::{Column, IntegerForm, push, push_comma, push_key, push_null};
@@ -19,7 +19,7 @@ use json_text::{Column, IntegerForm, push, push_comma, push_key, push_null};
 // into the cycle: `push_array` and `push_record`, which the others go through, are not.
 #[cycle(values)]
 #[inline(always)]
-pub(crate) fn push_value<A: Ahead>(
+pub(crate) fn push_value<A: ByteReader>(
     out: &mut Vec<u8>,
     cursor: &mut A,
     schema: &AvroSchema,
@@ -38,7 +38,7 @@ pub(crate) fn push_value<A: Ahead>(
 /// Appends the text of one value of a schema that is no union.
 #[cycle(values)]
 #[inline(always)]
-fn push_no_union<A: Ahead>(
+fn push_no_union<A: ByteReader>(
     out: &mut Vec<u8>,
     cursor: &mut A,
     schema: &AvroSchema,
@@ -58,7 +58,7 @@ fn push_no_union<A: Ahead>(
 /// Appends the text of a union's member. Null has no bytes.
 #[cycle(values)]
 #[inline(always)]
-fn push_union<A: Ahead>(
+fn push_union<A: ByteReader>(
     out: &mut Vec<u8>,
     cursor: &mut A,
     members: &[AvroSchema],
@@ -80,7 +80,7 @@ fn push_union<A: Ahead>(
 /// state their size, are given up.
 #[cycle(values)]
 #[inline(never)]
-fn push_array<A: Ahead>(
+fn push_array<A: ByteReader>(
     out: &mut Vec<u8>,
     cursor: &mut A,
     item: &AvroSchema,
@@ -104,7 +104,7 @@ fn push_array<A: Ahead>(
 
 /// Appends the bracket of an array that has no more blocks.
 #[inline(always)]
-fn push_end<A: Ahead>(out: &mut Vec<u8>, cursor: &mut A) -> Result<(), GivenUp>
+fn push_end<A: ByteReader>(out: &mut Vec<u8>, cursor: &mut A) -> Result<(), GivenUp>
     ensures end { OnOk result (length_at (A.rest cursor.old) ≡ Some (0, A.rest cursor.new)) }
     ensures ok { OnOk result (out.new.items ≡ out.old.items ++ codes "]") }
 {
@@ -120,7 +120,7 @@ fn push_end<A: Ahead>(out: &mut Vec<u8>, cursor: &mut A) -> Result<(), GivenUp>
 /// Appends the texts of so many items, with commas between them.
 #[cycle(values)]
 #[inline(always)]
-fn push_items<A: Ahead>(
+fn push_items<A: ByteReader>(
     out: &mut Vec<u8>,
     cursor: &mut A,
     item: &AvroSchema,
@@ -141,7 +141,7 @@ fn push_items<A: Ahead>(
 /// Appends the object of a record, a member for each of its fields.
 #[cycle(values)]
 #[inline(never)]
-fn push_record<A: Ahead>(
+fn push_record<A: ByteReader>(
     out: &mut Vec<u8>,
     cursor: &mut A,
     avro_fields: &[AvroField],

@@ -1,4 +1,4 @@
--- Of a source that tells its bytes: a file whose rows can be shown is converted, and no other error than that of its
+-- Of a source whose bytes the contract knows: a file whose rows can be shown is converted, and no other error than that of its
 -- fields is answered where they can't be shown.
 use Rattle.std.proofs.Common.{◌≡◌, ◌≢◌, ◌∙◌, ◌⊎◌, inl, inr, ℕ, ◌+◌, ◌-◌, true, false, List, ◌++◌, length, All, Option, Some, None, sym, ap, subst, append_assoc, length-append, arith}
 use Rattle.std.proofs.lemmas.Option.{same_Some}

@@ -1,17 +1,21 @@
 -- Of the same bytes one error of the metadata's reader is right at most, out of memory aside.
-use Rattle.std.proofs.Common.{◌≡◌, ◌∙◌, ◌⊎◌, inl, inr, ℕ, List, ◌++◌, Option, Some, None, refl, sym, ap, subst, append_assoc, arith}
+use Rattle.std.proofs.Common.{◌≡◌, ◌∙◌, ◌⊎◌, inl, inr, ℕ, ◌≤◌, List, ◌++◌, length, Option, Some, None, refl, sym, ap, subst, append_assoc, arith}
 use Rattle.arrow_base.specs.Outside.{RoseOrFull}
 use Rattle.arrow_core.specs.declared.error.Error.{Error}
 use Rattle.arrow_core.specs.declared.error.Error.TheVariants.{NotYetImplemented, ExternalFormat, LimitExceeded, ReadFault, OutOfMemory}
 use Rattle.arrow_core.specs.declared.error.Reason.TheVariants as reason
 use Rattle.json_tree.specs.Meaning.{IsJson}
+use Rattle.avro_schema.specs.declared.schema.Record.{Record}
 use Rattle.avro_schema.specs.declared.schema.Schema.{Schema}
 use Rattle.avro_file.specs.Outcome.{Outcome, wrong, reference}
 use Rattle.avro_file.specs.Reading.{schema_of, SchemaTextRefused}
-use Rattle.avro_file.specs.declared.fault.Fault.{Fault}
-use Rattle.avro_file.specs.declared.fault.Fault.TheVariants.{Form, Reference, Depth, Memory}
+use Rattle.avro_file.specs.declared.fault.SchemaTextFault.{SchemaTextFault}
+use Rattle.avro_file.specs.declared.fault.SchemaTextFault.TheVariants.{Form, Reference, Depth, Memory}
+use Rattle.avro_file.specs.Laws.{IsMetadata}
 use Rattle.avro_file.proofs.Answered.{only_memory}
+use Rattle.avro_file.proofs.Complete.{metadata_is_read, metadata_is_right}
 use Rattle.avro_container.specs.File.{Entry, HeaderParts, header_parts, Header, schema_entry, magic}
+use Rattle.avro_container.specs.Changes.{Change, change_of}
 use Rattle.avro_container.specs.FileForms.{magic_form, after_magic, header}
 use Rattle.avro_container.specs.Forms.{Form as BytesForm}
 use Rattle.avro_container.specs.Laws.{told, BeginsWith, NamesOtherCodec}
@@ -23,7 +27,7 @@ use Rattle.avro_container.proofs.SettledBlocks.{header_settles}
 use Rattle.avro_container.proofs.Taken.{takes_more, both_pass}
 use Rattle.avro_container.proofs.OneBlock.{AreOne, limit_or_end, limit_or_wrong}
 use Rattle.avro_container.proofs.Reading.{consumed_some}
-use Rattle.avro_file.specs.Metadata.{RootFails, NoRecord, MetadataFails}
+use Rattle.avro_file.specs.Metadata.{RootFails, NoRecord, ReadsMetadata, MetadataFails}
 
 -- ---- headers
 
@@ -118,7 +122,7 @@ module _ (text : List ℕ) where
   depth_or_reference d r = d.4 d.1 r.0 (subst (λ b. IsJson r.0 b) d.2 r.1)
 
   -- a text that stands for a schema isn't refused
-  stands_or_refused : NoRecord text → (fault : Fault) → (fault ≡ Memory → ⊥) → SchemaTextRefused text fault → ⊥
+  stands_or_refused : NoRecord text → (fault : SchemaTextFault) → (fault ≡ Memory → ⊥) → SchemaTextRefused text fault → ⊥
   stands_or_refused n fault other f = other (only_memory text n.other n.means fault f)
 
   one_text : (e d : Error) → RootFails text e → RootFails text d → AreOne e d
@@ -185,3 +189,40 @@ module _ (all : List ℕ) (limit f g : ℕ) (left_after also_left : Option (List
   one_metadata e d (inr h) (inl k) = inr (inr (header_or_none all limit f g left_after also_left f_after g_after h.text h.marker h.count h.header also_steady d k))
   one_metadata e d (inr h) (inr k) =
       one_text k.text e d (subst (λ text. RootFails text e) (same_text all limit f g left_after also_left f_after g_after h.text k.text h.marker k.marker h.count k.count h.header k.header) h.fails) k.fails
+
+-- ---- metadata at the beginning of a source's bytes
+
+-- a source told these bytes, and after the call this is left of them
+abbrev pub told_change : List ℕ → ℕ → Option (List ℕ) → ℕ → Change
+told_change all faults left_after faults_after = change_of (Some all) faults left_after faults_after
+
+-- the bytes begin with the metadata, within the limit
+pub record Stands (all : List ℕ) (limit : ℕ) (root : Record) (marker : List ℕ) : Type 0 where
+  pub prefix : List ℕ
+  pub rest : List ℕ
+  pub joined : all ≡ prefix ++ rest
+  pub is : IsMetadata prefix root marker
+  pub within : length prefix ≤ limit
+
+pub stands : (all : List ℕ) (limit f f_after : ℕ) (left : Option (List ℕ)) (root : Record) (marker : List ℕ) (count : ℕ) → ReadsMetadata (reading_of all limit f left f_after) root marker count → Stands all limit root marker
+stands all limit f f_after left root marker count r =
+    let h = r.header in
+    let t = consumed_some all h.bytes left h.consumed in
+    record {
+      prefix = h.bytes;
+      rest = t.0;
+      joined = t.2;
+      is = record { entries = h.entries; head = h.head; text = r.text; schema = h.schema; means = r.means; codec = h.codec };
+      within = h.within;
+    }
+
+-- where metadata stands, no error but out of memory is answered
+pub stands_or_none : (all : List ℕ) (limit g g_after : ℕ) (also_left : Option (List ℕ)) (root : Record) (marker : List ℕ) → Stands all limit root marker → (RoseOrFull g g_after → ⊥) → (d : Error) → MetadataFails (reading_of all limit g also_left g_after) d → d ≡ OutOfMemory
+stands_or_none all limit g g_after also_left root marker s steady d h =
+    metadata_is_read s.prefix s.rest marker root (reading_of all limit g also_left g_after) (ap (λ (z : List ℕ). Some z) s.joined) s.is s.within steady d h
+
+-- and it is what is read
+pub stands_once : (all : List ℕ) (limit g g_after also_count : ℕ) (also_left : Option (List ℕ)) (root also : Record) (marker also_marker : List ℕ) (s : Stands all limit root marker)
+    → ReadsMetadata (reading_of all limit g also_left g_after) also also_marker also_count → (also ≡ root) × (also_marker ≡ marker) × (also_count ≡ length s.prefix) × (also_left ≡ Some s.rest)
+stands_once all limit g g_after also_count also_left root also marker also_marker s r =
+    metadata_is_right s.prefix s.rest marker root (reading_of all limit g also_left g_after) (ap (λ (z : List ℕ). Some z) s.joined) s.is also_marker also also_count r

@@ -1,16 +1,21 @@
 -- Rows that were shown without columns are those of the block's table.
-use Rattle.std.proofs.Common.{◌≡◌, ◌∙◌, ℕ, ◌≤◌, true, List, ◌++◌, length, map, Option, Some, Result, Ok, Err, OnOk, is_ok, inl, refl, sym, ap, subst, arith}
+use Rattle.std.proofs.Common.{◌≡◌, ◌∙◌, ℕ, ◌≤◌, true, List, [], ◌∷◌, ◌++◌, length, map, Option, Some, Result, Ok, Err, OnOk, is_ok, inl, refl, sym, ap, subst, arith}
 use Rattle.std.specs.Prelude.{IfSome}
-use Rattle.std.specs.List.{list_all}
+use Rattle.std.specs.List.{AllByRecursion, AllZip, list_all}
 use Rattle.std.proofs.lemmas.Bool.{false≢true}
+use Rattle.std.proofs.lemmas.List.Elements.{All-from_recursion, recursion_from_All}
+use Rattle.std.proofs.lemmas.Option.{same_Some}
+use Rattle.arrow_core.specs.declared.types.DataType.{DataType}
 use Rattle.arrow_core.specs.declared.types.Field.{Field}
-use Rattle.json_text.specs.Refusals.{all_in_range}
+use Rattle.json_text.specs.Refusals.{all_in_range, has_text}
 use Rattle.json_write.specs.Rows.{lines, names_of}
+use Rattle.avro_schema.specs.declared.schema.AvroField.{AvroField}
+use Rattle.avro_schema.specs.Inferred.{inferred}
 use Rattle.avro_schema.specs.ValidBlock.{kept, small_limit}
 use Rattle.avro_schema.proofs.RowLaws.{rows_have}
 use Rattle.avro_container.specs.File.{the_block}
 use Rattle.avro_container.specs.Written.{AppendsBlock}
-use Rattle.avro_line.specs.Rows.{ShowsRows, ShowsRowsOf}
+use Rattle.avro_line.specs.Rows.{HaveTexts, ShowsRows, ShowsRowsOf}
 use Rattle.avro_schema.specs.Projected.{Projected}
 use Rattle.avro_ndjson.specs.declared.lines.BlockEncoder.{BlockEncoder}
 use Rattle.avro_ndjson.specs.declared.plan.RowPlan.{RowPlan}
@@ -25,6 +30,22 @@ of_ok (Err x) P e h = absurd (false≢true e)
 -- the encoder's plan
 pub plan_of : (encoder : BlockEncoder) (plan : RowPlan) → IsEncoder encoder → encoder.plan ≡ Some plan → IsPlan encoder.decoder.avro_fields encoder.decoder.projection encoder.lines.fields plan
 plan_of encoder plan e is = subst (λ (o : Option RowPlan). IfSome o (IsPlan encoder.decoder.avro_fields encoder.decoder.projection encoder.lines.fields)) is e.plan
+
+-- the type of a kept field has a text, which is that of the field of the lines
+abbrev HasText : AvroField → Type 0
+HasText a = (t : DataType) → inferred a.schema ≡ Some t → has_text t ≡ true
+
+texts_by_fields : (avro_fields : List AvroField) (fields : List Field) → AllZip (λ a f. inferred a.schema ≡ Some f.data_type) avro_fields fields → AllByRecursion (λ (f : Field). has_text f.data_type ≡ true) fields → AllByRecursion HasText avro_fields
+texts_by_fields [] fields typed texts = tt
+texts_by_fields (a ∷ avro_fields) [] typed texts = absurd typed
+texts_by_fields (a ∷ avro_fields) (f ∷ fields) typed texts =
+    (λ t is. ap has_text (same_Some t f.data_type (sym is ∙ typed.0)) ∙ texts.0, texts_by_fields avro_fields fields typed.1 texts.1)
+
+pub have_texts : (encoder : BlockEncoder) → IsEncoder encoder → HaveTexts (kept encoder.decoder.avro_fields encoder.decoder.projection)
+have_texts encoder e =
+    let avro_fields : List AvroField = kept encoder.decoder.avro_fields encoder.decoder.projection in
+    All-from_recursion HasText avro_fields
+    (texts_by_fields avro_fields encoder.lines.fields e.typed (recursion_from_All (λ (f : Field). has_text f.data_type ≡ true) encoder.lines.fields e.texts))
 
 module _ (encoder : BlockEncoder) (plan : RowPlan) (e : IsEncoder encoder) (p : IsPlan encoder.decoder.avro_fields encoder.decoder.projection encoder.lines.fields plan) (n : ℕ) (bytes old new : List ℕ)
     (shows : ShowsRowsOf n encoder.decoder.avro_fields encoder.decoder.projection plan.columns.items bytes old new) where

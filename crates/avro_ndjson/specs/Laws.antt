@@ -1,4 +1,4 @@
--- What a conversion answers where the source tells its bytes.
+-- What a conversion answers where the contract knows the source's bytes.
 use Rattle.std.specs.Prelude.{◌≡◌, ◌≢◌, ℕ, List, ◌++◌, Option, Some, ◌⊎◌}
 use Rattle.arrow_core.specs.declared.error.Error.{Error}
 use Rattle.arrow_core.specs.declared.error.Error.TheVariants.{OutOfMemory}

@@ -44,7 +44,7 @@ CannotBeShown keep avro_fields _ = ⊥
 -- ---- the whole conversion
 
 -- All bytes of the source, no more than the limit, are a file, and the sink got the lines of its rows, so many. Of a
--- source or a sink that tells its bytes, these are the bytes.
+-- source or a sink whose bytes the contract knows, these are the bytes.
 pub record Converts (keep : Option (List ℕ)) (limit : ℕ) (source sink : Change) (count : ℕ) : Type 0 where
   pub bytes : List ℕ
   pub text : List ℕ

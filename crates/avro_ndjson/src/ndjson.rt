@@ -45,7 +45,7 @@ pub fn avro_to_ndjson<S: Source, K: Sink>(
         (change_of (K.held sink.old) (K.faults sink.old) (K.held sink.new) (K.faults sink.new))) }
     ensures never_falls { S.faults source.old ≤ S.faults source.new }
     ensures never_falls_sink { K.faults sink.old ≤ K.faults sink.new }
-    ensures same_sink { K.whose sink.new ≡ K.whose sink.old }
+    ensures same_sink { K.identity sink.new ≡ K.identity sink.old }
 {
     let (metadata, taken) = read_metadata(alloc, source, byte_limit)?;
     let FileMetadata { root, marker, .. } = metadata;

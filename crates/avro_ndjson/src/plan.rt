@@ -2,8 +2,8 @@
 
 ghost use Rattle.std.specs.Prelude.{◌≡◌, ◌≤◌, length, IfOk, IfSome, OnOk};
 ghost use Rattle.arrow_core.specs.Errors.{OnlyOutOfMemory};
-ghost use Rattle.avro_schema.specs.ValidBlock.{small_limit};
-ghost use Rattle.avro_line.specs.Rows.{ShowsRowsOf};
+ghost use Rattle.avro_schema.specs.ValidBlock.{kept, small_limit};
+ghost use Rattle.avro_line.specs.Rows.{HaveTexts, ShowsRowsOf};
 ghost use Rattle.json_text.specs.Columns.{AreFields};
 ghost use Rattle.avro_schema.specs.Projected.{CanBeDecoded};
 ghost use Rattle.avro_ndjson.specs.Plan.{IsPlan};
@@ -23,8 +23,8 @@ pub(crate) struct RowPlan {
 }
 
 impl RowPlan {
-    /// Appends the lines of the rows of a block that this decoder takes, of no more bytes than offsets
-    /// of 32 bits can count.
+    /// Appends the lines of the rows of a block that this decoder takes, of no more bytes than
+    /// offsets of 32 bits can count. The types of the kept fields have JSON texts.
     ///
     /// `GivenUp` may come at any time, and then anything may have been appended.
     pub(crate) fn push_block(
@@ -33,7 +33,8 @@ impl RowPlan {
         decoder: &Decoder,
         block: &Block,
     ) -> std::result::Result<(), GivenUp>
-        requires { CanBeDecoded decoder.now }
+        requires possible { CanBeDecoded decoder.now }
+        requires texts { HaveTexts (kept decoder.now.avro_fields decoder.now.projection) }
         ensures small { OnOk result (length block.now.bytes ≤ small_limit) }
         ensures shown { OnOk result (ShowsRowsOf block.now.number_of_rows
             decoder.now.avro_fields decoder.now.projection self.now.columns.items

@@ -123,7 +123,7 @@ impl<S: Source> Reader<S> {
         ensures none { result ≡ None → HasEnded self.new ⊎ (reader_failure self.old ≢ None) }
         ensures projected { projected_of self.new ≡ projected_of self.old }
         ensures marker { marker_of self.new ≡ marker_of self.old }
-        ensures same { S.whose (source_of self.new) ≡ S.whose (source_of self.old) }
+        ensures same { S.identity (source_of self.new) ≡ S.identity (source_of self.old) }
     {
         if self.failed.is_some() {
             return None;

@@ -1,16 +1,14 @@
 -- `==` of schemas, and of what they are made of, is true of equal ones alone.
 use mathlib.Core.Logic.{inl, inr}
-use mathlib.Core.Bool.{true≢false}
 use lib.Pointwise.{pointwise}
 use lib.Dec.{eqb}
-use denote.Struct.Field.{Field as Part}
 use denote.Enum.Bare.{sameb, same_true}
-use denote.Enum.Compared.{Each, by}
+use denote.Enum.Compared.{Each}
 use denote.Enum.Declared.{Choice, values_one}
 use denote.Hole.Holds.{Such}
-use Rattle.std.proofs.Common.{◌≡◌, ◌↔◌, refl, sym, ◌∙◌, ap, subst, ℕ, Bool, true, false, ◌&&◌, List, [], ◌∷◌, map, Option, Some, None, rules}
+use Rattle.std.proofs.Common.{◌≡◌, ◌↔◌, refl, sym, ◌∙◌, subst, ℕ, Bool, true, ◌&&◌, List, Option, rules}
 use Rattle.std.specs.Option.{option_eq}
-use Rattle.std.specs.Cmp.{unsigned_Decides}
+use Rattle.arrow_core.proofs.Comparisons.{Tells, and_true, both, one, listed, list, optional, number, text, TellsAt, told_by, point, bare}
 use Rattle.avro_schema.specs.declared.schema.AvroField.{AvroField}
 use Rattle.avro_schema.specs.declared.schema.BytesLogical.{BytesLogical}
 use Rattle.avro_schema.specs.declared.schema.Enum.{Enum}
@@ -50,79 +48,8 @@ use Rattle.avro_schema.specs.contracts.schema.IntLogicalEq.TheImpl.Laws as int_e
 use Rattle.avro_schema.specs.contracts.schema.LongLogicalEq.TheImpl.Laws as long_equality
 use Rattle.avro_schema.specs.contracts.schema.StringLogicalEq.TheImpl.Laws as string_equality
 
--- the test is true of x and no other
-abbrev Tells : {A : Type 0} → (A → A → Bool) → A → Type 0
-Tells {A} same x = (y : A) → same x y ≡ true → x ≡ y
-
-and_true : (a b : Bool) → (a && b) ≡ true → (a ≡ true) × (b ≡ true)
-and_true true b h = (refl, h)
-and_true false b h = absurd (true≢false (sym h))
-
-both : {A B : Type 0} (E : A → A → Bool) (F : B → B → Bool) (x : A) (y : B) → Tells E x → Tells F y → Tells (λ (p q : A × B). E p.0 q.0 && F p.1 q.1) (x, y)
-both E F x y t u z h =
-    let k = and_true (E x z.0) (F y z.1) h in
-    let p = t z.0 k.0 in
-    let q = u z.1 k.1 in
-    λ i. (p i, q i)
-
-one : {A : Type 0} (E : A → A → Bool) (x : A) → Tells E x → Tells (λ (p q : A × Unit {0}). E p.0 q.0) (x, tt)
-one E x t z h = let p = t z.0 h in λ i. (p i, tt)
-
-listed : {A X : Type 0} (E : X → X → Bool) (f : A → X) → ((a : A) → Tells E (f a)) → (xs : List A) → Tells (pointwise E) (map f xs)
-listed E f t [] [] h = refl
-listed E f t [] (y ∷ ys) h = absurd (true≢false (sym h))
-listed E f t (x ∷ xs) [] h = absurd (true≢false (sym h))
-listed E f t (x ∷ xs) (y ∷ ys) h =
-    let k = and_true (E (f x) y) (pointwise E (map f xs) ys) h in
-    let p = t x y k.0 in
-    let q = listed E f t xs ys k.1 in
-    λ i. p i ∷ q i
-
-list : {X : Type 0} (E : X → X → Bool) → ((x : X) → Tells E x) → (xs : List X) → Tells (pointwise E) xs
-list E t [] [] h = refl
-list E t [] (y ∷ ys) h = absurd (true≢false (sym h))
-list E t (x ∷ xs) [] h = absurd (true≢false (sym h))
-list E t (x ∷ xs) (y ∷ ys) h =
-    let k = and_true (E x y) (pointwise E xs ys) h in
-    let p = t x y k.0 in
-    let q = list E t xs ys k.1 in
-    λ i. p i ∷ q i
-
-optional : {X : Type 0} (E : X → X → Bool) → ((x : X) → Tells E x) → (o : Option X) → Tells (option_eq E) o
-optional E t None None h = refl
-optional E t None (Some y) h = absurd (true≢false (sym h))
-optional E t (Some x) None h = absurd (true≢false (sym h))
-optional E t (Some x) (Some y) h = ap Some (t x y h)
-
-number : (n : ℕ) → Tells eqb n
-number n m h = (unsigned_Decides n m).0 h
-
-text : (s : List ℕ) → Tells (pointwise eqb) s
-text = list eqb number
-
 optional_text : (o : Option (List ℕ)) → Tells (option_eq (pointwise eqb)) o
 optional_text = optional (pointwise eqb) text
-
--- ---- enums, variant by variant
-
--- the test of the variant is true of its values and no others
-abbrev TellsAt : (Fss : List (List Part)) → Each Bool Fss → Choice Fss → Type 0
-TellsAt [] es c = Unit {0}
-TellsAt (Fs ∷ Fss) es (inl x) = Tells es.0 x
-TellsAt (Fs ∷ Fss) es (inr c) = TellsAt Fss es.1 c
-
-told_by : (Fss : List (List Part)) (es : Each Bool Fss) (c d : Choice Fss) → TellsAt Fss es c → by false false Fss es c d ≡ true → c ≡ d
-told_by [] es c d t h = absurd c
-told_by (Fs ∷ Fss) es (inl x) (inl y) t h = ap inl (t y h)
-told_by (Fs ∷ Fss) es (inl x) (inr d) t h = absurd (true≢false (sym h))
-told_by (Fs ∷ Fss) es (inr c) (inl y) t h = absurd (true≢false (sym h))
-told_by (Fs ∷ Fss) es (inr c) (inr d) t h = ap inr (told_by Fss es.1 c d t h)
-
-abbrev point : Unit {0} → Unit {0} → Bool
-point a b = true
-
-bare : (y : Unit {0}) → true ≡ true → tt ≡ y
-bare y h = refl
 
 -- ---- logical types
 

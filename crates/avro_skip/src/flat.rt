@@ -8,7 +8,7 @@ ghost use Rattle.avro_reference.specs.Lengths.{as_length};
 ghost use Rattle.avro_skip.specs.Skipping.{Passes, PassesMore, Jumps, sized_items_at};
 
 use crate::fault::SkipFault;
-use avro_reference::{Ahead, read_length};
+use avro_reference::{ByteReader, read_length};
 use avro_schema::{Fixed, FixedLogical};
 
 /// How many bytes a fixed-size value has (Avro 1.11, "Fixed" and "Duration").
@@ -25,8 +25,8 @@ pub fn fixed_size(fixed: &Fixed) -> usize
 /// Skips a number.
 #[inline(always)]
 #[tactic(auto, using(crate::proofs::Sets::numbered))]
-pub fn skip_number<A: Ahead>(cursor: &mut A) -> Result<(), SkipFault>
-    ensures same { A.whose cursor.new ≡ A.whose cursor.old }
+pub fn skip_number<A: ByteReader>(cursor: &mut A) -> Result<(), SkipFault>
+    ensures same { A.identity cursor.new ≡ A.identity cursor.old }
     ensures moves { Moves A.rest A.calls cursor.old cursor.new }
     ensures shorter { OnOk result (length (A.rest cursor.new) < length (A.rest cursor.old)) }
     ensures passes { Passes A.rest A.shown A.calls cursor.old cursor.new result
@@ -41,8 +41,8 @@ pub fn skip_number<A: Ahead>(cursor: &mut A) -> Result<(), SkipFault>
 /// Skips a length and so many bytes, unseen.
 #[inline(always)]
 #[tactic(auto, using(crate::proofs::Sets::numbered))]
-pub fn skip_sized<A: Ahead>(cursor: &mut A) -> Result<(), SkipFault>
-    ensures same { A.whose cursor.new ≡ A.whose cursor.old }
+pub fn skip_sized<A: ByteReader>(cursor: &mut A) -> Result<(), SkipFault>
+    ensures same { A.identity cursor.new ≡ A.identity cursor.old }
     ensures moves { Moves A.rest A.calls cursor.old cursor.new }
     ensures shorter { OnOk result (length (A.rest cursor.new) < length (A.rest cursor.old)) }
     ensures passes { Passes A.rest A.shown A.calls cursor.old cursor.new result
@@ -57,8 +57,8 @@ pub fn skip_sized<A: Ahead>(cursor: &mut A) -> Result<(), SkipFault>
 /// Skips the items of an array's block, unseen, by the size that the block states (Avro 1.11,
 /// "Arrays").
 #[tactic(auto, using(crate::proofs::Sets::numbered))]
-pub fn skip_sized_items<A: Ahead>(cursor: &mut A) -> Result<(), SkipFault>
-    ensures same { A.whose cursor.new ≡ A.whose cursor.old }
+pub fn skip_sized_items<A: ByteReader>(cursor: &mut A) -> Result<(), SkipFault>
+    ensures same { A.identity cursor.new ≡ A.identity cursor.old }
     ensures moves { Moves A.rest A.calls cursor.old cursor.new }
     ensures passes { PassesMore A.rest A.shown A.calls cursor.old cursor.new result
         (λ before. sized_items_at before (A.rest cursor.old)) }
@@ -86,8 +86,8 @@ fn block_size(size: i64) -> Result<usize, SkipFault>
 /// Skips a boolean, which is one byte: to look at it costs less than to pass it unseen.
 #[inline(always)]
 #[tactic(auto, using(crate::proofs::Sets::bytes))]
-pub fn skip_byte<A: Ahead>(cursor: &mut A) -> Result<(), SkipFault>
-    ensures same { A.whose cursor.new ≡ A.whose cursor.old }
+pub fn skip_byte<A: ByteReader>(cursor: &mut A) -> Result<(), SkipFault>
+    ensures same { A.identity cursor.new ≡ A.identity cursor.old }
     ensures moves { Moves A.rest A.calls cursor.old cursor.new }
     ensures shorter { OnOk result (length (A.rest cursor.new) < length (A.rest cursor.old)) }
     ensures passes { Passes A.rest A.shown A.calls cursor.old cursor.new result
@@ -102,8 +102,8 @@ pub fn skip_byte<A: Ahead>(cursor: &mut A) -> Result<(), SkipFault>
 /// Skips `count` bytes, unseen.
 #[inline(always)]
 #[tactic(auto, using(crate::proofs::Sets::jumps))]
-pub fn skip_bytes<A: Ahead>(cursor: &mut A, count: usize) -> Result<(), SkipFault>
-    ensures same { A.whose cursor.new ≡ A.whose cursor.old }
+pub fn skip_bytes<A: ByteReader>(cursor: &mut A, count: usize) -> Result<(), SkipFault>
+    ensures same { A.identity cursor.new ≡ A.identity cursor.old }
     ensures moves { Moves A.rest A.calls cursor.old cursor.new }
     ensures shown { A.shown cursor.new ≡ A.shown cursor.old }
     ensures calls { A.calls cursor.new ≤ A.calls cursor.old + 1 }

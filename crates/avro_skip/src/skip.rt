@@ -12,7 +12,7 @@ ghost use Rattle.avro_skip.specs.Skipping.{Passes, PassesMore, member_at};
 
 use crate::fault::SkipFault;
 use crate::flat::{fixed_size, skip_byte, skip_bytes, skip_number, skip_sized, skip_sized_items};
-use avro_reference::Ahead;
+use avro_reference::ByteReader;
 use avro_schema::{AvroField, AvroSchema};
 
 /// Skips one value of a carried schema (Avro 1.11, "Binary Encoding").
@@ -25,9 +25,9 @@ use avro_schema::{AvroField, AvroSchema};
 // into the cycle: `skip_fields` and `skip_blocks`, which the others go through, are not.
 #[cycle(skips)]
 #[inline(always)]
-pub fn skip_value<A: Ahead>(cursor: &mut A, schema: &AvroSchema) -> Result<(), SkipFault>
+pub fn skip_value<A: ByteReader>(cursor: &mut A, schema: &AvroSchema) -> Result<(), SkipFault>
     requires carried { Carried schema.now }
-    ensures same { A.whose cursor.new ≡ A.whose cursor.old }
+    ensures same { A.identity cursor.new ≡ A.identity cursor.old }
     ensures moves { Moves A.rest A.calls cursor.old cursor.new }
     ensures shorter { OnOk result (length (A.rest cursor.new) < length (A.rest cursor.old)) }
     ensures passes { Passes A.rest A.shown A.calls cursor.old cursor.new result
@@ -46,10 +46,10 @@ pub fn skip_value<A: Ahead>(cursor: &mut A, schema: &AvroSchema) -> Result<(), S
 #[cycle(skips)]
 #[inline(always)]
 #[tactic(auto, using(crate::proofs::Sets::flats))]
-fn skip_no_union<A: Ahead>(cursor: &mut A, schema: &AvroSchema) -> Result<(), SkipFault>
+fn skip_no_union<A: ByteReader>(cursor: &mut A, schema: &AvroSchema) -> Result<(), SkipFault>
     requires carried { Carried schema.now }
     requires no_union { IsNoUnion schema.now }
-    ensures same { A.whose cursor.new ≡ A.whose cursor.old }
+    ensures same { A.identity cursor.new ≡ A.identity cursor.old }
     ensures moves { Moves A.rest A.calls cursor.old cursor.new }
     ensures shorter { OnOk result (length (A.rest cursor.new) < length (A.rest cursor.old)) }
     ensures passes { Passes A.rest A.shown A.calls cursor.old cursor.new result
@@ -71,9 +71,9 @@ fn skip_no_union<A: Ahead>(cursor: &mut A, schema: &AvroSchema) -> Result<(), Sk
 #[cycle(skips)]
 #[inline(always)]
 #[tactic(auto, using(crate::proofs::Sets::unions))]
-fn skip_union<A: Ahead>(cursor: &mut A, members: &[AvroSchema]) -> Result<(), SkipFault>
+fn skip_union<A: ByteReader>(cursor: &mut A, members: &[AvroSchema]) -> Result<(), SkipFault>
     requires carried { CarriedMembersOf members.now }
-    ensures same { A.whose cursor.new ≡ A.whose cursor.old }
+    ensures same { A.identity cursor.new ≡ A.identity cursor.old }
     ensures moves { Moves A.rest A.calls cursor.old cursor.new }
     ensures shorter { OnOk result (length (A.rest cursor.new) < length (A.rest cursor.old)) }
     ensures passes { Passes A.rest A.shown A.calls cursor.old cursor.new result
@@ -98,9 +98,9 @@ fn skip_union<A: Ahead>(cursor: &mut A, members: &[AvroSchema]) -> Result<(), Sk
 #[cycle(skips)]
 #[inline(always)]
 #[tactic(auto, using(crate::proofs::Sets::nulls))]
-fn skip_member<A: Ahead>(cursor: &mut A, schema: &AvroSchema) -> Result<(), SkipFault>
+fn skip_member<A: ByteReader>(cursor: &mut A, schema: &AvroSchema) -> Result<(), SkipFault>
     requires member { IsNull schema.now ⊎ (Carried schema.now × IsNoUnion schema.now) }
-    ensures same { A.whose cursor.new ≡ A.whose cursor.old }
+    ensures same { A.identity cursor.new ≡ A.identity cursor.old }
     ensures moves { Moves A.rest A.calls cursor.old cursor.new }
     ensures passes { Passes A.rest A.shown A.calls cursor.old cursor.new result
         (member_at schema.now (A.rest cursor.old)) }
@@ -115,9 +115,9 @@ fn skip_member<A: Ahead>(cursor: &mut A, schema: &AvroSchema) -> Result<(), Skip
 /// Skips the fields of a record, in order.
 #[cycle(skips)]
 #[inline(never)]
-fn skip_fields<A: Ahead>(cursor: &mut A, fields: &[AvroField]) -> Result<(), SkipFault>
+fn skip_fields<A: ByteReader>(cursor: &mut A, fields: &[AvroField]) -> Result<(), SkipFault>
     requires carried { CarriedList fields.now }
-    ensures same { A.whose cursor.new ≡ A.whose cursor.old }
+    ensures same { A.identity cursor.new ≡ A.identity cursor.old }
     ensures moves { Moves A.rest A.calls cursor.old cursor.new }
     ensures shorter { OnOk result (length (A.rest cursor.new) + length fields.now
         ≤ length (A.rest cursor.old)) }
@@ -133,9 +133,9 @@ fn skip_fields<A: Ahead>(cursor: &mut A, fields: &[AvroField]) -> Result<(), Ski
 /// Skips the blocks of an array, up to the number 0 that ends them.
 #[cycle(skips)]
 #[inline(never)]
-fn skip_blocks<A: Ahead>(cursor: &mut A, item: &AvroSchema) -> Result<(), SkipFault>
+fn skip_blocks<A: ByteReader>(cursor: &mut A, item: &AvroSchema) -> Result<(), SkipFault>
     requires carried { Carried item.now }
-    ensures same { A.whose cursor.new ≡ A.whose cursor.old }
+    ensures same { A.identity cursor.new ≡ A.identity cursor.old }
     ensures moves { Moves A.rest A.calls cursor.old cursor.new }
     ensures shorter { OnOk result (length (A.rest cursor.new) < length (A.rest cursor.old)) }
     ensures passes { Passes A.rest A.shown A.calls cursor.old cursor.new result
@@ -155,14 +155,14 @@ fn skip_blocks<A: Ahead>(cursor: &mut A, item: &AvroSchema) -> Result<(), SkipFa
 /// Skips the items of a block after its count. Where the count is below 0 their size stands before
 /// them.
 #[cycle(skips)]
-fn skip_block_items<A: Ahead>(
+fn skip_block_items<A: ByteReader>(
     cursor: &mut A,
     item: &AvroSchema,
     count: i64,
 ) -> Result<(), SkipFault>
     requires carried { Carried item.now }
     requires some { count ≢ pos 0 }
-    ensures same { A.whose cursor.new ≡ A.whose cursor.old }
+    ensures same { A.identity cursor.new ≡ A.identity cursor.old }
     ensures moves { Moves A.rest A.calls cursor.old cursor.new }
     ensures passes { PassesMore A.rest A.shown A.calls cursor.old cursor.new result
         (λ before. skip_block_items_at (skip item.now) count before (A.rest cursor.old)) }
@@ -180,9 +180,9 @@ fn skip_block_items<A: Ahead>(
 /// Skips `count` items. There may be fewer bytes ahead than items: only where they end is it told
 /// which fault comes first.
 #[cycle(skips)]
-fn skip_items<A: Ahead>(cursor: &mut A, item: &AvroSchema, count: u64) -> Result<(), SkipFault>
+fn skip_items<A: ByteReader>(cursor: &mut A, item: &AvroSchema, count: u64) -> Result<(), SkipFault>
     requires carried { Carried item.now }
-    ensures same { A.whose cursor.new ≡ A.whose cursor.old }
+    ensures same { A.identity cursor.new ≡ A.identity cursor.old }
     ensures moves { Moves A.rest A.calls cursor.old cursor.new }
     ensures passes { PassesMore A.rest A.shown A.calls cursor.old cursor.new result
         (λ before. skip_items_at (skip item.now) count before (A.rest cursor.old)) }

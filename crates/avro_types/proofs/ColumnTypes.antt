@@ -1,5 +1,5 @@
 -- Types of columns, in terms of the lists of members and of fields that code sees.
-use Rattle.std.proofs.Common.{◌≡◌, ◌↔◌, ◌⊎◌, inl, inr, ◌∙◌, ℕ, zero, suc, ◌+◌, ◌<◌, ◌≤◌, List, [], ◌∷◌, length, get_or, Bool, IsTrue, refl, sym, ap, subst, arith}
+use Rattle.std.proofs.Common.{◌≡◌, ◌↔◌, ◌⊎◌, inl, inr, ◌∙◌, ℕ, zero, suc, ◌+◌, ◌<◌, ◌≤◌, List, [], ◌∷◌, length, get_or, Bool, true, IsTrue, refl, sym, ap, subst, arith}
 use Rattle.std.specs.List.{AllZip}
 use Rattle.std.proofs.lemmas.Bool.{cases_lt}
 use Rattle.arrow_core.specs.declared.types.Field.{Field}
@@ -8,10 +8,10 @@ use Rattle.arrow_core.specs.declared.types.DataType.TheBlock.{shape-the_row-Fiel
 use Rattle.avro_schema.specs.declared.schema.AvroField.{AvroField}
 use Rattle.avro_schema.specs.declared.schema.Record.{Record as TheRecord, out-Record}
 use Rattle.avro_schema.specs.declared.schema.Schema.{Schema, Array, Union, Record}
-use Rattle.avro_schema.specs.Types.{HasType, HasColumnType}
+use Rattle.avro_schema.specs.Types.{HasType, HasColumnType, Fits}
 use Rattle.avro_schema.specs.TypeLaws.{HasMemberTypeOf}
 use Rattle.avro_schema.proofs.TypeLemmas.{type_composites}
-use Rattle.avro_types.specs.Columns.{HasColumnTypes, HasListType, HasStructType}
+use Rattle.avro_types.specs.Columns.{HasListType, HasStructType}
 use Rattle.avro_types.proofs.Parts.{follow}
 
 -- ---- lists element by element
@@ -61,26 +61,26 @@ zip_next R xs ys i x y l lt r before k d e le = from (cases_lt k i)
 
 -- ---- schemas with others in them
 
-module _ (s : Schema) (b large : Bool) (t : DataType) where
-  pub of_array : (item i : Schema) → s ≡ Array item → i ≡ item → IsTrue b ↔ HasListType large i t → IsTrue b ↔ HasType large s t
+module _ (s : Schema) (b : Bool) (t : DataType) where
+  pub of_array : (item i : Schema) → s ≡ Array item → i ≡ item → IsTrue b ↔ HasListType i t → IsTrue b ↔ HasType true s t
   of_array item i e x h =
-      let w = type_composites.array large item t in
-      let k : HasListType large item t ↔ HasType large s t = subst (λ (u : Schema). HasListType large item t ↔ HasType large u t) (sym e) (w.1, w.0) in
-      follow b k (subst (λ (j : Schema). IsTrue b ↔ HasListType large j t) x h)
+      let w = type_composites.array true item t in
+      let k : HasListType item t ↔ HasType true s t = subst (λ (u : Schema). HasListType item t ↔ HasType true u t) (sym e) (w.1, w.0) in
+      follow b k (subst (λ (j : Schema). IsTrue b ↔ HasListType j t) x h)
 
-  pub of_union : (members ms : List Schema) → s ≡ Union members → ms ≡ members → IsTrue b ↔ HasMemberTypeOf large ms t → IsTrue b ↔ HasType large s t
+  pub of_union : (members ms : List Schema) → s ≡ Union members → ms ≡ members → IsTrue b ↔ HasMemberTypeOf true ms t → IsTrue b ↔ HasType true s t
   of_union members ms e x h =
-      let w = type_composites.union large members t in
-      let k : HasMemberTypeOf large members t ↔ HasType large s t = subst (λ (u : Schema). HasMemberTypeOf large members t ↔ HasType large u t) (sym e) (w.1, w.0) in
-      follow b k (subst (λ (xs : List Schema). IsTrue b ↔ HasMemberTypeOf large xs t) x h)
+      let w = type_composites.union true members t in
+      let k : HasMemberTypeOf true members t ↔ HasType true s t = subst (λ (u : Schema). HasMemberTypeOf true members t ↔ HasType true u t) (sym e) (w.1, w.0) in
+      follow b k (subst (λ (xs : List Schema). IsTrue b ↔ HasMemberTypeOf true xs t) x h)
 
-  pub of_record : (r : TheRecord) (avros : List AvroField) → s ≡ Record r → avros ≡ (out-Record r).fields → IsTrue b ↔ HasStructType large avros t → IsTrue b ↔ HasType large s t
+  pub of_record : (r : TheRecord) (avros : List AvroField) → s ≡ Record r → avros ≡ (out-Record r).fields → IsTrue b ↔ HasStructType avros t → IsTrue b ↔ HasType true s t
   of_record r avros e x h =
-      let w = type_composites.fields large r t in
+      let w = type_composites.fields true r t in
       let all = (out-Record r).fields in
-      let k : HasStructType large all t ↔ HasType large s t = subst (λ (u : Schema). HasStructType large all t ↔ HasType large u t) (sym e)
-      (λ y. w.1 (y.0, y.1, flip (λ f a. HasColumnType large a.schema f) y.0 all y.2), λ y. let z = w.0 y in (z.0, z.1, flip (λ a f. HasColumnType large a.schema f) all z.0 z.2)) in
-      follow b k (subst (λ (xs : List AvroField). IsTrue b ↔ HasStructType large xs t) x h)
+      let k : HasStructType all t ↔ HasType true s t = subst (λ (u : Schema). HasStructType all t ↔ HasType true u t) (sym e)
+      (λ y. w.1 (y.0, y.1, flip (λ f a. HasColumnType true a.schema f) y.0 all y.2), λ y. let z = w.0 y in (z.0, z.1, flip (λ a f. HasColumnType true a.schema f) all z.0 z.2)) in
+      follow b k (subst (λ (xs : List AvroField). IsTrue b ↔ HasStructType xs t) x h)
 
 -- ---- types with fields in them
 
@@ -104,21 +104,21 @@ fields_of_large f = refl
 only : (f g : Field) → f ∷ [] ≡ g ∷ [] → f ≡ g
 only f g e = cc
 
-module _ (large b : Bool) (t : DataType) where
-  pub of_struct : (avros : List AvroField) (fs xs : List Field) → t ≡ Struct fs → xs ≡ fs → IsTrue b ↔ HasColumnTypes large xs avros → IsTrue b ↔ HasStructType large avros t
+module _ (b : Bool) (t : DataType) where
+  pub of_struct : (avros : List AvroField) (fs xs : List Field) → t ≡ Struct fs → xs ≡ fs → IsTrue b ↔ Fits xs avros → IsTrue b ↔ HasStructType avros t
   of_struct avros fs xs e x h =
-      (λ y. (fs, e, subst (λ (zs : List Field). HasColumnTypes large zs avros) x (h.0 y)), λ y. h.1 (subst (λ (zs : List Field). HasColumnTypes large zs avros) (sym (fields_of_struct y.0) ∙ ap fields_of (sym y.1 ∙ e) ∙ fields_of_struct fs ∙ sym x) y.2))
+      (λ y. (fs, e, subst (λ (zs : List Field). Fits zs avros) x (h.0 y)), λ y. h.1 (subst (λ (zs : List Field). Fits zs avros) (sym (fields_of_struct y.0) ∙ ap fields_of (sym y.1 ∙ e) ∙ fields_of_struct fs ∙ sym x) y.2))
 
-  pub of_list : (item : Schema) (f x : Field) → t ≡ ListType f → x ≡ f → IsTrue b ↔ HasColumnType large item x → IsTrue b ↔ HasListType large item t
-  of_list item f x e q h = (λ y. (f, inl e, subst (HasColumnType large item) q (h.0 y)), back)
+  pub of_list : (item : Schema) (f x : Field) → t ≡ ListType f → x ≡ f → IsTrue b ↔ HasColumnType true item x → IsTrue b ↔ HasListType item t
+  of_list item f x e q h = (λ y. (f, inl e, subst (HasColumnType true item) q (h.0 y)), back)
     where
-      back : HasListType large item t → IsTrue b
-      back (g, inl k, z) = h.1 (subst (HasColumnType large item) (only g f (sym (fields_of_list g) ∙ ap fields_of (sym k ∙ e) ∙ fields_of_list f) ∙ sym q) z)
+      back : HasListType item t → IsTrue b
+      back (g, inl k, z) = h.1 (subst (HasColumnType true item) (only g f (sym (fields_of_list g) ∙ ap fields_of (sym k ∙ e) ∙ fields_of_list f) ∙ sym q) z)
       back (g, inr k, z) = let w : LargeList g ≡ ListType f = sym k.1 ∙ e in absurd cc
 
-  pub of_large_list : (item : Schema) (f x : Field) → t ≡ LargeList f → x ≡ f → IsTrue b ↔ (IsTrue large × HasColumnType large item x) → IsTrue b ↔ HasListType large item t
-  of_large_list item f x e q h = (λ y. (f, inr ((h.0 y).0, e), subst (HasColumnType large item) q (h.0 y).1), back)
+  pub of_large_list : (item : Schema) (f x : Field) → t ≡ LargeList f → x ≡ f → IsTrue b ↔ HasColumnType true item x → IsTrue b ↔ HasListType item t
+  of_large_list item f x e q h = (λ y. (f, inr (refl, e), subst (HasColumnType true item) q (h.0 y)), back)
     where
-      back : HasListType large item t → IsTrue b
+      back : HasListType item t → IsTrue b
       back (g, inl k, z) = let w : ListType g ≡ LargeList f = sym k ∙ e in absurd cc
-      back (g, inr k, z) = h.1 (k.0, subst (HasColumnType large item) (only g f (sym (fields_of_large g) ∙ ap fields_of (sym k.1 ∙ e) ∙ fields_of_large f) ∙ sym q) z)
+      back (g, inr k, z) = h.1 (subst (HasColumnType true item) (only g f (sym (fields_of_large g) ∙ ap fields_of (sym k.1 ∙ e) ∙ fields_of_large f) ∙ sym q) z)

@@ -6,21 +6,17 @@ use Rattle.arrow_core.specs.declared.types.Field.{Field}
 use Rattle.arrow_core.specs.declared.types.DataType.{DataType, Struct}
 use Rattle.avro_schema.specs.declared.schema.AvroField.{AvroField}
 use Rattle.avro_schema.specs.declared.schema.Schema.{Schema}
-use Rattle.avro_schema.specs.Types.{utc, IsListOf, HasColumnType, Typed}
+use Rattle.avro_schema.specs.Types.{utc, IsListOf, HasColumnType, Typed, Fits}
 
--- each field has the type and the nullability of its schema; names and metadata do not count
-abbrev pub HasColumnTypes : Bool → List Field → List AvroField → Type 0
-HasColumnTypes large = AllZip (λ f a. HasColumnType large a.schema f)
-
--- the same in small forms alone
+-- each field has the type and the nullability of its schema, in small forms alone; names and metadata do not count
 abbrev pub AllTyped : List Field → List AvroField → Type 0
 AllTyped = AllZip (λ f a. Typed a.schema f)
 
-abbrev pub HasListType : Bool → Schema → DataType → Type 0
-HasListType large item t = (f : Field) × IsListOf large f t × HasColumnType large item f
+abbrev pub HasListType : Schema → DataType → Type 0
+HasListType item t = (f : Field) × IsListOf true f t × HasColumnType true item f
 
-abbrev pub HasStructType : Bool → List AvroField → DataType → Type 0
-HasStructType large avro_fields t = (fields : List Field) × (t ≡ Struct fields) × HasColumnTypes large fields avro_fields
+abbrev pub HasStructType : List AvroField → DataType → Type 0
+HasStructType avro_fields t = (fields : List Field) × (t ≡ Struct fields) × Fits fields avro_fields
 
 -- instants are told in UTC, readings of a local clock in no zone
 abbrev pub zone_of : Bool → Option (List ℕ)

@@ -1,7 +1,7 @@
 //! Whether a column has the type of a schema without others in it (Avro 1.11, "Primitive Types" and
 //! "Logical Types"; Arrow columnar format, "Logical types").
 
-ghost use Rattle.std.specs.Prelude.{◌≡◌, ◌↔◌, IsTrue};
+ghost use Rattle.std.specs.Prelude.{◌≡◌, ◌↔◌, true, IsTrue};
 ghost use Rattle.avro_schema.specs.Types.{int_type, long_type, utc, fixed_type, symbol_type, IsString, IsBinary, HasBytesType, HasType};
 ghost use Rattle.avro_types.specs.Inference.{HasNoParts};
 ghost use Rattle.avro_types.specs.Columns.{zone_of};
@@ -10,11 +10,10 @@ use crate::schema::UTC;
 use arrow_core::{DataType, IntegerType, IntervalUnit, TimeUnit};
 use avro_schema::{AvroSchema, BytesLogical, Fixed, FixedLogical, IntLogical, LongLogical};
 
-/// Whether a column has the type of a schema without others in it, and `large` whether large forms
-/// are taken too.
-pub fn has_flat_type(schema: &AvroSchema, data_type: &DataType, large: bool) -> bool
+/// Whether a column has the type of a schema without others in it, in its small or large form.
+pub fn has_flat_type(schema: &AvroSchema, data_type: &DataType) -> bool
     requires flat { HasNoParts schema.now }
-    ensures { IsTrue result ↔ HasType large schema.now data_type.now }
+    ensures { IsTrue result ↔ HasType true schema.now data_type.now }
 {
     match schema {
         AvroSchema::Null => matches!(data_type, DataType::Null),
@@ -23,8 +22,8 @@ pub fn has_flat_type(schema: &AvroSchema, data_type: &DataType, large: bool) -> 
         AvroSchema::Long(logical) => has_long_type(data_type, *logical),
         AvroSchema::Float => matches!(data_type, DataType::Float32),
         AvroSchema::Double => matches!(data_type, DataType::Float64),
-        AvroSchema::Bytes(logical) => has_bytes_type(data_type, *logical, large),
-        AvroSchema::String(_) => has_string_type(data_type, large),
+        AvroSchema::Bytes(logical) => has_bytes_type(data_type, *logical),
+        AvroSchema::String(_) => has_string_type(data_type),
         AvroSchema::Enum(_) => has_symbol_type(data_type),
         AvroSchema::Fixed(fixed) => has_fixed_type(data_type, fixed),
         _ => unreachable!(),
@@ -75,27 +74,19 @@ fn is_timestamp(data_type: &DataType, unit: TimeUnit, in_utc: bool) -> bool
     }
 }
 
-fn has_bytes_type(data_type: &DataType, logical: Option<BytesLogical>, large: bool) -> bool
-    ensures { IsTrue result ↔ HasBytesType large logical data_type.now }
+fn has_bytes_type(data_type: &DataType, logical: Option<BytesLogical>) -> bool
+    ensures { IsTrue result ↔ HasBytesType true logical data_type.now }
 {
     match logical {
-        None => match data_type {
-            DataType::Binary => true,
-            DataType::LargeBinary => large,
-            _ => false,
-        },
+        None => matches!(data_type, DataType::Binary | DataType::LargeBinary),
         Some(BytesLogical::Decimal(precision, scale)) => is_decimal(data_type, precision, scale),
     }
 }
 
-fn has_string_type(data_type: &DataType, large: bool) -> bool
-    ensures { IsTrue result ↔ IsString large data_type.now }
+fn has_string_type(data_type: &DataType) -> bool
+    ensures { IsTrue result ↔ IsString true data_type.now }
 {
-    match data_type {
-        DataType::Utf8 => true,
-        DataType::LargeUtf8 => large,
-        _ => false,
-    }
+    matches!(data_type, DataType::Utf8 | DataType::LargeUtf8)
 }
 
 /// Whether a type is of an enum's symbols: a dictionary of strings with keys of 32 bits.

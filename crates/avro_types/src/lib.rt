@@ -1,6 +1,6 @@
 //! Avro schemas and the types of columns: what is asked of schemas before bytes are read, the schema
-//! of their columns, the same in large forms, and the Avro record of columns, with names for its
-//! fixed types.
+//! of their columns, the same in large forms, which types can be written, and the Avro record of
+//! columns, with names for its fixed types.
 #![tactic(auto)]
 
 mod carried;
@@ -28,4 +28,4 @@ pub use schema::infer_schema;
 pub use schemas::{to_record, to_record_with};
 pub use serializable::can_serialize;
 pub use small_types::is_small;
-pub use types::{all_fit, all_typed, fits_column};
+pub use types::all_fit;

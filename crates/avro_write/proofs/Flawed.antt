@@ -17,7 +17,7 @@ use Rattle.avro_schema.specs.declared.schema.Schema.TheBlock.{shape-the_row-Sche
 use Rattle.arrow_array.specs.Slots.{is_held, slot_at}
 use Rattle.std.proofs.Common.{inl, inr, get_or-drop}
 use Rattle.std.proofs.lemmas.Bool.{cases_lt}
-use Rattle.avro_encode.proofs.Appending.{part_length}
+use Rattle.avro_encode.proofs.Appending.{part_length, at_take}
 use Rattle.avro_schema.specs.Carried.{IsNoUnion}
 use Rattle.arrow_array.specs.declared.array.Array.{Array as AnArray}
 use Rattle.arrow_array.specs.Arrays.{array_type}
@@ -185,13 +185,6 @@ more_from P a k h p j m l =
       | inl below ↦ h j m below
       | inr above ↦ let e : k ≡ j = omega (arith, above, l) in subst P e p
     ]
-
-at_take : (xs : List Slot) (n k : ℕ) → k < n → slot_at (take n xs) k ≡ slot_at xs k
-at_take [] zero k h = refl
-at_take [] (suc n) k h = refl
-at_take (x ∷ xs) zero k h = absurd (omega (arith, h))
-at_take (x ∷ xs) (suc n) zero h = refl
-at_take (x ∷ xs) (suc n) (suc k) h = at_take xs n k (omega (arith, h))
 
 -- slot k of a part from index a on
 pub at_part : (slots : List Slot) (a b k : ℕ) → k < b - a → slot_at (take (b - a) (drop a slots)) k ≡ slot_at slots (a + k)

@@ -5,6 +5,11 @@ use Rattle.std.proofs.lemmas.Grind.{flat_map-append}
 use Rattle.std.proofs.lemmas.List.{append-nil}
 use Rattle.std.proofs.lemmas.List.Concat.{concat_is}
 use Rattle.avro_write.specs.Rows.{row, rows}
+use Rattle.avro_write.specs.Serializing.{Serializing}
+
+-- what a serializer has still to append
+abbrev pub left_of : Serializing → List (List ℕ)
+left_of s = s.left
 
 -- ---- one column
 

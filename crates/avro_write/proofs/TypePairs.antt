@@ -5,18 +5,15 @@ use Rattle.arrow_core.specs.declared.types.DataType.{DataType, List as ListType,
 use Rattle.avro_schema.specs.declared.schema.AvroField.{AvroField}
 use Rattle.avro_schema.specs.declared.schema.Record.{Record as TheRecord, out-Record}
 use Rattle.avro_schema.specs.declared.schema.Schema.{Schema, Array, Union, Record}
+use Rattle.avro_schema.proofs.ByLists.{both_ways}
 use Rattle.avro_types.proofs.Parts.{follow}
 use Rattle.avro_encode.specs.Listed.{PairsColumns, PairsListOf, PairsMemberTypeOf, PairsStructOf}
 use Rattle.avro_encode.specs.PairTypes.{PairsType}
-use Rattle.avro_encode.proofs.ByLists.{moved}
 use Rattle.avro_encode.proofs.TypesByLists.{array_type_is, large_list_is, list_is, record_type_is, struct_is, union_type_is}
-
-along : {A B : Type 0} → A ≡ B → A ↔ B
-along e = (moved e, moved (sym e))
 
 -- a test of A is one of B, where they are the same
 told : {A B : Type 0} (b : Bool) → A ≡ B → IsTrue b ↔ B → IsTrue b ↔ A
-told b e h = follow b (along (sym e)) h
+told b e h = follow b (both_ways (sym e)) h
 
 module _ (s : Schema) (b : Bool) (t : DataType) where
   pub of_array : (item i : Schema) → s ≡ Array item → i ≡ item → IsTrue b ↔ PairsListOf i t → IsTrue b ↔ PairsType s t

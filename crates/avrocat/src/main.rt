@@ -29,7 +29,7 @@ mod tests;
 mod whole_files_tests;
 
 use arrow_base::{Error, StdSink, StdSource, Text};
-use avrocat_commands::{conclude, run};
+use avrocat_commands::{exit_status, run};
 use std::alloc::{AllocError, Global};
 use std::env::{self, Args};
 use std::io::{self, BufReader, ErrorKind};
@@ -66,11 +66,11 @@ fn words_of(alloc: Global, given: io::Result<Args>) -> Result<Vec<Text>, AllocEr
 fn main(rt: HostRuntime) -> ExitCode {
     let mut note = StdSink::new(rt.stderr());
     let Ok(words) = words_of(rt.alloc(), env::args(&rt)) else {
-        return ExitCode::from(conclude(&mut note, Err(Error::OutOfMemory)));
+        return ExitCode::from(exit_status(&mut note, Err(Error::OutOfMemory)));
     };
     // The numbers of a file are taken byte by byte.
     let Ok(input) = BufReader::with_capacity(rt.alloc(), READ_AT_ONCE, rt.stdin()) else {
-        return ExitCode::from(conclude(&mut note, Err(Error::OutOfMemory)));
+        return ExitCode::from(exit_status(&mut note, Err(Error::OutOfMemory)));
     };
     let mut source = StdSource::new(input);
     let mut sink = StdSink::new(rt.stdout());

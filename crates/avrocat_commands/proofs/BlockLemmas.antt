@@ -1,5 +1,6 @@
 -- The lines of the kept fields of a block.
 use Rattle.std.proofs.Common.{◌≡◌, ℕ, suc, Bool, true, false, List, [], ◌∷◌, ◌++◌, length, map, refl, sym, ap, ◌∙◌, arith}
+use Rattle.std.proofs.lemmas.List.{length-map}
 use Rattle.arrow_core.specs.declared.types.Field.{Field}
 use Rattle.arrow_array.specs.declared.array.Array.{Array}
 use Rattle.arrow_array.specs.Arrays.{array_type, array_slots}
@@ -9,10 +10,6 @@ use Rattle.avro_schema.specs.Columns.{AreColumns, kept_types}
 use Rattle.avrocat_commands.specs.Shown.{shown}
 use Rattle.cli_words.specs.declared.command.BlockWords.{BlockWords}
 use Rattle.avrocat_commands.specs.Blocks.{IsValid, ShowsColumns}
-
-mapped : {A B : Type 0} (f : A → B) (xs : List A) → length (map f xs) ≡ length xs
-mapped f [] = refl
-mapped f (x ∷ xs) = ap suc (mapped f xs)
 
 kept_alike : {A B : Type 0} (xs : List A) (ys : List B) (keeps : List Bool) → length xs ≡ length ys → length (kept xs keeps) ≡ length (kept ys keeps)
 kept_alike [] [] keeps h = refl
@@ -26,12 +23,12 @@ kept_alike (x ∷ xs) (y ∷ ys) (false ∷ keeps) h = kept_alike xs ys keeps (o
 pub a_column_each : (fields : List Field) (avro_fields : List AvroField) (keeps : List Bool) (arrays : List Array) → length fields ≡ length avro_fields
     → map array_type arrays ≡ kept_types fields keeps → length arrays ≡ length (kept avro_fields keeps)
 a_column_each fields avro_fields keeps arrays same types =
-    sym (mapped array_type arrays) ∙ ap length types ∙ mapped (λ f. f.data_type) (kept fields keeps) ∙ kept_alike fields avro_fields keeps same
+    sym (length-map arrays array_type) ∙ ap length types ∙ length-map (kept fields keeps) (λ f. f.data_type) ∙ kept_alike fields avro_fields keeps same
 
 pub a_name_each : (fields : List Field) (avro_fields : List AvroField) (keeps : List Bool) (arrays chunk : List Array) (names now : List (List ℕ)) → length fields ≡ length avro_fields
     → map array_type chunk ≡ kept_types fields keeps → arrays ≡ chunk → now ≡ names → names ≡ map (λ f. f.name) (kept avro_fields keeps) → length now ≡ length arrays
 a_name_each fields avro_fields keeps arrays chunk names now same types is lent told =
-    ap length (lent ∙ told) ∙ mapped (λ f. f.name) (kept avro_fields keeps) ∙ sym (a_column_each fields avro_fields keeps chunk same types) ∙ ap length (sym is)
+    ap length (lent ∙ told) ∙ length-map (kept avro_fields keeps) (λ f. f.name) ∙ sym (a_column_each fields avro_fields keeps chunk same types) ∙ ap length (sym is)
 
 pub block_shown : (block : BlockWords) (fields : List Field) (bytes text before : List ℕ) (arrays chunk : List Array) (names now : List (List ℕ))
     → IsValid block bytes → length fields ≡ length block.avro_fields → map array_type chunk ≡ kept_types fields block.projection

@@ -33,7 +33,7 @@ pub keeps_same : (told : Option (List ℕ)) → Keeps told told
 keeps_same None = tt
 keeps_same (Some bytes) = refl
 
--- ---- what is taken of a source that tells its bytes
+-- ---- what is taken of a source whose bytes the contract knows
 
 no_more : (bytes taken left : List ℕ) → bytes ≡ taken ++ left → length taken ≤ length bytes
 no_more bytes taken left is = omega (arith, ap length is, length-append taken left)
@@ -181,13 +181,13 @@ none_due (Rewrite rewrite) source e can h = rewrite_never_due source e can h
 
 -- ---- how a block ends, against what is due
 
--- the source is steady, and tells its bytes
+-- the source is steady, and the contract knows its bytes
 abbrev Steady : Change → Type 0
 Steady source = (Failed source → ⊥) × ((bytes : List ℕ) × (source.bytes ≡ Some bytes))
 
 -- of such a source only what is due comes, out of memory aside
 told_wrong : (block : BlockWords) (source : Change) (e : Error) → Steady source → BlockCannotBeShown block source e → (e ≡ OutOfMemory) ⊎ BlockDue block source e
-told_wrong block source (ReadFault None) s h = absurd (s.0 h)
+told_wrong block source (ReadFault None) s h = absurd (s.0 h.0)
 told_wrong block source LimitExceeded (steady, (bytes, told)) h = inr (record { bytes = bytes; told = told; beyond = beyond; steady = steady })
   where
     passed : (left left_after : Option (List ℕ)) → left ≡ Some bytes → PassesLimit left left_after → byte_limit < length bytes

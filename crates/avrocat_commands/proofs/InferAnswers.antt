@@ -1,5 +1,5 @@
 -- What `infer` answers, by the type that the lines have and by what was written.
-use Rattle.std.proofs.Common.{◌≡◌, ◌∙◌, ◌⊎◌, inl, inr, ℕ, ◌<◌, ◌≤◌, List, Option, None, Result, Ok, Err, IfErr, OnOk, OnErr, sym, subst, arith}
+use Rattle.std.proofs.Common.{◌≡◌, ◌⊎◌, inl, inr, ℕ, ◌<◌, ◌≤◌, List, Option, None, Result, Ok, Err, IfErr, OnOk, OnErr, sym, subst, arith}
 use Rattle.std.proofs.lemmas.Bool.{cases_lt}
 use Rattle.std.specs.Io.KnownBytes.{Appends}
 use Rattle.arrow_base.specs.Outside.{AppendsPrefix, last_count}

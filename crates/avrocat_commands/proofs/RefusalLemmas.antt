@@ -1,6 +1,5 @@
 -- From the refusals of the parts to those of a block.
-use Rattle.std.proofs.Common.{◌≡◌, ◌∙◌, ◌⊎◌, inl, inr, ℕ, suc, ◌<◌, ◌≤◌, Bool, None, Result, Ok, Err, IfErr, OnErr, List, [], ◌∷◌, length, refl, sym, ap, subst, arith}
-use Rattle.std.specs.List.{AllZip}
+use Rattle.std.proofs.Common.{◌≡◌, ◌∙◌, ◌⊎◌, inl, inr, ℕ, ◌<◌, ◌≤◌, Bool, None, Result, Ok, Err, IfErr, OnErr, List, [], ◌∷◌, length, refl, sym, ap, subst, arith}
 use Rattle.std.specs.Io.KnownBytes.{Keeps}
 use Rattle.arrow_core.specs.declared.error.Error.{Error}
 use Rattle.arrow_core.specs.declared.error.Error.TheVariants.{InvalidArgumentError, NotYetImplemented, ExternalFormat, OutOfSpec, Overflow, LimitExceeded, ReadFault, WriteFault, OutOfMemory}
@@ -17,12 +16,7 @@ use Rattle.avro_container.specs.Changes.{Change, Failed}
 use Rattle.avrocat_commands.specs.Input.{byte_limit, TakesAll, NotRead}
 use Rattle.avrocat_commands.specs.Refusals.{IsWrong, BlockCommandFails}
 use Rattle.avrocat_commands.proofs.ColumnLemmas.{forms_fit}
-
-zip_length : {A B : Type 0} (R : A → B → Type 0) (xs : List A) (ys : List B) → AllZip R xs ys → length xs ≡ length ys
-zip_length R [] [] h = refl
-zip_length R [] (y ∷ ys) h = absurd h
-zip_length R (x ∷ xs) [] h = absurd h
-zip_length R (x ∷ xs) (y ∷ ys) h = ap suc (zip_length R xs ys h.1)
+use Rattle.avro_types.proofs.ColumnTypes.{zip_length}
 
 none_left : {A B : Type 0} (xs : List A) (ys : List B) → length xs ≡ length ys → xs ≡ [] → ys ≡ []
 none_left xs [] same none = refl
@@ -85,12 +79,12 @@ module _ (block : BlockWords) (source sink : Change) where
   pub not_read : (e : Error) → Keeps sink.bytes sink.bytes_after → NotRead source e → BlockCommandFails block source sink e
   not_read (ReadFault None) keeps h = (keeps, h)
   not_read LimitExceeded keeps h = (keeps, h)
-  not_read OutOfMemory keeps h = (keeps, tt)
+  not_read OutOfMemory keeps h = (keeps, h)
   not_read _ keeps h = absurd h
 
   pub by_what_was_read : (e : Error) (bytes : List ℕ) → Keeps sink.bytes sink.bytes_after → TakesAll source.bytes source.bytes_after bytes → (e ≡ OutOfMemory) ⊎ IsWrong block bytes e
       → BlockCommandFails block source sink e
-  by_what_was_read e bytes keeps all (inl h) = subst (BlockCommandFails block source sink) (sym h) (keeps, tt)
+  by_what_was_read e bytes keeps all (inl h) = subst (BlockCommandFails block source sink) (sym h) (keeps, (bytes, omega (arith, all.within), all.taken))
   by_what_was_read (NotYetImplemented r) bytes keeps all (inr h) = (keeps, (bytes, all, h))
   by_what_was_read (ExternalFormat r) bytes keeps all (inr h) = (keeps, (bytes, all, h))
   by_what_was_read (OutOfSpec r) bytes keeps all (inr h) = (keeps, (bytes, all, h))

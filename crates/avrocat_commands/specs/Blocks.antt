@@ -36,7 +36,7 @@ pub record ShowsColumns (block : BlockWords) (bytes text : List ℕ) : Type 0 wh
   pub lines : text ≡ shown (map (λ f. f.name) (kept block.avro_fields block.projection)) columns
 
 -- The source's whole bytes are the block, and the sink got the lines of the kept fields.
--- Of a source or a sink that tells its bytes, these are the bytes.
+-- Of a source or a sink whose bytes the contract knows, these are the bytes.
 pub record BlockDone (block : BlockWords) (source sink : Change) : Type 0 where
   pub bytes : List ℕ
   pub text : List ℕ

@@ -27,7 +27,7 @@ CountFails source sink e =
     (Keeps sink.bytes sink.bytes_after × CountingFails byte_limit source e)
     ⊎ ((counts : FileCounts) × CountsFile byte_limit source counts × WriteFails sink.bytes sink.bytes_after sink.faults sink.faults_after (counts_text counts) e)
 
--- ---- what a source that tells its bytes must be answered, memory allowing
+-- ---- what must be answered of a source whose bytes the contract knows, memory allowing
 
 -- they are a file
 abbrev pub CanBeCounted : Change → Type 0

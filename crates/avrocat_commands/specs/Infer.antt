@@ -48,8 +48,8 @@ InferFails source sink e = Keeps sink.bytes sink.bytes_after × NoType None byte
 abbrev pub telling : List ℕ → Told
 telling bytes = record { left = Some bytes; faults = 0 }
 
--- The source tells its bytes, and doesn't fail. A reading of these bytes, in which no read fails, ends by this error, which isn't
--- out of memory.
+-- The contract knows the source's bytes, and doesn't fail. A reading of these bytes, in which no read fails, ends by this error,
+-- which isn't out of memory.
 pub record InferDue (source : Change) (e : Error) : Type 0 where
   pub bytes : List ℕ
   pub rest : List ℕ

@@ -1,5 +1,5 @@
 -- What a source gave.
-use Rattle.std.specs.Prelude.{◌≡◌, ℕ, ◌+◌, ◌++◌, ◌<◌, ◌≤◌, ⊤, None, Some, List, length, Option}
+use Rattle.std.specs.Prelude.{◌≡◌, ℕ, ◌+◌, ◌++◌, ◌<◌, ◌≤◌, None, Some, List, length, Option}
 use Rattle.std.specs.Io.KnownBytes.{Consumes, IsAtEnd}
 use Rattle.arrow_core.specs.declared.error.Error.{Error}
 use Rattle.arrow_core.specs.declared.error.Error.TheVariants.{LimitExceeded, ReadFault, OutOfMemory}
@@ -11,7 +11,7 @@ use Rattle.avro_file.specs.Laws.{IsMetadata}
 abbrev pub byte_limit : ℕ
 byte_limit = 1073741824
 
--- All bytes of a source, no more than the limit. Of a source that tells its bytes, these are the bytes.
+-- All bytes of a source, no more than the limit. Of a source whose bytes the contract knows, these are the bytes.
 pub record TakesAll (left left_after : Option (List ℕ)) (bytes : List ℕ) : Type 0 where
   pub taken : Consumes left left_after bytes
   pub whole : IsAtEnd left_after
@@ -21,11 +21,15 @@ pub record TakesAll (left left_after : Option (List ℕ)) (bytes : List ℕ) : T
 abbrev pub PassesLimit : Option (List ℕ) → Option (List ℕ) → Type 0
 PassesLimit left left_after = (bytes : List ℕ) × (length bytes ≡ byte_limit + 1) × Consumes left left_after bytes
 
+-- some bytes were taken, or none, and no more than one past the limit
+abbrev pub TakesSome : Option (List ℕ) → Option (List ℕ) → Type 0
+TakesSome left left_after = (bytes : List ℕ) × (length bytes ≤ byte_limit + 1) × Consumes left left_after bytes
+
 -- why a source is not read to its end, by the error that says so
 abbrev pub NotRead : Change → Error → Type 0
-NotRead source (ReadFault None) = Failed source
+NotRead source (ReadFault None) = Failed source × TakesSome source.bytes source.bytes_after
 NotRead source LimitExceeded = PassesLimit source.bytes source.bytes_after
-NotRead source OutOfMemory = ⊤
+NotRead source OutOfMemory = TakesSome source.bytes source.bytes_after
 NotRead source _ = ⊥
 
 -- the source tells these bytes, no more than the limit, and doesn't fail

@@ -19,7 +19,7 @@ NdjsonDone numbers source sink = (count : ℕ) × Converts (keep_of numbers) byt
 abbrev pub NdjsonFails : List ℕ → Change → Change → Error → Type 0
 NdjsonFails numbers source sink e = ConversionFails (keep_of numbers) byte_limit source sink e
 
--- ---- what a source that tells its bytes must be answered, memory allowing
+-- ---- what must be answered of a source whose bytes the contract knows, memory allowing
 
 -- they are a file whose rows can be shown
 abbrev pub HasLines : List ℕ → Change → Type 0

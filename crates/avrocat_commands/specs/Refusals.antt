@@ -1,5 +1,5 @@
 -- Why a block is refused: each error has its one cause, and out of memory may come at any time.
-use Rattle.std.specs.Prelude.{◌≡◌, ℕ, ◌<◌, ◌≤◌, ⊤, None, List, [], length}
+use Rattle.std.specs.Prelude.{◌≡◌, ℕ, ◌<◌, ◌≤◌, None, List, [], length}
 use Rattle.std.specs.Io.KnownBytes.{Keeps}
 use Rattle.arrow_base.specs.Outside.{AppendsPrefix}
 use Rattle.arrow_core.specs.declared.error.Error.{Error}
@@ -14,7 +14,7 @@ use Rattle.avro_schema.specs.Refusals.{AreCarried}
 use Rattle.cli_words.specs.declared.command.BlockWords.{BlockWords}
 use Rattle.avrocat_commands.specs.Blocks.{IsValid, ShowsColumns}
 use Rattle.avro_container.specs.Changes.{Change, Failed}
-use Rattle.avrocat_commands.specs.Input.{TakesAll, PassesLimit, Tells, TellsTooMany}
+use Rattle.avrocat_commands.specs.Input.{PassesLimit, TakesAll, TakesSome, Tells, TellsTooMany}
 
 -- there is a field, all are carried, the kept ones hold no float, and a dictionary can hold the symbols of each of their
 -- enums
@@ -45,9 +45,9 @@ pub record BlockCommandBreaksOff (block : BlockWords) (source sink : Change) : T
 
 -- why nothing is written: the source failed or has too many bytes, or what was read is wrong
 abbrev pub BlockCannotBeShown : BlockWords → Change → Error → Type 0
-BlockCannotBeShown block source (ReadFault None) = Failed source
+BlockCannotBeShown block source (ReadFault None) = Failed source × TakesSome source.bytes source.bytes_after
 BlockCannotBeShown block source LimitExceeded = PassesLimit source.bytes source.bytes_after
-BlockCannotBeShown block source OutOfMemory = ⊤
+BlockCannotBeShown block source OutOfMemory = TakesSome source.bytes source.bytes_after
 BlockCannotBeShown block source e = (bytes : List ℕ) × TakesAll source.bytes source.bytes_after bytes × IsWrong block bytes e
 
 -- why a block fails; only a failing sink has taken any byte
@@ -55,7 +55,7 @@ abbrev pub BlockCommandFails : BlockWords → Change → Change → Error → Ty
 BlockCommandFails block source sink WriteFault = BlockCommandBreaksOff block source sink
 BlockCommandFails block source sink e = Keeps sink.bytes sink.bytes_after × BlockCannotBeShown block source e
 
--- ---- what a source that tells its bytes must be answered, memory allowing
+-- ---- what must be answered of a source whose bytes the contract knows, memory allowing
 
 -- it can be shown
 abbrev pub BlockCanBeShown : BlockWords → Change → Type 0

@@ -15,7 +15,7 @@ RewriteDone rewrite source sink = (count : ℕ) × Rewrites rewrite.name rewrite
 abbrev pub RewriteFails : RewriteWords → Change → Change → Error → Type 0
 RewriteFails rewrite source sink e = RewritingFails rewrite.name rewrite.marker byte_limit source sink e
 
--- ---- what a source that tells its bytes must be answered, memory allowing
+-- ---- what must be answered of a source whose bytes the contract knows, memory allowing
 
 -- they are a file that can be rewritten
 abbrev pub CanBeRewritten : Change → Type 0

@@ -30,7 +30,7 @@ pub fn read_all<S: Source>(alloc: Global, source: &mut S) -> Result<Vec<u8>>
     ensures err { IfErr result (NotRead (change_of (S.left source.old) (S.faults source.old)
         (S.left source.new) (S.faults source.new))) }
     ensures never_falls { S.faults source.old ≤ S.faults source.new }
-    ensures same { S.whose source.new ≡ S.whose source.old }
+    ensures same { S.identity source.new ≡ S.identity source.old }
 {
     let mut bytes = Vec::new(alloc);
     let mut piece = new_piece(alloc)?;

@@ -21,4 +21,4 @@ mod schema;
 pub use help::{HELP, VERSION};
 pub use laws::{no_error_is_due_to_what_can_be_done, one_error_is_due};
 pub use lines::Lines;
-pub use program::{conclude, run};
+pub use program::{exit_status, run};

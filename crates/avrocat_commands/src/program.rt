@@ -30,12 +30,12 @@ const USAGE: u8 = 1;
 /// Does all that the program does, and answers its exit status.
 ///
 /// The status is 0 where the command was done, 1 where the words stand for no command, and else
-/// that of the error by which it failed. Of a source that tells its bytes and doesn't fail: where
-/// the command can be done on these bytes the status is 0, unless the sink fails; a wrong block, a
-/// file whose record's fields can't be shown or rewritten, fields whose rows can't be written, and
-/// lines that have no type, have the status of their error. `ndjson`, `rewrite` and `avro` write
-/// block by block, so 9, of a failed write, may come before a later fault. 10, out of memory, may
-/// come at any time instead. With status 1 nothing is read or written. With any status
+/// that of the error by which it failed. Of a source whose bytes the contract knows and doesn't
+/// fail: where the command can be done on these bytes the status is 0, unless the sink fails; a
+/// wrong block, a file whose record's fields can't be shown or rewritten, fields whose rows can't
+/// be written, and lines that have no type, have the status of their error. `ndjson`, `rewrite` and
+/// `avro` write block by block, so 9, of a failed write, may come before a later fault. 10, out of
+/// memory, may come at any time instead. With status 1 nothing is read or written. With any status
 /// but 0 the note gets one line that names the fault; a note that fails holds a prefix of it and
 /// changes no status.
 pub fn run<S: Source, K: Sink, N: Sink>(
@@ -79,12 +79,12 @@ pub fn run<S: Source, K: Sink, N: Sink>(
         → (result ≡ status_of e) ⊎ (result ≡ 10) }
 {
     match read_words(alloc, words) {
-        Ok(command) => conclude(note, run_command(alloc, command, source, sink)),
+        Ok(command) => exit_status(note, run_command(alloc, command, source, sink)),
         Err(WordsFault::Usage) => {
             let _ = note_usage(note);
             USAGE
         }
-        Err(WordsFault::Memory) => conclude(note, Err(Error::OutOfMemory)),
+        Err(WordsFault::Memory) => exit_status(note, Err(Error::OutOfMemory)),
     }
 }
 
@@ -121,7 +121,7 @@ fn run_command<S: Source, K: Sink>(
 }
 
 /// The status of a command's answer. An error is noted.
-pub fn conclude<N: Sink>(note: &mut N, answer: Result<()>) -> u8
+pub fn exit_status<N: Sink>(note: &mut N, answer: Result<()>) -> u8
     ensures { MatchResult answer
         (λ _. (result ≡ 0) × Keeps (N.held note.old) (N.held note.new))
         (λ e. (result ≡ status_of e) × Notes

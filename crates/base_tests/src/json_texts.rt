@@ -4,10 +4,10 @@ use json_tree::{JsonFault, Number, Value, parse};
 use std::alloc::Global;
 
 // RFC 8259, section 13.
-pub static IMAGE: &str =
+static IMAGE: &str =
     "{\"Image\": {\"Width\": 800, \"Height\": 600, \"Title\": \"View from 15th Floor\", \"Thumbnail\": {\"Url\": \"http://www.example.com/image/481989943\", \"Height\": 125, \"Width\": 100}, \"Animated\": false, \"IDs\": [116, 943, 234, 38793]}}";
 
-pub static PLACES: &str =
+static PLACES: &str =
     "[{\"precision\": \"zip\", \"Latitude\": 37.7668, \"Longitude\": -122.3959, \"Address\": \"\"}, {\"Latitude\": 37.371991, \"Longitude\": -122.026020, \"Zip\": \"94085\"}]";
 
 fn is_text(alloc: Global, bytes: &[u8]) -> bool {

@@ -17,11 +17,7 @@ mod files;
 #[cfg(test)]
 mod headers;
 #[cfg(test)]
-mod json_checks;
-#[cfg(test)]
 mod json_texts;
-#[cfg(test)]
-mod lent_rows;
 #[cfg(test)]
 mod lists_and_errors;
 #[cfg(test)]

@@ -1,5 +1,5 @@
 //! Texts of schemas that are read.
-use avro_file::{Fault, read_schema_text};
+use avro_file::{SchemaTextFault, read_schema_text};
 use avro_schema::{AvroSchema, BytesLogical, Fixed, FixedLogical, IntLogical, LongLogical};
 use std::alloc::Global;
 
@@ -24,12 +24,12 @@ fn told(schema: &AvroSchema) -> &'static str {
     }
 }
 
-fn told_fault(fault: Fault) -> &'static str {
+fn told_fault(fault: SchemaTextFault) -> &'static str {
     match fault {
-        Fault::Form => "Form",
-        Fault::Reference => "Reference",
-        Fault::Depth => "Depth",
-        Fault::Memory => "Memory",
+        SchemaTextFault::Form => "Form",
+        SchemaTextFault::Reference => "Reference",
+        SchemaTextFault::Depth => "Depth",
+        SchemaTextFault::Memory => "Memory",
     }
 }
 

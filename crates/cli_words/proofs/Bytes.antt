@@ -50,7 +50,7 @@ pub holds : (c : ℕ) (prefix back : List ℕ) → Lacks c (prefix ++ (c ∷ bac
 holds c [] back lacks = lacks 0 (omega arith) refl
 holds c (b ∷ bs) back lacks = holds c bs back (λ i low. lacks (suc i) (omega (arith, low)))
 
-head_or : ℕ → List ℕ → ℕ
+unfoldable pub head_or : ℕ → List ℕ → ℕ
 head_or d [] = d
 head_or d (x ∷ xs) = x
 

@@ -4,8 +4,9 @@ use Rattle.std.proofs.lemmas.List.{append_cancel_right}
 use Rattle.avro_schema.specs.declared.schema.Schema.{Schema, Bytes}
 use Rattle.avro_schema.specs.declared.schema.BytesLogical.TheVariants as bytes_logical
 use Rattle.avro_schema.specs.declared.schema.FixedLogical.TheVariants as fixed_logical
+use Rattle.avro_schema.specs.TypeExamples.{fixed_of}
 use Rattle.cli_words.specs.Names.{IsSize}
-use Rattle.cli_words.specs.Types.{AreDigits, IsFixed, IsDecimal, IsSized, fixed_of}
+use Rattle.cli_words.specs.Types.{AreDigits, IsFixed, IsDecimal, IsSized}
 use Rattle.cli_words.proofs.Bytes.{Lacks, size_lacks, name_lacks, holds, one_cut}
 
 -- ---- decimals

@@ -4,10 +4,7 @@ use Rattle.avro_schema.specs.declared.schema.AvroField.{AvroField}
 use Rattle.cli_words.specs.FieldEnd.{field_length}
 use Rattle.cli_words.specs.Types.{IsNamed, AreNamed, AreFields, IsType}
 use Rattle.cli_words.proofs.FieldEnds.{named_passed, type_passed}
-
-head_or : ℕ → List ℕ → ℕ
-head_or d [] = d
-head_or d (x ∷ xs) = x
+use Rattle.cli_words.proofs.Bytes.{head_or}
 
 -- two texts cut at the same byte, after as many bytes
 same_cut : (c : ℕ) (prefix other back more : List ℕ) → length prefix ≡ length other → prefix ++ (c ∷ back) ≡ other ++ (c ∷ more) → (prefix ≡ other) × (back ≡ more)

@@ -10,10 +10,11 @@ use Rattle.avro_schema.specs.declared.schema.LongLogical.TheVariants as long_log
 use Rattle.avro_schema.specs.declared.schema.StringLogical.TheVariants as string_logical
 use Rattle.avro_schema.specs.declared.schema.BytesLogical.TheVariants as bytes_logical
 use Rattle.avro_schema.specs.declared.schema.FixedLogical.TheVariants as fixed_logical
+use Rattle.avro_schema.specs.TypeExamples.{fixed_of}
 use Rattle.cli_words.specs.Fields.{IsField}
 use Rattle.cli_words.specs.Names.{name_byte, IsName, IsSize}
-use Rattle.cli_words.specs.Types.{IsPlain, IsDecimal, IsSized, AreSymbols, IsEnum, AreFields, IsRecord, IsList, IsBase, IsNullFirst, IsNullSecond, IsNamed, IsType, fixed_of, record_of, enum_of}
-use Rattle.cli_words.proofs.Bytes.{Lacks, false_true, name_lacks, size_lacks, holds, one_cut}
+use Rattle.cli_words.specs.Types.{IsPlain, IsDecimal, IsSized, AreSymbols, IsEnum, AreFields, IsRecord, IsList, IsBase, IsNullFirst, IsNullSecond, IsNamed, IsType, record_of, enum_of}
+use Rattle.cli_words.proofs.Bytes.{Lacks, false_true, name_lacks, size_lacks, holds, one_cut, head_or}
 use Rattle.cli_words.proofs.Ends.{last_of, plain_ends, sized_ends, enum_ends, record_ends, list_ends, no_mark}
 use Rattle.cli_words.proofs.FieldLemmas.{one_fields}
 use Rattle.cli_words.proofs.SymbolLemmas.{name_has_no_comma}
@@ -81,10 +82,6 @@ one_decimal text s u (inr (p, q, t, m, n, x, d, w, is, e)) (inr (a, b, r, k, l, 
     let second : n ≡ l = one_size b n l (subst (λ v. IsSize v n) more.0 d.1) c.1 in
     let third : x ≡ z = one_size r x z (subst (λ v. IsSize v x) more.1 w) y in
     e ∙ (λ i. fixed_of (third i) (Some (fixed_logical.Decimal (first i) (second i)))) ∙ sym f
-
-head_or : ℕ → List ℕ → ℕ
-head_or d [] = d
-head_or d (x ∷ xs) = x
 
 one_sized : (word : List ℕ) (s u : Schema) → IsSized word s → IsSized word u → s ≡ u
 unfolding head_or

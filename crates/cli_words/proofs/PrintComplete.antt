@@ -18,11 +18,13 @@ use Rattle.avro_schema.specs.declared.schema.StringLogical.TheVariants as string
 use Rattle.avro_schema.specs.declared.schema.BytesLogical.TheVariants as bytes_logical
 use Rattle.avro_schema.specs.declared.schema.FixedLogical.{FixedLogical}
 use Rattle.avro_schema.specs.declared.schema.FixedLogical.TheVariants as fixed_logical
+use Rattle.avro_schema.specs.TypeExamples.{fixed_of}
+use Rattle.avro_schema.specs.Encodes.{is_null}
 use Rattle.cli_words.specs.Names.{IsName, IsSize}
-use Rattle.cli_words.specs.Printed.{unnamed, is_name_text, is_size, are_digits, has_fixed, has_symbols, has_field, layer_has_base, has_base, is_null, members_of, has_marked, has_type, joined, fixed_word, field_word, layer_word, base_word, marked_word, type_word, type_text, IsTypeText}
-use Rattle.cli_words.specs.Types.{IsPlain, AreDigits, AreSymbols, AreNamed, AreFields, IsNamed, IsBase, IsNullFirst, IsNullSecond, IsType, fixed_of}
+use Rattle.cli_words.specs.Printed.{unnamed, is_name_text, is_size, are_digits, has_fixed, has_symbols, has_field, layer_has_base, has_base, members_of, has_marked, has_type, joined, fixed_word, field_word, layer_word, base_word, marked_word, type_word, type_text, IsTypeText}
+use Rattle.cli_words.specs.Types.{IsPlain, AreDigits, AreSymbols, AreNamed, AreFields, IsNamed, IsBase, IsNullFirst, IsNullSecond, IsType}
 use Rattle.cli_words.proofs.Bytes.{false_true}
-use Rattle.cli_words.proofs.PrintLaws.{both, printed_is_word}
+use Rattle.cli_words.proofs.PrintLaws.{both, printed_is_word, le_true}
 use Rattle.cli_words.proofs.Unnamed.{Layer, unnamed_field, bare, out_unnamed, name_is, schema_is, null_is, null_unnamed, union_is, members_union, members_unnamed}
 
 -- a test passes, and the word is no longer than this one
@@ -40,9 +42,6 @@ around a x y z word le e =
 -- two parts with something between them
 beside : (x y b z w : List ℕ) → length x ≤ length y → length z ≤ length w → length (x ++ (b ++ z)) ≤ length (y ++ (b ++ w))
 beside x y b z w p q = omega (arith, p, q, length-append x (b ++ z), length-append b z, length-append y (b ++ w), length-append b w)
-
-le_true : (m n : ℕ) → m ≤ n → nat_le m n ≡ true
-le_true m n l = grind (arith, nat_tests, l)
 
 eq_true : (m n : ℕ) → m ≡ n → (m == n) ≡ true
 eq_true m n l = grind (arith, nat_tests, l)

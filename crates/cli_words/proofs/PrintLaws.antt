@@ -15,9 +15,11 @@ use Rattle.avro_schema.specs.declared.schema.StringLogical.TheVariants as string
 use Rattle.avro_schema.specs.declared.schema.BytesLogical.TheVariants as bytes_logical
 use Rattle.avro_schema.specs.declared.schema.FixedLogical.{FixedLogical}
 use Rattle.avro_schema.specs.declared.schema.FixedLogical.TheVariants as fixed_logical
+use Rattle.avro_schema.specs.TypeExamples.{fixed_of}
+use Rattle.avro_schema.specs.Encodes.{is_null}
 use Rattle.cli_words.specs.Names.{IsName, IsSize}
-use Rattle.cli_words.specs.Printed.{unnamed, is_name_text, is_size, are_digits, has_fixed, has_symbols, has_field, layer_has_base, has_base, is_null, members_of, has_marked, has_type, joined, fixed_word, field_word, layer_word, base_word, marked_word, type_word}
-use Rattle.cli_words.specs.Types.{AreDigits, AreSymbols, AreNamed, AreFields, IsNamed, IsBase, IsNullFirst, IsNullSecond, IsType, fixed_of}
+use Rattle.cli_words.specs.Printed.{unnamed, is_name_text, is_size, are_digits, has_fixed, has_symbols, has_field, layer_has_base, has_base, members_of, has_marked, has_type, joined, fixed_word, field_word, layer_word, base_word, marked_word, type_word}
+use Rattle.cli_words.specs.Types.{AreDigits, AreSymbols, AreNamed, AreFields, IsNamed, IsBase, IsNullFirst, IsNullSecond, IsType}
 use Rattle.cli_words.proofs.Bytes.{false_true}
 use Rattle.cli_words.proofs.Unnamed.{Layer, unnamed_field, without, unnamed_is, name_is, doc_is, schema_is, null_is, null_unnamed, union_is}
 
@@ -31,7 +33,7 @@ and_parts false b h = absurd (false_true h)
 pub both : (a b : Bool) → a ≡ true → b ≡ true → (a && b) ≡ true
 both a b p q = (λ i. p i && q i)
 
-le_true : (m n : ℕ) → m ≤ n → nat_le m n ≡ true
+pub le_true : (m n : ℕ) → m ≤ n → nat_le m n ≡ true
 le_true m n l = grind (arith, nat_tests, l)
 
 true_le : (m n : ℕ) → nat_le m n ≡ true → m ≤ n

@@ -7,8 +7,10 @@ use Rattle.avro_schema.specs.declared.schema.Record.{Record as TheRecord, fold_o
 use Rattle.avro_schema.specs.declared.schema.Schema.{Schema, Schema-F, fold-roll-Schema, out-Schema, roll-Schema, roll-out-Schema, Null, Boolean, Int, Long, Float, Double, Bytes, String, Record, Array, Map, Union}
 use Rattle.avro_schema.specs.declared.schema.Schema.TheOpen as layer
 use Rattle.avro_schema.specs.declared.schema.Schema.TheVariants as variant
-use Rattle.cli_words.specs.Printed.{schema_unnamed, field_unnamed, record_unnamed, unnamed, is_null, members_of, layer_members}
-use Rattle.cli_words.specs.Types.{fixed_of, record_of, enum_of}
+use Rattle.avro_schema.specs.TypeExamples.{fixed_of}
+use Rattle.avro_schema.specs.Encodes.{is_null}
+use Rattle.cli_words.specs.Printed.{schema_unnamed, field_unnamed, record_unnamed, unnamed, members_of, layer_members}
+use Rattle.cli_words.specs.Types.{record_of, enum_of}
 use Rattle.cli_words.proofs.Bytes.{false_true}
 
 abbrev pub Layer : Type 0

@@ -16,8 +16,10 @@ use Rattle.avro_schema.specs.declared.schema.BytesLogical.{BytesLogical}
 use Rattle.avro_schema.specs.declared.schema.BytesLogical.TheVariants as bytes_logical
 use Rattle.avro_schema.specs.declared.schema.FixedLogical.{FixedLogical}
 use Rattle.avro_schema.specs.declared.schema.FixedLogical.TheVariants as fixed_logical
+use Rattle.avro_schema.specs.TypeExamples.{fixed_of}
+use Rattle.avro_schema.specs.Encodes.{is_null}
 use Rattle.cli_words.specs.Names.{name_byte}
-use Rattle.cli_words.specs.Types.{IsType, fixed_of, enum_of}
+use Rattle.cli_words.specs.Types.{IsType, enum_of}
 
 -- ---- a schema without what words don't say: names, namespaces and docs of types, docs of fields
 
@@ -98,10 +100,6 @@ layer_has_base Inner (layer.Fixed f) = has_fixed f.size f.logical
 -- a type without a mark
 abbrev pub has_base : (Schema → Bool) → Schema → Bool
 has_base Inner schema = layer_has_base Inner (out-Schema schema)
-
-abbrev pub is_null : Schema → Bool
-is_null Null = true
-is_null _ = false
 
 abbrev pub layer_members : Schema-F Schema AvroField TheRecord → Option (List Schema)
 layer_members (layer.Union members) = Some members

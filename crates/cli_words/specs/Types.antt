@@ -1,5 +1,5 @@
 -- The types that a field's word names.
-use Rattle.std.specs.Prelude.{◌≡◌, ℕ, zero, suc, ◌≤◌, List, [], ◌∷◌, ◌++◌, codes, Option, Some, None, ◌⊎◌}
+use Rattle.std.specs.Prelude.{◌≡◌, ℕ, zero, suc, ◌≤◌, List, [], ◌∷◌, ◌++◌, codes, Some, None, ◌⊎◌}
 use Rattle.avro_schema.specs.declared.schema.AvroField.{AvroField}
 use Rattle.avro_schema.specs.declared.schema.Record.{roll-Record}
 use Rattle.avro_schema.specs.declared.schema.Schema.{Schema, Null, Boolean, Int, Long, Float, Double, Bytes, String, Record, Enum, Array, Union, Fixed}
@@ -7,14 +7,11 @@ use Rattle.avro_schema.specs.declared.schema.IntLogical.TheVariants as int_logic
 use Rattle.avro_schema.specs.declared.schema.LongLogical.TheVariants as long_logical
 use Rattle.avro_schema.specs.declared.schema.StringLogical.TheVariants as string_logical
 use Rattle.avro_schema.specs.declared.schema.BytesLogical.TheVariants as bytes_logical
-use Rattle.avro_schema.specs.declared.schema.FixedLogical.{FixedLogical}
 use Rattle.avro_schema.specs.declared.schema.FixedLogical.TheVariants as fixed_logical
+use Rattle.avro_schema.specs.TypeExamples.{fixed_of}
 use Rattle.cli_words.specs.Names.{IsName, IsSize}
 
 -- A word names no record, enum or fixed type: their names are empty, and they have no namespace and no doc.
-
-abbrev pub fixed_of : ℕ → Option FixedLogical → Schema
-fixed_of size logical = Fixed (record { name = []; namespace = None; doc = None; size = size; logical = logical })
 
 abbrev pub record_of : List AvroField → Schema
 record_of fields = Record (roll-Record (record { name = []; namespace = None; doc = None; fields = fields }))

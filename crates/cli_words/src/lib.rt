@@ -1,5 +1,5 @@
-//! The words of `avrocat`'s command line: the words of fields, and the commands that words stand
-//! for.
+//! The words of `avrocat`'s command line: the words of fields, the commands that words stand for,
+//! and the word that is printed for a type.
 #![tactic(auto)]
 
 mod command;
@@ -13,8 +13,6 @@ mod plain;
 mod print;
 mod sized;
 mod symbols;
-#[cfg(test)]
-mod tests;
 mod types;
 mod worded;
 mod words;

@@ -4,9 +4,10 @@ ghost use Rattle.std.specs.Prelude.{◌≡◌, ◌++◌, codes, ℕ, Some, None,
 ghost use Rattle.avro_schema.specs.declared.schema.Schema.{Schema, Bytes};
 ghost use Rattle.avro_schema.specs.declared.schema.BytesLogical.TheVariants as bytes_logical;
 ghost use Rattle.avro_schema.specs.declared.schema.FixedLogical.TheVariants as fixed_logical;
+ghost use Rattle.avro_schema.specs.TypeExamples.{fixed_of};
 ghost use Rattle.cli_words.specs.Names.{IsSize};
 ghost use Rattle.cli_words.specs.declared.fault.WordsFault.TheVariants.{Usage, Memory};
-ghost use Rattle.cli_words.specs.Types.{AreDigits, IsFixed, IsDecimal, IsSized, fixed_of};
+ghost use Rattle.cli_words.specs.Types.{AreDigits, IsFixed, IsDecimal, IsSized};
 
 use crate::fault::WordsFault;
 use crate::names::read_size;

@@ -2,6 +2,7 @@
 ghost use Rattle.std.specs.Prelude.{◌≡◌};
 ghost use Rattle.std.specs.List.{list_all};
 ghost use Rattle.std.specs.Option.{option_copied};
+ghost use Rattle.avro_schema.specs.Encodes.{is_null as is_null_of};
 ghost use Rattle.cli_words.specs.Printed as spec;
 
 use crate::names::{GREATEST_SIZE, is_name};
@@ -93,7 +94,7 @@ pub(crate) fn members_of(schema: &AvroSchema) -> Option<&[AvroSchema]>
 }
 
 pub(crate) fn is_null(schema: &AvroSchema) -> bool
-    ensures { result ≡ spec.is_null schema.now }
+    ensures { result ≡ is_null_of schema.now }
 {
     matches!(schema, AvroSchema::Null)
 }

@@ -1,6 +1,7 @@
 //! Tests of files: their blocks as chunks, conversions between files and lines, and files that are
-//! rewritten in their canonical form. What a test has is let go by a call: where it goes out of
-//! scope, all that lies in it would be let go in the proof of the test.
+//! rewritten in their canonical form; and of the functions of `guide`, which is proved once so. What
+//! a test has is let go by a call: where it goes out of scope, all that lies in it would be let go in
+//! the proof of the test.
 #![tactic(auto)]
 
 #[cfg(test)]
@@ -11,6 +12,18 @@ mod columns;
 mod encoded_lines;
 #[cfg(test)]
 mod files;
+#[cfg(test)]
+mod guide_blocks;
+#[cfg(test)]
+mod guide_files;
+#[cfg(test)]
+mod guide_lines;
+#[cfg(test)]
+mod guide_rows;
+#[cfg(test)]
+mod guide_samples;
+#[cfg(test)]
+mod guide_sums;
 #[cfg(test)]
 mod line_files;
 #[cfg(test)]

@@ -1,5 +1,7 @@
 -- The columns of fields of structs.
-use Rattle.std.proofs.Common.{◌≡◌, SomeIff, ok_or, Option, Some, None, Result, Ok, refl, sym, ap, ◌∙◌, arith, ℕ, zero, suc, ◌+◌, ◌<◌, false, List, [], ◌∷◌, map, length, take, take-suc, slice_index_or, IsTrue, ℤ, pos, ◌+ℤ◌}
+use Rattle.std.proofs.Common.{◌≡◌, SomeIff, ok_or, Option, Some, None, Result, Ok, refl, sym, ap, ◌∙◌, arith, ℕ, zero, suc, ◌+◌, ◌<◌, false, List, [], ◌∷◌, map, length, take, take-suc, get_or, slice_index_or, subst, IsTrue, ℤ, pos, ◌+ℤ◌}
+use Rattle.std.specs.Prelude.{option_map, slice_get}
+use Rattle.std.proofs.lemmas.Option.{slice_get_read}
 use Rattle.std.proofs.lemmas.List.Sums.{fold-append}
 use Rattle.arrow_core.specs.declared.error.Error.{Error}
 use Rattle.arrow_core.specs.declared.error.Error.TheVariants.{Overflow}
@@ -13,6 +15,14 @@ use Rattle.arrow_array.specs.Arrays.{array_slots}
 use Rattle.arrow_array.specs.Slots.{slot_at, is_held}
 use Rattle.arrow_array.specs.Structs.{record_at, AreChildren, IsStructOf}
 use Rattle.guide.specs.LineSum.{IsFieldOf, added, field_in, field_of, long_of}
+
+-- the field that stands at a place has its name
+pub name_at : (fields all : List Field) (place : ℕ) (field : Field) (name : List ℕ) → fields ≡ all → place < length fields → field ≡ get_or fields place field → field.name ≡ name
+    → option_map (λ (f : Field). f.name) (slice_get all place) ≡ Some name
+name_at fields all place field name same within at named =
+    let read : option_map (λ (f : Field). f.name) (slice_get fields place) ≡ Some name =
+    ap (option_map (λ (f : Field). f.name)) (slice_get_read fields (length fields) place field refl within at) ∙ ap Some named in
+    subst (λ (z : List Field). option_map (λ (f : Field). f.name) (slice_get z place) ≡ Some name) same read
 
 child_length : (n : ℕ) (fields : List Field) (children : List Array) (k : ℕ) (a : Array) → k < length children → a ≡ slice_index_or children k a → AreChildren n fields children → length (array_slots a) ≡ n
 child_length n fields [] k a l e h = absurd (omega (arith, l))

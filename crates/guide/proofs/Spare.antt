@@ -4,7 +4,6 @@ use Rattle.arrow_core.specs.declared.error.Error.{Error}
 use Rattle.avro_schema.specs.declared.block.Block.{Block}
 use Rattle.arrow_builders.specs.declared.array.MutableArray.{MutableArray}
 use Rattle.arrow_builders.specs.Nodes.{HasSpare}
-use Rattle.arrow_builders.specs.MutableArrays.{nodes}
 use Rattle.avro_decode.specs.Capacity.{AtNodes}
 
 pub spare_for_fewer : (n m : ℕ) (builders : List MutableArray) → m ≤ n → AtNodes (HasSpare n) builders → AtNodes (HasSpare m) builders

@@ -31,7 +31,7 @@ use Rattle.avro_read.specs.Projection.{ReaderRefused}
 use Rattle.avro_read.specs.Reader.{ReadsChunk, Next}
 use Rattle.guide.specs.Sum.{only, long_of, added, AddsColumn, SumsSoFar, SumsBlocks, IsSumOfFile, PassesBits, ColumnFails, StopsAtBlock, FieldFails, SumFails}
 
-zip_push : {A B : Type 0} (R : A → B → Type 0) (xs : List A) (ys : List B) (x : A) (y : B) → AllZip R xs ys → R x y → AllZip R (xs ++ x ∷ []) (ys ++ y ∷ [])
+pub zip_push : {A B : Type 0} (R : A → B → Type 0) (xs : List A) (ys : List B) (x : A) (y : B) → AllZip R xs ys → R x y → AllZip R (xs ++ x ∷ []) (ys ++ y ∷ [])
 zip_push R [] [] x y h r = (r, tt)
 zip_push R [] (z ∷ ys) x y h r = absurd h
 zip_push R (z ∷ xs) [] x y h r = absurd h

@@ -2,25 +2,13 @@
 //! files and JSON written.
 #![tactic(auto)]
 
-#[cfg(test)]
-mod block_tests;
-#[cfg(test)]
-mod line_tests;
 mod lines;
 mod one_block;
 mod players;
 mod records;
 mod reserved;
-#[cfg(test)]
-mod row_tests;
 mod rows;
-#[cfg(test)]
-mod samples;
 mod sum;
-#[cfg(test)]
-mod sum_tests;
-#[cfg(test)]
-mod write_tests;
 mod written;
 
 pub use lines::sum_of_lines;

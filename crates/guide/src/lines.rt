@@ -1,12 +1,14 @@
 //! JSON lines into columns, batch by batch.
 
-ghost use Rattle.std.specs.Prelude.{◌≡◌, ◌<◌, ℕ, length, IfOk, IfSome};
+ghost use Rattle.std.specs.Prelude.{◌≡◌, ◌<◌, ℕ, List, Some, length, vec_len, IfOk, IfSome};
 ghost use Rattle.arrow_array.specs.Arrays.{array_slots};
 ghost use Rattle.arrow_array.specs.Slots.{slot_at};
-ghost use Rattle.guide.specs.LineSum.{IsFieldOf, added, field_of, long_of};
+ghost use Rattle.json_infer.specs.Parts.{members_of};
+ghost use Rattle.ndjson_read.specs.Inference.{told_of};
+ghost use Rattle.guide.specs.LineSum.{HasFieldAt, IsFieldOf, IsSumOfLines, added, field_of, long_of};
 
 use arrow_array::{Array, PrimitiveArray, StructArray};
-use arrow_base::{DataType, Error, Reason, Result, Source, Text};
+use arrow_base::{DataType, Error, Field, Reason, Result, Source, Text};
 use ndjson::{FileReader, deserialize, infer};
 use std::alloc::Global;
 
@@ -17,19 +19,22 @@ const BYTE_LIMIT: u64 = 1 << 40;
 const BATCH: usize = 1000;
 
 /// The sum of the integers under one key of JSON lines; a row without the key, or with null under
-/// it, adds nothing. The type of the rows is inferred from the first of them, so the lines are given
-/// twice.
+/// it, adds nothing. The type of the rows is inferred from the first of them, so the lines are
+/// given twice.
 ///
 /// The errors are those of `infer`, of `FileReader::advance` and of `deserialize`.
 /// `InvalidArgumentError(UnknownKey)` where no key has this name, `NotYetImplemented(NotCarried)`
-/// where its column isn't one of integers, and `Overflow` where the sum is too great. No clause says
-/// so.
+/// where its column isn't one of integers, and `Overflow` where the sum is too great. No clause
+/// says so.
 pub fn sum_of_lines<S: Source + Drop>(
     alloc: Global,
     mut first: S,
     lines: S,
     key: &str,
-) -> Result<i128> {
+) -> Result<i128>
+    ensures sum { IfOk result (λ sum. (bytes : List ℕ) → S.left lines ≡ Some bytes
+        → IsSumOfLines (told_of S.left S.faults first) key.now bytes sum) }
+{
     let row_type = infer(alloc, &mut first, Some(BATCH), BYTE_LIMIT)?;
     let place = place_of(&row_type, key)?;
     let mut lines = FileReader::new(alloc, lines, texts(alloc)?, None, BYTE_LIMIT);
@@ -45,7 +50,9 @@ pub fn sum_of_lines<S: Source + Drop>(
 }
 
 /// The texts that the rows of a batch are read into.
-fn texts(alloc: Global) -> Result<Vec<Text>> {
+fn texts(alloc: Global) -> Result<Vec<Text>>
+    ensures { IfOk result (λ texts. vec_len texts ≡ 1000) }
+{
     let mut texts = Vec::new(alloc);
     for _ in 0..BATCH {
         texts.push(Text::from_string(String::new(alloc)))?;
@@ -54,15 +61,26 @@ fn texts(alloc: Global) -> Result<Vec<Text>> {
 }
 
 /// The place of a key among the fields of rows.
-fn place_of(row_type: &DataType, key: &str) -> Result<usize> {
-    if let DataType::Struct(fields) = row_type {
-        for (place, field) in fields.as_slice().iter().enumerate() {
-            if field.name.as_str() == key {
-                return Ok(place);
-            }
+fn place_of(row_type: &DataType, key: &str) -> Result<usize>
+    ensures { IfOk result (λ place. HasFieldAt row_type.now place key.now) }
+{
+    let fields = fields_of(row_type);
+    for place in 0..fields.len() {
+        if fields[place].name.as_str() == key {
+            return Ok(place);
         }
     }
     Err(Error::InvalidArgumentError(Reason::UnknownKey))
+}
+
+/// The fields of rows that are structs, and none of others.
+fn fields_of(row_type: &DataType) -> &[Field]
+    ensures { result.now ≡ members_of row_type.now }
+{
+    match row_type {
+        DataType::Struct(fields) => fields.as_slice(),
+        _ => &[],
+    }
 }
 
 /// A sum, and the integers of one field of a column of rows.

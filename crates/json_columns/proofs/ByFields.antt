@@ -10,7 +10,7 @@ use Rattle.arrow_core.specs.declared.types.DataType.{DataType}
 use Rattle.arrow_core.specs.declared.types.IntegerType.{IntegerType}
 use Rattle.arrow_core.specs.declared.types.DataType.TheVariants as types
 use Rattle.arrow_core.specs.declared.types.DataType.TheBlock.{shape-the_row-Field-0, hidden-the_row-Field-0, shape-the_row-Field-1, hidden-the_row-Field-1, hidden-the_row-DataType-2}
-use Rattle.json_tree.specs.Tree.{Json}
+use Rattle.json_tree.specs.Tree.{Json, or_null}
 use Rattle.json_tree.specs.Keys.{value_of}
 use Rattle.json_flat.specs.Meaning.{Meaning, Layer}
 use Rattle.json_flat.specs.Columns.{AreSlotsOf, IsColumnFault, means}
@@ -18,7 +18,7 @@ use Rattle.arrow_array.specs.Dictionaries.{IsDictionaryOf}
 use Rattle.json_columns.specs.Dictionaries.{TooManyDistinct}
 use Rattle.json_columns.specs.Faults.{IsFault, IsListFault, IsSizedFault, IsStructFault, TooMany, TooManyFields, TooManyListed, TooManyMembers}
 use Rattle.json_columns.specs.Gathered.{all_have_reading, field_meanings, members_named, struct_has_reading}
-use Rattle.json_flat.specs.Reading.{has_field, has_reading, have_reading, is_value_type, list_in, member_meanings, or_null, reading, sized_list_in, struct_in}
+use Rattle.json_flat.specs.Reading.{has_field, has_reading, have_reading, is_value_type, list_in, member_meanings, reading, sized_list_in, struct_in}
 
 -- ---- lists
 

@@ -1,5 +1,5 @@
 -- Names of fields, in terms of the fields that code sees.
-use Rattle.std.proofs.Common.{◌≡◌, ◌∙◌, ℕ, ◌+◌, ◌<◌, Bool, true, false, not, cond, ◌&&◌, ◌||◌, List, [], ◌∷◌, ◌++◌, take, get_or, length, ℤ, Option, Some, is_some, refl, sym, ap}
+use Rattle.std.proofs.Common.{◌≡◌, ◌∙◌, ℕ, ◌+◌, ◌<◌, Bool, true, false, cond, ◌||◌, List, [], ◌∷◌, ◌++◌, take, get_or, length, ℤ, Option, Some, is_some, refl, sym, ap}
 use Rattle.std.specs.List.{list_any, position_from}
 use Rattle.std.specs.Str.{bytes_eq}
 use Rattle.std.proofs.lemmas.List.Folds.{list_any_more}
@@ -10,11 +10,11 @@ use Rattle.arrow_core.specs.declared.types.IntegerType.{IntegerType}
 use Rattle.arrow_core.specs.declared.types.UnionMode.{UnionMode}
 use Rattle.arrow_core.specs.declared.types.DataType.TheVariants as types
 use Rattle.arrow_core.specs.declared.types.DataType.TheBlock.{shape-the_row-Field-0, hidden-the_row-Field-0, shape-the_row-Field-1, hidden-the_row-Field-1, hidden-the_row-DataType-2}
-use Rattle.json_tree.specs.Layout.{distinct, meets}
-use Rattle.json_flat.specs.Names.{names_of}
+use Rattle.json_flat.specs.Names.{names_twice, repeat, row_names_twice}
 use Rattle.first_seen.specs.Keys.{index_of}
 use Rattle.json_flat.proofs.DistinctNames.{same_test}
-use Rattle.json_columns.specs.Names.{any_names_twice, AreNames, is_among, is_named, names_twice, repeat, repeats, row_names, row_names_twice, struct_names_twice}
+use Rattle.json_flat.proofs.RowNames.{row_named}
+use Rattle.json_columns.specs.Names.{any_names_twice, AreNames, is_named, struct_names_twice}
 
 or_false : (b : Bool) → (b || false) ≡ b
 or_false true = refl
@@ -41,18 +41,9 @@ unfolding shape-the_row-Field-1 hidden-the_row-Field-1 denote.Hole.Carrier.hidde
 row_twice [] = refl
 row_twice (f ∷ fs) = ap (λ z. names_twice f.data_type || z) (row_twice fs)
 
-row_repeats : (fs : List Field) → repeat (row_names (hidden-the_row-Field-1 fs)) ≡ repeats fs
-unfolding shape-the_row-Field-1 hidden-the_row-Field-1 denote.Hole.Carrier.hidden
-row_repeats [] = refl
-row_repeats (f ∷ fs) = λ i. (row_among f.name fs i || row_repeats fs i)
-  where
-    row_among : (name : List ℕ) (gs : List Field) → is_among name (row_names (hidden-the_row-Field-1 gs)) ≡ is_named name gs
-    row_among name [] = refl
-    row_among name (g ∷ gs) = ap (λ z. bytes_eq g.name name || z) (row_among name gs)
-
 pub struct_names : (fs : List Field) → names_twice (types.Struct fs) ≡ struct_names_twice fs
 unfolding shape-the_row-Field-1 hidden-the_row-Field-1 denote.Hole.Carrier.hidden
-struct_names fs = λ i. (row_repeats fs i || row_twice fs i)
+struct_names fs = λ i. (repeat (row_named fs i) || row_twice fs i)
 
 pub union_names : (fs : List Field) (ids : Option (List ℤ)) (mode : UnionMode) → names_twice (types.Union fs ids mode) ≡ any_names_twice fs
 unfolding shape-the_row-Field-1 hidden-the_row-Field-1 denote.Hole.Carrier.hidden
@@ -65,20 +56,6 @@ dictionary_names key value is_sorted = refl
 pub extension_names : (name : List ℕ) (inner : DataType) (metadata : Option (List ℕ)) → names_twice (types.Extension name inner metadata) ≡ names_twice inner
 unfolding hidden-the_row-DataType-2 denote.Hole.Carrier.hidden
 extension_names name inner metadata = refl
-
--- ---- names that stand twice aren't distinct
-
-met : (name : List ℕ) (fs : List Field) → meets name (names_of fs) ≡ is_named name fs
-met name [] = refl
-met name (f ∷ fs) = λ i. (same_test name f.name i || met name fs i)
-
-pub repeated : (fs : List Field) → not (distinct (names_of fs)) ≡ repeats fs
-repeated [] = refl
-repeated (f ∷ fs) = either (meets f.name (names_of fs)) (distinct (names_of fs)) ∙ (λ i. (met f.name fs i || repeated fs i))
-  where
-    either : (a b : Bool) → not (not a && b) ≡ (a || not b)
-    either true b = refl
-    either false b = refl
 
 -- ---- names among which keys are looked up
 

@@ -1,14 +1,13 @@
 -- What a value is, by the code's match on it.
 use Rattle.std.proofs.Common.{◌≡◌, ℕ, true, List, [], Some, length, refl, sym, ap, ◌∙◌, ◌-◌, ◌+◌, arith}
 use Rattle.json_tree.specs.Keys.{value_of}
-use Rattle.json_tree.specs.Tree.{Json, null}
+use Rattle.json_tree.specs.Tree.{Json, null, or_null}
 use Rattle.json_tree.specs.declared.value.Value.{out-Value, roll-Value, roll-out-Value}
 use Rattle.json_tree.specs.declared.value.Value.TheOpen as layer
 use Rattle.json_tree.specs.declared.value.Value.TheVariants as variant
 use Rattle.json_tree.specs.declared.value.Object.{Object}
 use Rattle.json_flat.specs.Meaning.{Layer}
 use Rattle.json_columns.specs.Gathered.{is_object, items_in, len_in, member_in}
-use Rattle.json_flat.specs.Reading.{or_null}
 
 pub array_layer : (v : Json) (items : List Json) → v ≡ variant.Array items → out-Value v ≡ layer.Array items
 array_layer v items e = ap out-Value e ∙ variant.outs-Array items

@@ -10,6 +10,7 @@ pub mod Layers
 pub mod ListColumns
 pub mod Lists
 pub mod Nulls
+pub mod ObjectRows
 pub mod RecordLaws
 pub mod Refusing
 pub mod Rows

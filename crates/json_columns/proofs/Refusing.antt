@@ -14,7 +14,7 @@ use Rattle.json_tree.specs.declared.value.Value.TheVariants as variant
 use Rattle.json_flat.specs.Meaning.{Meaning, Layer, slot_of, text_timestamp, unfit}
 use Rattle.json_flat.specs.Columns.{AreSlotsOf, Has, HasNoSlot, IsNoSlot, means}
 use Rattle.json_columns.specs.Faults.{IsFault, TooMany}
-use Rattle.json_columns.specs.Names.{names_twice}
+use Rattle.json_flat.specs.Names.{names_twice}
 use Rattle.json_flat.specs.Reading.{has_reading, reading}
 use Rattle.json_columns.specs.Refusals.{IsColumnOf, IsListRefusal, IsRefusal}
 

@@ -6,7 +6,7 @@ use Rattle.arrow_core.specs.declared.slot.Slot.TheVariants as slot
 use Rattle.arrow_core.specs.declared.types.Field.{Field}
 use Rattle.arrow_core.specs.declared.types.DataType.{DataType, Null, Boolean, Int8, Int16, Int32, Int64, UInt8, UInt16, UInt32, UInt64, Float16, Float32, Float64, Timestamp, Date32, Date64, Time32, Time64, Duration, Interval, Binary, FixedSizeBinary, LargeBinary, Utf8, LargeUtf8, List', FixedSizeList', LargeList', Struct', Map', Union', Dictionary', Decimal, Decimal256, Extension'}
 use Rattle.json_tree.specs.Keys.{value_of}
-use Rattle.json_tree.specs.Tree.{Json}
+use Rattle.json_tree.specs.Tree.{Json, or_null}
 use Rattle.json_tree.specs.declared.value.Value.{out-Value, roll-Value, roll-out-Value}
 use Rattle.json_tree.specs.declared.value.Value.TheOpen as layer
 use Rattle.json_tree.specs.declared.value.Value.TheVariants as variant
@@ -15,7 +15,7 @@ use Rattle.json_flat.specs.Whole.{number_value, within}
 use Rattle.json_flat.specs.Meaning.{Layer, Meaning, slot_of, text_timestamp, unfit, fitted, whole_in, moment_in, text_in, bytes_in, boolean_in}
 use Rattle.json_flat.specs.Columns.{means}
 use Rattle.json_columns.specs.Gathered.{HasNoFields, field_meanings}
-use Rattle.json_flat.specs.Reading.{Together, all_slots, some_text, some_unfit, beside, together, made_of, list_in, sized_list_in, struct_in, reading, or_null}
+use Rattle.json_flat.specs.Reading.{Together, all_slots, some_text, some_unfit, beside, together, made_of, list_in, sized_list_in, struct_in, reading}
 use Rattle.json_columns.specs.Texts.{IsNoTimestamp, is_text, item_is_text, member_is_text}
 use Rattle.json_columns.proofs.Layers.{array_layer, object_layer}
 use Rattle.json_columns.proofs.Nulls.{null_means}

@@ -4,12 +4,12 @@ use Rattle.std.specs.List.{list_all}
 use Rattle.arrow_core.specs.declared.types.DataType.{DataType, List', LargeList', FixedSizeList', Struct', Dictionary'}
 use Rattle.arrow_core.specs.declared.types.Field.{Field}
 use Rattle.json_tree.specs.Keys.{value_of}
-use Rattle.json_tree.specs.Tree.{Json, null}
+use Rattle.json_tree.specs.Tree.{Json, null, or_null}
 use Rattle.json_tree.specs.declared.value.Value.{out-Value}
 use Rattle.json_tree.specs.declared.value.Value.TheOpen as layer
 use Rattle.json_flat.specs.Meaning.{Meaning, Layer}
 use Rattle.json_flat.specs.Columns.{means}
-use Rattle.json_flat.specs.Reading.{has_reading, or_null, reading}
+use Rattle.json_flat.specs.Reading.{has_reading, reading}
 
 -- the items of an array, and none of another value
 abbrev pub items_in : Layer → List Json

@@ -11,7 +11,7 @@ use Rattle.json_tree.specs.Tree.{Json, array}
 use Rattle.json_flat.specs.Meaning.{text_timestamp, unfit}
 use Rattle.json_flat.specs.Columns.{AreSlotsOf, Has}
 use Rattle.json_columns.specs.Faults.{TooMany}
-use Rattle.json_columns.specs.Names.{names_twice}
+use Rattle.json_flat.specs.Names.{names_twice}
 use Rattle.json_flat.specs.Reading.{has_reading, reading}
 
 -- Why there is no column of values under a type, the first that applies: a Struct names a field twice; a type has no reading; a

@@ -4,10 +4,10 @@ use Rattle.std.specs.List.{list_any}
 use Rattle.arrow_core.specs.declared.types.DataType.{DataType, Timestamp}
 use Rattle.arrow_core.specs.declared.types.Field.{Field}
 use Rattle.json_tree.specs.Keys.{value_of}
-use Rattle.json_tree.specs.Tree.{Json}
+use Rattle.json_tree.specs.Tree.{Json, or_null}
 use Rattle.json_flat.specs.Meaning.{Layer, Meaning, slot_of, text_timestamp, unfit}
 use Rattle.json_flat.specs.Columns.{means}
-use Rattle.json_flat.specs.Reading.{or_null, reading}
+use Rattle.json_flat.specs.Reading.{reading}
 
 abbrev pub is_text : Meaning → Bool
 is_text (slot_of s) = false

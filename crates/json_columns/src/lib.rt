@@ -1,4 +1,7 @@
-//! JSON values (RFC 8259) into columns of any type that has a JSON reading, and chunks of them.
+//! JSON values (RFC 8259) into columns of any type that has a JSON reading: the items of an array as
+//! one column, and its objects as a chunk with a column for each field of a schema. Besides, which
+//! types have a reading, which names stand twice, the type inferred of values, and the whole value
+//! of a number.
 #![tactic(auto)]
 
 mod column;

@@ -1,7 +1,8 @@
 //! Structs that name a field twice, and names among which keys are looked up.
 ghost use Rattle.std.specs.Prelude.{◌≡◌, IfOk};
 ghost use Rattle.arrow_core.specs.Errors.{OnlyOutOfMemory};
-ghost use Rattle.json_columns.specs.Names.{any_names_twice as any_names_twice_of, AreNames, names_twice as names_twice_of, repeats as repeats_of, struct_names_twice as struct_names_twice_of};
+ghost use Rattle.json_flat.specs.Names.{names_of as field_names, names_twice as names_twice_of, repeat};
+ghost use Rattle.json_columns.specs.Names.{any_names_twice as any_names_twice_of, AreNames, struct_names_twice as struct_names_twice_of};
 
 use arrow_core::{DataType, Field, Result, Text};
 use first_seen::FirstSeen;
@@ -10,7 +11,7 @@ use std::alloc::Global;
 
 /// Whether two of the fields have the same name.
 fn repeats(alloc: Global, fields: &[Field]) -> Result<bool>
-    ensures ok { IfOk result (λ b. b ≡ repeats_of fields.now) }
+    ensures ok { IfOk result (λ b. b ≡ repeat (field_names fields.now)) }
     ensures memory { OnlyOutOfMemory result }
 {
     Ok(!have_distinct_names(alloc, fields)?)

@@ -3,9 +3,10 @@ ghost use Rattle.std.specs.Prelude.{◌≡◌, MatchBool};
 ghost use Rattle.json_flat.specs.Columns.{Has, means};
 ghost use Rattle.json_flat.specs.Meaning.{moment_in, text_timestamp};
 ghost use Rattle.json_columns.specs.Gathered.{HasNoFields, field_meanings};
-ghost use Rattle.json_flat.specs.Reading.{list_in, or_null, reading, sized_list_in, struct_in};
+ghost use Rattle.json_flat.specs.Reading.{list_in, reading, sized_list_in, struct_in};
 ghost use Rattle.json_columns.specs.Texts.{IsNoTimestamp, is_text, item_is_text, member_is_text};
 ghost use Rattle.json_tree.specs.Keys.{value_of};
+ghost use Rattle.json_tree.specs.Tree.{or_null};
 
 use arrow_core::{DataType, Field};
 use json_tree::{Object, Value};

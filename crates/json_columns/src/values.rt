@@ -3,7 +3,7 @@ ghost use Rattle.std.specs.Prelude.{◌≡◌, true, false, IfOk, IfErr, OnOk};
 ghost use Rattle.arrow_array.specs.Arrays.{array_slots, array_type};
 ghost use Rattle.arrow_dictionaries.specs.Encoding.{HasFirstValues};
 ghost use Rattle.json_flat.specs.Columns.{AreSlotsOf};
-ghost use Rattle.json_columns.specs.Names.{names_twice as names_twice_of};
+ghost use Rattle.json_flat.specs.Names.{names_twice as names_twice_of};
 ghost use Rattle.json_flat.specs.Reading.{has_reading, reading};
 ghost use Rattle.json_columns.specs.Refusals.{IsColumnOf, IsListRefusal, IsRefusal, IsTypeRefusal};
 ghost use Rattle.arrow_core.specs.declared.error.Error.TheVariants.{Overflow};

@@ -5,6 +5,8 @@ pub mod DistinctNames
 pub mod Growing
 pub mod Integers
 pub mod Layers
+pub mod NumberTexts
+pub mod RowNames
 pub mod Scaling
 pub mod Signs
 pub mod Splitting

@@ -46,7 +46,7 @@ either : (p d : Bool) → p ≡ true → d ≡ false → (not p || d) ≡ false
 either true d e f = f
 either false d e f = sym e
 
-without : (p d : Bool) → p ≡ false → (not p || d) ≡ true
+pub without : (p d : Bool) → p ≡ false → (not p || d) ≡ true
 without true d e = absurd (true≢false e)
 without false d e = refl
 
@@ -54,7 +54,7 @@ pub an-integer : (bytes u i : List ℕ) → u ≡ without_minus bytes → i ≡ 
 an-integer bytes u i eu ei h hp =
     and_from _ _ (subst (λ k. is_int (before_first is_point k) ≡ true) eu (subst (λ k. is_int k ≡ true) ei h)) (without _ _ (subst (λ k. has_point k ≡ false) eu hp))
 
-or-second : (p d : Bool) → d ≡ true → (not p || d) ≡ true
+pub or-second : (p d : Bool) → d ≡ true → (not p || d) ≡ true
 or-second true d e = e
 or-second false d e = refl
 

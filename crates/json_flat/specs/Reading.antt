@@ -1,12 +1,12 @@
 -- The slot that a JSON value (RFC 8259, section 3) means under a data type, of the types that have a reading.
-use Rattle.std.specs.Prelude.{ℕ, pos, negsuc, Bool, true, false, not, ◌&&◌, ◌==◌, cond, length, List, [], ◌∷◌, map, Option, Some, None}
+use Rattle.std.specs.Prelude.{ℕ, pos, negsuc, Bool, true, false, not, ◌&&◌, ◌==◌, cond, length, List, [], ◌∷◌, map}
 use Rattle.arrow_core.specs.declared.slot.Slot.{Slot}
 use Rattle.arrow_core.specs.declared.slot.Slot.TheVariants as slot
 use Rattle.arrow_core.specs.declared.types.DataType.{DataType, Row_of-Field, end_of-Field, more_of-Field, Row_of-DataType, end_of-DataType, more_of-DataType}
 use Rattle.arrow_core.specs.declared.types.DataType as types
 use Rattle.arrow_core.specs.declared.types.IntervalUnit.TheVariants as interval
 use Rattle.json_tree.specs.Keys.{value_of}
-use Rattle.json_tree.specs.Tree.{Json, null}
+use Rattle.json_tree.specs.Tree.{Json, or_null}
 use Rattle.json_tree.specs.declared.value.Value.{out-Value}
 use Rattle.json_tree.specs.declared.value.Value.TheOpen as layer
 use Rattle.json_flat.specs.Meaning.{Meaning, Layer, slot_of, text_timestamp, unfit, null_in, boolean_in, whole_in, int64_in, moment_in, text_in, bytes_in}
@@ -56,11 +56,6 @@ abbrev pub struct_in : (List (List ℕ × Json) → List Meaning) → Layer → 
 struct_in members (layer.Object object) = made_of slot.Struct (together (members object.members))
 struct_in members _ = slot_of slot.Null
 
--- a member that is missing is null
-abbrev pub or_null : Option Json → Json
-or_null None = null
-or_null (Some value) = value
-
 -- ---- types
 
 -- an integer of 32 bits
@@ -103,7 +98,7 @@ abbrev mutual
   item_meaning end_of-Field value = slot_of slot.Null
   item_meaning (more_of-Field name t is_nullable metadata rest) value = reading t (out-Value value)
 
-  -- the members of an object by the names of fields
+  -- the members of an object by the names of fields; one that is missing is null
   pub member_meanings : {m : _} → Row_of-Field m → List (List ℕ × Json) → List Meaning
   member_meanings end_of-Field members = []
   member_meanings (more_of-Field name t is_nullable metadata rest) members = reading t (out-Value (or_null (value_of name members))) ∷ member_meanings rest members

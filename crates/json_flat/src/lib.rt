@@ -6,6 +6,7 @@
 mod content;
 mod exponent;
 mod integer;
+mod laws;
 mod magnitude;
 mod mantissa;
 mod moment;
@@ -16,6 +17,7 @@ mod whole;
 
 pub use content::{read_binaries, read_strings};
 pub use integer::IntegerText;
+pub use laws::numbers_have_values;
 pub use moment::read_moments;
 pub use names::have_distinct_names;
 pub use native::WholeNumber;

@@ -6,10 +6,10 @@ use Rattle.std.proofs.lemmas.Bool.Decides.{nat_tests}
 use Rattle.std.proofs.lemmas.List.{get_or_default}
 use Rattle.std.proofs.lemmas.Slice.Eq.{bytes_eq-Decides}
 use Rattle.std.specs.Str.{bytes_eq}
-use Rattle.json_tree.specs.Tree.{Json, null}
+use Rattle.json_tree.specs.Tree.{Json, null, or_null}
 use Rattle.json_tree.specs.Keys.{value_of}
 use Rattle.json_tree.specs.Layout.{put, meets, distinct, key_index}
-use Rattle.json_lend.specs.Fields.{or_null, value_named, values_of, AreOthers, IsIndex}
+use Rattle.json_lend.specs.Fields.{value_named, values_of, AreOthers, IsIndex}
 
 not-true : (b : Bool) → not b ≡ true → b ≡ false
 not-true true e = sym e

@@ -1,17 +1,12 @@
 -- The values of an object's members, name by name (RFC 8259, section 4).
-use Rattle.std.specs.Prelude.{◌≡◌, ℕ, List, [], map, Option, Some, None, length, ◌≤◌, ◌<◌, MatchOption, Result, Ok, Err, Bool, true, false, set, get_or}
+use Rattle.std.specs.Prelude.{◌≡◌, ℕ, List, map, Option, length, ◌≤◌, ◌<◌, MatchOption, Result, Ok, Err, false, get_or}
 use Rattle.std.specs.Str.{bytes_eq}
-use Rattle.json_tree.specs.Tree.{Json, null, object}
+use Rattle.json_tree.specs.Tree.{Json, object, or_null}
 use Rattle.json_tree.specs.Keys.{value_of}
 use Rattle.json_tree.specs.Layout.{key_index}
 use Rattle.json_tree.specs.Reading.{Outcome, found, member_at, value_at}
 use Rattle.json_tree.specs.Gives.{Fails}
 use Rattle.json_tree.specs.declared.value.JsonFault.{JsonFault}
-
--- the value, and null where there is none
-abbrev pub or_null : Option Json → Json
-or_null (Some value) = value
-or_null None = null
 
 -- the value of the member with the name, and null where no member has it
 abbrev pub value_named : List (List ℕ × Json) → List ℕ → Json
@@ -25,7 +20,7 @@ values_of members names = map (value_named members) names
 abbrev pub IsObject : Json → Type 0
 IsObject value = (members : List (List ℕ × Json)) × (value ≡ object members)
 
--- The definitions below are for private functions alone, and for `lend_members` and `read_name` over a reader.
+-- The definitions below are for private functions alone, and for `read_name` over a reader.
 
 -- the index of the key among the names, where it is one of them
 abbrev pub IsIndex : List (List ℕ) → List ℕ → Option ℕ → Type 0
@@ -44,21 +39,3 @@ ReadsIndex names (Err fault) rest outcome = Fails fault outcome
 abbrev pub BeginsMember : List (List ℕ) → Option ℕ → List ℕ → List ℕ → Type 0
 BeginsMember names at before after =
     (key : List ℕ) × IsIndex names key at × ((depth : ℕ) (value : Json) (rest : List ℕ) → value_at depth after ≡ found value rest → member_at (value_at depth) before ≡ found (key, value) rest)
-
--- a value was read, and put at the index, if there is one
-abbrev pub PutAt : Option ℕ → List Json → List Json → Result (Unit {0}) JsonFault → List ℕ → Outcome Json → Type 0
-PutAt at old new (Ok u) rest outcome = (value : Json) × (outcome ≡ found value rest) × MatchOption at (new ≡ old) (λ i. new ≡ set old i value)
-PutAt at old new (Err fault) rest outcome = Fails fault outcome
-
--- an object was read, and the value of each name
-abbrev pub ReadsMembers : List (List ℕ) → List Json → Result (Unit {0}) JsonFault → List ℕ → Outcome Json → Type 0
-ReadsMembers names values (Ok u) rest outcome =
-    (members : List (List ℕ × Json)) × (outcome ≡ found (object members) rest) × (values ≡ values_of members names)
-ReadsMembers names values (Err fault) rest outcome = Fails fault outcome
-
--- a whole text was read: an object and the value of each name, or another value
-abbrev pub ReadsRow : List (List ℕ) → List Json → Result Bool JsonFault → Outcome Json → Type 0
-ReadsRow names values (Ok true) outcome =
-    (members : List (List ℕ × Json)) × (outcome ≡ found (object members) []) × (values ≡ values_of members names)
-ReadsRow names values (Ok false) outcome = (value : Json) × (outcome ≡ found value []) × (IsObject value → ⊥)
-ReadsRow names values (Err fault) outcome = Fails fault outcome

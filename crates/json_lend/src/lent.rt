@@ -21,10 +21,10 @@ impl<'a> Model for EscapedString<'a> {
     ghost invariant = { λ s. IsFound (string_at s.reader) };
 }
 
-/// An array, whose items `next_item` lends. Contracts see the items that are still to be lent.
+/// An array that was skipped. Contracts see its items.
 #[derive(Drop)]
 pub struct LentArray<'a> {
-    // what follows the opening bracket, or the comma after an item
+    // what follows the opening bracket
     pub(crate) reader: Reader<'a>,
     // how many brackets may be open at once in an item
     pub(crate) depth: usize,
@@ -46,7 +46,7 @@ impl<'a> Model for LentArray<'a> {
     ghost invariant = { λ a. IsFound (items_at a.depth a.reader) };
 }
 
-/// An object, whose members `lend_members` lends by their names. Contracts see the members.
+/// An object that was skipped. Contracts see its members.
 #[derive(Drop)]
 pub struct LentObject<'a> {
     // what follows the opening bracket

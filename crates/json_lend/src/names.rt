@@ -1,7 +1,7 @@
 //! Names of fields, among which keys are looked up.
-ghost use Rattle.std.specs.Prelude.{◌≡◌, ◌≢◌, ◌<◌, ◌≤◌, length, true, false, Ok, Some, IfErr, IfOk, MatchOption};
+ghost use Rattle.std.specs.Prelude.{◌≡◌, ◌<◌, ◌≤◌, length, true, false, Ok, Some, IfOk, MatchOption};
 ghost use Rattle.std.specs.Str.{bytes_eq};
-ghost use Rattle.json_tree.specs.Layout.{key_index as key_index_of, meets, distinct};
+ghost use Rattle.json_tree.specs.Layout.{distinct, key_index};
 ghost use Rattle.json_tree.specs.Reading.{string_at};
 ghost use Rattle.json_lend.specs.Fields.{AreOthers, IsIndex, ReadsIndex};
 
@@ -12,8 +12,7 @@ use crate::strings::skip_escaped;
 use json_tree::JsonFault;
 use json_tree::reader::Reader;
 
-// `read_name` compares a key with at most so many names, but for keys in the names' order;
-// `lend_members` compares it with all.
+// A key is compared with at most so many names, but for keys in the names' order.
 const MOST_SCANNED: usize = 256;
 
 #[inline(always)]
@@ -28,7 +27,7 @@ fn scan(names: &[Name], from: usize, to: usize, key: &str) -> Option<usize>
     requires distinct { distinct names.now ≡ true }
     requires within { to ≤ length names.now }
     ensures { MatchOption result (AreOthers names.now from to key.now)
-        (λ i. (i ≡ key_index_of key.now names.now) × (i < length names.now)) }
+        (λ i. (i ≡ key_index key.now names.now) × (i < length names.now)) }
 {
     let mut i = from;
     while i < to {
@@ -81,7 +80,6 @@ fn scan_escaped<'a>(names: &[Name], key: &EscapedString<'a>) -> Option<usize>
 fn escaped_index<'a>(reader: &mut Reader<'a>, names: &[Name]) -> Result<Option<usize>, JsonFault>
     ensures reads { ReadsIndex names.now result reader.new (string_at reader.old) }
     ensures forward { length reader.new ≤ length reader.old }
-    ensures no_memory { IfErr result (λ e. e ≢ JsonFault.Memory) }
 {
     let start = reader.again();
     skip_escaped(reader)?;
@@ -115,30 +113,11 @@ fn other_index<'a>(
     requires { distinct names.now ≡ true }
     ensures reads { ReadsIndex names.now result reader.new (string_at reader.old) }
     ensures forward { length reader.new ≤ length reader.old }
-    ensures no_memory { IfErr result (λ e. e ≢ JsonFault.Memory) }
 {
     if let Some(key) = reader.plain_string() {
         return Ok(look_up(names, guess, key));
     }
     escaped_index(reader, names)
-}
-
-/// Reads a key, and tells its index among the names. It is first looked for at `guess`.
-#[inline(always)]
-pub(crate) fn key_index<'a>(
-    reader: &mut Reader<'a>,
-    names: &[Name],
-    guess: usize,
-) -> Result<Option<usize>, JsonFault>
-    requires { distinct names.now ≡ true }
-    ensures reads { ReadsIndex names.now result reader.new (string_at reader.old) }
-    ensures forward { length reader.new ≤ length reader.old }
-    ensures no_memory { IfErr result (λ e. e ≢ JsonFault.Memory) }
-{
-    if passes_at(reader, names, guess) {
-        return Ok(Some(guess));
-    }
-    other_index(reader, names, guess)
 }
 
 // Reads a key among many names, and tells its index, where it has no escape and is a name from
@@ -163,9 +142,9 @@ fn later_index<'a>(
     }
 }
 
-/// The same as `key_index`, but among more than `MOST_SCANNED` names: there a key that has an escape,
-/// or is none of the names from `guess` on, is given up, since each key would else be compared with
-/// each name.
+/// Reads a key, and tells its index among the names. It is first looked for at `guess`. Among more
+/// than `MOST_SCANNED` names a key that has an escape, or is none of the names from `guess` on, is
+/// given up, since each key would else be compared with each name.
 #[inline(always)]
 pub(crate) fn bounded_index<'a>(
     reader: &mut Reader<'a>,
@@ -185,32 +164,4 @@ pub(crate) fn bounded_index<'a>(
     }
     let at = other_index(reader, names, guess)?;
     Ok(at)
-}
-
-// Whether the key is one of the names.
-fn has(names: &[Name], key: &str) -> bool
-    ensures { result ≡ meets key.now names.now }
-{
-    let mut rest = names;
-    while let Some((first, others)) = rest.split_first() {
-        if are_same(key, first.as_str()) {
-            return true;
-        }
-        rest = others;
-    }
-    false
-}
-
-/// Whether no name stands twice. Each is compared with each, so n names take n² comparisons.
-pub fn are_distinct(names: &[Name]) -> bool
-    ensures { result ≡ distinct names.now }
-{
-    let mut rest = names;
-    while let Some((first, others)) = rest.split_first() {
-        if has(others, first.as_str()) {
-            return false;
-        }
-        rest = others;
-    }
-    true
 }

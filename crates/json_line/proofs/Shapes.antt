@@ -1,5 +1,5 @@
 -- The shapes of builders that are made, and what values mean in them, by the types of columns.
-use Rattle.std.proofs.Common.{◌≡◌, ◌∙◌, ℕ, suc, Bool, true, false, not, ◌&&◌, eqb, List, [], ◌∷◌, length, Option, Some, None, refl, sym, ap, arith}
+use Rattle.std.proofs.Common.{◌≡◌, ◌∙◌, ℕ, suc, Bool, true, false, not, ◌&&◌, eqb, List, [], ◌∷◌, length, refl, sym, ap, arith}
 use Rattle.std.proofs.lemmas.Bool.Decides.{nat_tests}
 use Rattle.arrow_array.specs.FixedLists.{list_size}
 use Rattle.arrow_builders.specs.Children.{fields_of}
@@ -14,14 +14,14 @@ use Rattle.arrow_core.specs.declared.types.DataType.TheVariants as variant
 use Rattle.arrow_core.specs.declared.types.DataType.TheBlock.{shape-the_row-Field-0, hidden-the_row-Field-0, shape-the_row-Field-1, hidden-the_row-Field-1}
 use Rattle.json_tree.specs.Keys.{value_of}
 use Rattle.json_tree.specs.Layout.{distinct}
-use Rattle.json_tree.specs.Tree.{Json}
+use Rattle.json_tree.specs.Tree.{Json, or_null}
 use Rattle.json_tree.specs.declared.value.Value.{out-Value}
-use Rattle.json_flat.specs.Reading.{has_field, item_meaning, list_in, member_meanings, or_null, reading, sized_list_in, struct_in}
-use Rattle.json_lend.specs.Fields.{or_null as or_null_lent}
+use Rattle.json_flat.specs.Reading.{has_field, item_meaning, list_in, member_meanings, reading, sized_list_in, struct_in}
 use Rattle.json_line.specs.Builders.{IsNotNested, item_shape, line_shape, row_shapes, shapes_of, shape_members, shape_reading, struct_names}
-use Rattle.json_flat.specs.Names.{names_of}
+use Rattle.json_flat.specs.Names.{names_of, row_names}
+use Rattle.json_flat.proofs.RowNames.{row_named}
 use Rattle.json_line.specs.Lines.{are_line_fields, are_sized_items, are_struct_fields, have_line_readings}
-use Rattle.json_line.specs.Types.{has_line_reading, row_has_readings, row_names}
+use Rattle.json_line.specs.Types.{has_line_reading, row_has_readings}
 
 pub and_first : (a b : Bool) → (a && b) ≡ true → a ≡ true
 and_first true b e = refl
@@ -108,11 +108,6 @@ same_type (types.List' shape item) = refl
 same_type (types.LargeList' shape item) = refl
 same_type (types.Struct' shape fields) = refl
 
--- a member that no object has is null
-pub same_or_null : (o : Option Json) → or_null_lent o ≡ or_null o
-same_or_null None = refl
-same_or_null (Some v) = refl
-
 mutual
   -- and a value means there what it means under the type
   pub same_reading : (t : DataType) → has_line_reading t ≡ true → shape_reading (line_shape t) ≡ reading t
@@ -162,7 +157,7 @@ mutual
   same_members : {m : _} (row : Row_of-Field m) → row_has_readings row ≡ true → (members : List (List ℕ × Json)) → shape_members (row_names row) (row_shapes row) members ≡ member_meanings row members
   same_members end_of-Field h members = refl
   same_members (more_of-Field name t is_nullable metadata rest) h members =
-      λ i. same_reading t (and_first (has_line_reading t) (row_has_readings rest) h) i (out-Value (same_or_null (value_of name members) i)) ∷ same_members rest (and_second (has_line_reading t) (row_has_readings rest) h) members i
+      λ i. same_reading t (and_first (has_line_reading t) (row_has_readings rest) h) i (out-Value (or_null (value_of name members))) ∷ same_members rest (and_second (has_line_reading t) (row_has_readings rest) h) members i
 
 -- ---- lists, by the field that code sees
 
@@ -199,11 +194,6 @@ unfolding shape-the_row-Field-0 hidden-the_row-Field-0 denote.Hole.Carrier.hidde
 size_is t f n e = ap list_size e
 
 -- ---- structs, by the fields that code sees
-
-row_named : (fs : List Field) → row_names (hidden-the_row-Field-1 fs) ≡ names_of fs
-unfolding shape-the_row-Field-1 hidden-the_row-Field-1 denote.Hole.Carrier.hidden
-row_named [] = refl
-row_named (f ∷ fs) = ap (λ (names : List (List ℕ)). f.name ∷ names) (row_named fs)
 
 row_readable : (fs : List Field) → row_has_readings (hidden-the_row-Field-1 fs) ≡ have_line_readings fs
 unfolding shape-the_row-Field-1 hidden-the_row-Field-1 denote.Hole.Carrier.hidden

@@ -23,9 +23,8 @@ use Rattle.json_flat.specs.Reading.{int32_in, list_in, sized_list_in, struct_in}
 use Rattle.json_lend.specs.Fields.{value_named, values_of}
 use Rattle.json_line.specs.declared.field_names.FieldNames.{FieldNames, Flat, Items', Sized', Fields', Row_of-FieldNames, end_of-FieldNames, more_of-FieldNames}
 use Rattle.json_lend.specs.declared.given_up.GivenUp.{GivenUp}
-use Rattle.json_flat.specs.Names.{names_of}
+use Rattle.json_flat.specs.Names.{names_of, row_names}
 use Rattle.json_line.specs.Lines.{are_line_fields, values_named}
-use Rattle.json_line.specs.Types.{row_names}
 
 -- ---- null, booleans, numbers and strings
 

@@ -1,5 +1,5 @@
 -- The types of columns that lines of JSON are read into without a tree. What a value means under one of them is told by `reading` (`json_flat`).
-use Rattle.std.specs.Prelude.{Bool, true, false, not, ◌&&◌, ◌==◌, List, [], ◌∷◌, ℕ}
+use Rattle.std.specs.Prelude.{Bool, true, false, not, ◌&&◌, ◌==◌}
 use Rattle.arrow_core.specs.Layouts.{physical_type}
 use Rattle.arrow_core.specs.declared.types.DataType.{DataType, List', LargeList', FixedSizeList', Struct', Row_of-Field, end_of-Field, more_of-Field}
 use Rattle.arrow_core.specs.declared.physical.PhysicalType.{PhysicalType}
@@ -7,11 +7,8 @@ use Rattle.arrow_core.specs.declared.physical.PhysicalType.TheVariants as physic
 use Rattle.arrow_core.specs.declared.physical.PrimitiveType.TheVariants as primitive
 use Rattle.arrow_array.specs.Parts.{is_extension}
 use Rattle.json_tree.specs.Layout.{distinct}
+use Rattle.json_flat.specs.Names.{row_names}
 use Rattle.json_flat.specs.Reading.{has_field}
-
-abbrev pub row_names : {m : _} → Row_of-Field m → List (List ℕ)
-row_names end_of-Field = []
-row_names (more_of-Field name t is_nullable metadata rest) = name ∷ row_names rest
 
 abbrev pub kind_has_reading : PhysicalType → Bool
 kind_has_reading physical.Null = true

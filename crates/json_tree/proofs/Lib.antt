@@ -10,6 +10,7 @@ pub mod TextLaws
 pub mod Answering
 pub mod Completing
 pub mod Numbers
+pub mod Numerals
 pub mod Points
 pub mod CharTurns
 pub mod InTexts

@@ -12,23 +12,23 @@ or-false : (u v : Bool) → (u || v) ≡ false → (u ≡ false) × (v ≡ false
 or-false true v h = grind (arith, h)
 or-false false v h = (refl, h)
 
-point-append : (a b : List ℕ) → has_point a ≡ false → has_point (a ++ b) ≡ has_point b
+pub point-append : (a b : List ℕ) → has_point a ≡ false → has_point (a ++ b) ≡ has_point b
 point-append [] b h = refl
 point-append (x ∷ a) b h = let p = or-false (x == 46) (has_point a) h in rw p.0 (point-append a b p.1)
 
-digit-point : (x : ℕ) → is_digit x ≡ true → (x == 46) ≡ false
+pub digit-point : (x : ℕ) → is_digit x ≡ true → (x == 46) ≡ false
 unfolding is_digit
 digit-point x h = grind (arith, nat_tests, h)
 
-each-point : (ds : List ℕ) → Each is_digit ds → has_point ds ≡ false
+pub each-point : (ds : List ℕ) → Each is_digit ds → has_point ds ≡ false
 each-point [] h = refl
 each-point (x ∷ ds) h = rw (digit-point x h.0) (each-point ds h.1)
 
-minus-point : (b : List ℕ) → IsMinus b → has_point b ≡ false
+pub minus-point : (b : List ℕ) → IsMinus b → has_point b ≡ false
 minus-point b (inl e) = rw e refl
 minus-point b (inr e) = rw e refl
 
-int-point : (b : List ℕ) → IsInteger b → has_point b ≡ false
+pub int-point : (b : List ℕ) → IsInteger b → has_point b ≡ false
 int-point b (inl e) = rw e refl
 int-point b (inr h) = rw (h.5, digit-point h.0 h.2) (each-point h.1 h.4)
 

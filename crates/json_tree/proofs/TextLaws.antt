@@ -13,6 +13,7 @@ use Rattle.json_tree.proofs.Reaching.{IsDeep}
 use Rattle.json_tree.proofs.ListLaws.{Answers, found_parts, wrong-found, bind_found, bind_deep, wrong-deep, found-deep, skip-cut, skip-spaces}
 use Rattle.json_tree.proofs.Scalars.{ends, space-ends}
 use Rattle.json_tree.proofs.ValueLaws.{encodes-starts, led-sound, led-complete, led-skip, value-sound, value-complete}
+use Rattle.json_tree.proofs.InTexts.{get_at}
 use Rattle.json_tree.proofs.Deep.{led-why, reaches-starts, value-why, value-deep}
 
 end-found : (x y : Json) (s r : List ℕ) → if_end x s ≡ found y r → (s ≡ []) × (x ≡ y) × (r ≡ [])
@@ -97,10 +98,6 @@ reaches-last (suc d) p (inl h) = subst Last (sym h.5) (prefix-last (91 ∷ h.1) 
 reaches-last (suc d) p (inr h) =
     let k = led-last (Reaches d) h.5 (reaches-last d) h.9 in
     subst Last (sym h.10) (prefix-last (123 ∷ h.1) _ (prefix-last h.3 _ (prefix-last h.4 _ (prefix-last (58 ∷ []) h.5 k))))
-
-get_at : (q r : List ℕ) (x : ℕ) → get_or (q ++ x ∷ r) (length q) 0 ≡ x
-get_at [] r x = refl
-get_at (y ∷ q) r x = get_at q r x
 
 -- in a text the prefix up to a bracket is a text
 pub prefix-utf8 : (p r : List ℕ) → Last p → IsUtf8 (p ++ r) → IsUtf8 p

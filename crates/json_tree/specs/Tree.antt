@@ -1,5 +1,5 @@
 -- The values that JSON texts stand for (RFC 8259, section 3).
-use Rattle.std.specs.Prelude.{ℕ, List, [], ◌∷◌, Bool, false, cond, ◌==◌, ◌||◌}
+use Rattle.std.specs.Prelude.{ℕ, List, [], ◌∷◌, Bool, false, cond, ◌==◌, ◌||◌, Option, Some, None}
 use Rattle.json_tree.specs.declared.value.Value.{Value, Null, Bool as TheBool, Number as TheNumber, String, Array, Object}
 use Rattle.json_tree.specs.declared.value.Number.TheVariants.{Integer, Float}
 
@@ -8,6 +8,11 @@ Json = Value
 
 abbrev pub null : Json
 null = Null
+
+-- a value, or null where there is none
+abbrev pub or_null : Option Json → Json
+or_null None = null
+or_null (Some value) = value
 
 abbrev pub boolean : Bool → Json
 boolean value = TheBool value

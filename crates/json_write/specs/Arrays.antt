@@ -30,21 +30,29 @@ abbrev pub is_empty : List Slot → Bool
 is_empty [] = true
 is_empty _ = false
 
--- what comes of arrays that are given so: the texts of those that aren't empty, up to the first error
+-- what comes of arrays that are given so, of each of which this is shown: that of those that aren't empty, up to the first error
+abbrev pub items_by : (Array → List ℕ) → List (Result Array Error) → List (List ℕ)
+items_by shown [] = []
+items_by shown (Err e ∷ given) = []
+items_by shown (Ok array ∷ given) = cond (is_some (array_refusal array)) [] (cond (is_empty (array_slots array)) (items_by shown given) (shown array ∷ items_by shown given))
+
+-- the same of their texts
 abbrev pub items_of : List (Result Array Error) → List (List ℕ)
-items_of [] = []
-items_of (Err e ∷ given) = []
-items_of (Ok array ∷ given) = cond (is_some (array_refusal array)) [] (cond (is_empty (array_slots array)) (items_of given) (array_texts array ∷ items_of given))
+items_of = items_by array_texts
 
 -- an error that came of what was given: its own, or that of an array that has no text, or out of memory
 abbrev pub StopsAt : Result Array Error → Error → Type 0
 StopsAt (Ok array) error = (array_refusal array ≡ Some error) ⊎ (error ≡ OutOfMemory)
 StopsAt (Err own) error = error ≡ own
 
--- what was given is an array that has a text; if it has slots, their texts were added
+-- what was given is an array that has a text; if it has slots, what is shown of it was added
+abbrev pub Adds : (Array → List ℕ) → Result Array Error → Bool → List ℕ → List ℕ → Type 0
+Adds shown (Ok array) filled old new = (array_refusal array ≡ None) × MatchBool filled ((array_slots array ≡ [] → ⊥) × (new ≡ old ++ shown array)) ((array_slots array ≡ []) × (new ≡ old))
+Adds shown (Err own) filled old new = ⊥
+
+-- the same of the texts of its slots
 abbrev pub AddsGiven : Result Array Error → Bool → List ℕ → List ℕ → Type 0
-AddsGiven (Ok array) filled old new = (array_refusal array ≡ None) × MatchBool filled ((array_slots array ≡ [] → ⊥) × (new ≡ old ++ array_texts array)) ((array_slots array ≡ []) × (new ≡ old))
-AddsGiven (Err own) filled old new = ⊥
+AddsGiven = Adds array_texts
 
 module _ {I : Type 0} (next_gives : I → Option (Result Array Error) → I → Type 0) where
   -- the iterator gives just these, in order, and then nothing
@@ -57,8 +65,8 @@ module _ {I : Type 0} (next_gives : I → Option (Result Array Error) → I → 
   Gave before [] after = before ≡ after
   Gave before (x ∷ xs) after = (between : I) × next_gives before (Some (Ok x)) between × Gave between xs after
 
-  -- arrays were passed over, and the next has slots, of which these are the texts
-  pub record FindsTexts (before : I) (bytes : List ℕ) (after : I) : Type 0 where
+  -- arrays were passed over, and the next has slots, of which this is shown
+  pub record Finds (shown : Array → List ℕ) (before : I) (bytes : List ℕ) (after : I) : Type 0 where
     pub passed : List Array
     pub passed_over : All IsPassedOver passed
     pub between : I
@@ -67,7 +75,11 @@ module _ {I : Type 0} (next_gives : I → Option (Result Array Error) → I → 
     pub next : next_gives between (Some (Ok array)) after
     pub accepted : array_refusal array ≡ None
     pub filled : array_slots array ≡ [] → ⊥
-    pub texts : bytes ≡ array_texts array
+    pub told : bytes ≡ shown array
+
+  -- the same of the texts of its slots
+  abbrev pub FindsTexts : I → List ℕ → I → Type 0
+  FindsTexts = Finds array_texts
 
   -- arrays were passed over, and there is no further one
   pub record FindsNone (before after : I) : Type 0 where

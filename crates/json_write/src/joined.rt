@@ -27,7 +27,7 @@ pub fn write<K: Sink, I: FallibleStreamingIterator<Error = Error>>(
         (StopsArray I.step I.shown blocks (K.held sink.old) (K.held sink.new) (K.faults sink.old)
         (K.faults sink.new)) }
     ensures never_falls { K.faults sink.old ≤ K.faults sink.new }
-    ensures same { K.whose sink.new ≡ K.whose sink.old }
+    ensures same { K.identity sink.new ≡ K.identity sink.old }
 {
     if let Err(error) = write_all(sink, b"[") {
         return Err(error);

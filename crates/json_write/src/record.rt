@@ -30,7 +30,7 @@ pub struct RecordSerializer<'a> {
 }
 
 /// Lets go of a schema.
-fn let_go(_schema: Schema) {}
+fn drop_both(_schema: Schema) {}
 
 impl<'a> RecordSerializer<'a> {
     ghost use Rattle.json_write.specs.Rows.{chunk_refusal, names_of, objects};
@@ -61,7 +61,7 @@ impl<'a> RecordSerializer<'a> {
     {
         let arrays = chunk.arrays();
         let prepared = prepare(alloc, schema.fields.as_slice(), arrays);
-        let_go(schema);
+        drop_both(schema);
         match prepared {
             Ok(columns) => Ok(RecordSerializer {
                 arrays,

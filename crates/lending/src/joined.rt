@@ -28,7 +28,7 @@ pub fn write_joined<K: Sink, I: FallibleStreamingIterator<Error = Error>>(
     ensures told { OnOk result
         (WritesTold (I.items lender) separator (K.held sink.old) (K.held sink.new)) }
     ensures never_falls { K.faults sink.old ≤ K.faults sink.new }
-    ensures same { K.whose sink.new ≡ K.whose sink.old }
+    ensures same { K.identity sink.new ≡ K.identity sink.old }
 {
     let mut is_first = true;
     while write_next(sink, separator, &mut lender, is_first)? {
@@ -57,7 +57,7 @@ fn write_next<K: Sink, I: FallibleStreamingIterator<Error = Error>>(
         (StopsAtItem I.step I.shown separator is_first lender.old (K.held sink.old)
         (K.held sink.new) (K.faults sink.old) (K.faults sink.new)) }
     ensures never_falls { K.faults sink.old ≤ K.faults sink.new }
-    ensures same { K.whose sink.new ≡ K.whose sink.old }
+    ensures same { K.identity sink.new ≡ K.identity sink.old }
 {
     lender.advance()?;
     match lender.get() {
@@ -78,7 +78,7 @@ fn write_piece<K: Sink>(sink: &mut K, separator: u8, item: &[u8], is_first: bool
         (AppendsPrefix (K.held sink.old) (K.held sink.new) (piece separator is_first item.now)) }
     ensures never_falls { K.faults sink.old ≤ K.faults sink.new }
     ensures cause { OnErr result (RoseOrFull (K.faults sink.old) (K.faults sink.new)) }
-    ensures same { K.whose sink.new ≡ K.whose sink.old }
+    ensures same { K.identity sink.new ≡ K.identity sink.old }
 {
     if is_first {
         return write_all(sink, item);

@@ -1,5 +1,5 @@
 -- What is made of plans of the parts: lists, structs and unions of null and another schema.
-use Rattle.std.proofs.Common.{◌≡◌, ◌∙◌, inl, inr, ℕ, zero, suc, pos, ◌+◌, ◌<◌, ◌≤◌, ◌^◌, Bool, true, false, cond, List, [], ◌∷◌, ◌++◌, length, map, flat_map, get_or, take, Vec, Global, refl, sym, ap, subst, arith}
+use Rattle.std.proofs.Common.{◌≡◌, ◌∙◌, inl, inr, ℕ, suc, pos, ◌+◌, ◌<◌, ◌^◌, Bool, true, false, cond, List, [], ◌∷◌, ◌++◌, length, map, flat_map, get_or, take, Vec, Global, refl, sym, ap, subst, arith}
 use Rattle.std.specs.Global.{Box}
 use Rattle.std.specs.List.{AllByRecursion}
 use Rattle.std.specs.Prelude.{Option, Some, None, IfSome}
@@ -23,9 +23,8 @@ use Rattle.avro_schema.specs.declared.schema.Record.{Record as TheRecord, out-Re
 use Rattle.avro_schema.specs.declared.schema.Schema.{Schema, Array, Null, Record, Union}
 use Rattle.json_flat.specs.Columns.{means}
 use Rattle.json_flat.specs.Meaning.{Layer, Meaning, slot_of}
-use Rattle.json_flat.specs.Reading.{all_slots, beside, list_in, made_of, member_meanings, or_null, reading, struct_in, together}
-use Rattle.json_lend.specs.Fields.{value_named, values_of, or_null as or_null_lent}
-use Rattle.json_tree.specs.Keys.{value_of}
+use Rattle.json_flat.specs.Reading.{all_slots, beside, list_in, made_of, member_meanings, reading, struct_in, together}
+use Rattle.json_lend.specs.Fields.{value_named, values_of}
 use Rattle.json_tree.specs.Tree.{Json, array, null, object}
 use Rattle.json_tree.specs.declared.value.Value.{out-Value}
 use Rattle.json_tree.specs.declared.value.Value.TheVariants as variant
@@ -167,14 +166,10 @@ abbrev field_meanings : List Field → List (List ℕ × Json) → List Meaning
 field_meanings [] members = []
 field_meanings (f ∷ fields) members = means (reading f.data_type) (value_named members f.name) ∷ field_meanings fields members
 
-same_or_null : (o : Option Json) → or_null o ≡ or_null_lent o
-same_or_null None = refl
-same_or_null (Some v) = refl
-
 row_meanings : (fields : List Field) (members : List (List ℕ × Json)) → member_meanings (hidden-the_row-Field-1 fields) members ≡ field_meanings fields members
 unfolding shape-the_row-Field-1 hidden-the_row-Field-1 denote.Hole.Carrier.hidden
 row_meanings [] members = refl
-row_meanings (f ∷ fields) members = λ i. means (reading f.data_type) (same_or_null (value_of f.name members) i) ∷ row_meanings fields members i
+row_meanings (f ∷ fields) members = λ i. means (reading f.data_type) (value_named members f.name) ∷ row_meanings fields members i
 
 struct_reading : (fields : List Field) → reading (types.Struct fields) ≡ struct_in (field_meanings fields)
 unfolding shape-the_row-Field-1 hidden-the_row-Field-1 denote.Hole.Carrier.hidden
@@ -246,12 +241,6 @@ plans_push [] (b ∷ avro_fields) plans f a p h one = absurd h
 plans_push (g ∷ fields) [] plans f a p h one = absurd h
 plans_push (g ∷ fields) (b ∷ avro_fields) [] f a p h one = absurd h
 plans_push (g ∷ fields) (b ∷ avro_fields) (q ∷ plans) f a p h one = (h.0, plans_push fields avro_fields plans f a p h.1 one)
-
-taken_all : {A : Type 0} (xs : List A) (n : ℕ) → length xs ≤ n → take n xs ≡ xs
-taken_all [] zero h = refl
-taken_all [] (suc n) h = refl
-taken_all (x ∷ xs) zero h = absurd (omega (arith, h))
-taken_all (x ∷ xs) (suc n) h = ap (λ ys. x ∷ ys) (taken_all xs n (omega (arith, h)))
 
 taken_more : {A : Type 0} (xs : List A) (i : ℕ) (x : A) → i < length xs → x ≡ get_or xs i x → take (i + 1) xs ≡ take i xs ++ x ∷ []
 taken_more xs i x lt is = take_more xs i x lt ∙ ap (λ y. take i xs ++ y ∷ []) (sym is)

@@ -1,8 +1,8 @@
 -- Lines, one after another.
-use Rattle.std.proofs.Common.{◌≡◌, ◌∙◌, ℕ, zero, suc, ◌+◌, ◌<◌, ◌≤◌, List, [], ◌∷◌, ◌++◌, length, get_or, take, refl, sym, ap, subst, append_assoc, arith}
+use Rattle.std.proofs.Common.{◌≡◌, ◌∙◌, ℕ, ◌+◌, ◌<◌, ◌≤◌, List, [], ◌∷◌, ◌++◌, length, get_or, take, refl, sym, ap, subst, append_assoc}
 use Rattle.std.specs.List.{AllZip}
 use Rattle.std.specs.Str.{IsUtf8}
-use Rattle.std.proofs.lemmas.List.{append-nil, take_more}
+use Rattle.std.proofs.lemmas.List.{append-nil, take_more, take_all}
 use Rattle.json_tree.specs.Meaning.{IsJson}
 use Rattle.json_lend.proofs.RowLaws.{object-ends}
 use Rattle.json_tree.proofs.TextLaws.{json-found}
@@ -17,12 +17,6 @@ zip_push R [] [] x y h r = (r, tt)
 zip_push R [] (v ∷ ys) x y h r = absurd h
 zip_push R (u ∷ xs) [] x y h r = absurd h
 zip_push R (u ∷ xs) (v ∷ ys) x y h r = (h.0, zip_push R xs ys x y h.1 r)
-
-take_whole : {A : Type 0} (xs : List A) (n : ℕ) → length xs ≤ n → take n xs ≡ xs
-take_whole [] zero h = refl
-take_whole [] (suc n) h = refl
-take_whole (x ∷ xs) zero h = absurd (omega (arith, h))
-take_whole (x ∷ xs) (suc n) h = ap (λ ys. x ∷ ys) (take_whole xs n (omega (arith, h)))
 
 -- a line whose object was read, with nothing behind it
 pub line_read : (names : List (List ℕ)) (ps : List Plan) (line behind after old new : List ℕ) → IsUtf8 line → skip line ≡ 123 ∷ behind → skip after ≡ [] → Reads (WritesRecord names ps) (object_at (value_at 127)) behind after old new → PushesLine names ps line old new
@@ -43,4 +37,4 @@ line_more i lines names ps line text old now new lt is same (rows, objects, (byt
     )
 
 pub all_lines : (i : ℕ) (lines names : List (List ℕ)) (ps : List Plan) (old now : List ℕ) → length lines ≤ i → PushesLines names ps (take i lines) old now → PushesLines names ps lines old now
-all_lines i lines names ps old now le h = subst (λ ls. PushesLines names ps ls old now) (take_whole lines i le) h
+all_lines i lines names ps old now le h = subst (λ ls. PushesLines names ps ls old now) (take_all i lines le) h

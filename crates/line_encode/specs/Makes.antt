@@ -1,7 +1,7 @@
 -- Which plans are those of a data type and a schema: what stands for a value is then the canonical encoding of the slot that the
 -- value means. The contracts of a `LinePlan` cite `IsLinePlanOf`, which stands on the others; contracts of private functions cite
 -- those too.
-use Rattle.std.specs.Prelude.{◌≡◌, ◌⊎◌, ◌<◌, ℕ, Bool, true, List, [], ◌∷◌, length, map, Option, None}
+use Rattle.std.specs.Prelude.{◌≡◌, ◌⊎◌, ◌<◌, ℕ, Bool, true, false, List, [], ◌∷◌, length, map, Option, None}
 use Rattle.arrow_array.specs.Slots.{is_held}
 use Rattle.arrow_core.specs.declared.slot.Slot.{Slot}
 use Rattle.arrow_core.specs.declared.slot.Slot.TheVariants as slot
@@ -18,7 +18,7 @@ use Rattle.avro_schema.specs.declared.schema.Schema.{Schema, Boolean, Int, Long,
 use Rattle.avro_schema.specs.declared.schema.StringLogical.{StringLogical}
 use Rattle.json_flat.specs.Columns.{means}
 use Rattle.json_flat.specs.Meaning.{bytes_in, int64_in, moment_in, slot_of, text_in, boolean_in}
-use Rattle.json_flat.specs.Names.{names_of}
+use Rattle.json_flat.specs.Names.{names_of, names_twice}
 use Rattle.json_flat.specs.Reading.{has_reading, int32_in, reading}
 use Rattle.json_tree.specs.Layout.{distinct}
 use Rattle.json_tree.specs.Tree.{Json, null, object}
@@ -27,11 +27,10 @@ use Rattle.line_encode.specs.declared.plan.Plan.{Plan}
 use Rattle.line_encode.specs.declared.plan.Primitive.{Primitive}
 use Rattle.line_encode.specs.declared.plan.Primitive.TheVariants as primitive
 use Rattle.line_encode.specs.Plans.{is_nullable, Writes, WritesHeld, WritesList, WritesMembers}
-use Rattle.line_encode.specs.Types.{names_differ}
 
 -- values are read under the type, and no struct in it names a field twice
 abbrev pub IsReadable : DataType → Type 0
-IsReadable t = (has_reading t ≡ true) × (names_differ t ≡ true)
+IsReadable t = (has_reading t ≡ true) × (names_twice t ≡ false)
 
 -- the bytes are the canonical encoding of the slot that a value means
 abbrev pub Encodes : DataType → Schema → Json → List ℕ → Type 0

@@ -58,7 +58,7 @@ pub(crate) fn read_null<'a>(
 
 /// There are less than 2^63 bytes. It tells so of a slice, and does nothing.
 #[inline(always)]
-fn tell_size(_bytes: &[u8])
+fn length_bound(_bytes: &[u8])
     ensures { length _bytes.now < 2 ^ 63 }
 {}
 
@@ -120,7 +120,7 @@ fn push_text(nullable: bool, text: &str, out: &mut Vec<u8>) -> Result<(), GivenU
         out.old.items out.new.items) }
 {
     let bytes = text.as_bytes();
-    tell_size(bytes);
+    length_bound(bytes);
     if nullable {
         append_counted_after(2, bytes, out)?;
     } else {

@@ -1,5 +1,4 @@
 pub mod Clean
-pub mod FoundLemmas
 pub mod Gathered
 pub mod LineLaw
 pub mod MadeLaws

@@ -18,7 +18,7 @@ use Rattle.arrow_array.specs.SlotTypes.{IfHeld, IsBoolean, IsSigned, IsUnsigned,
 use Rattle.json_text.specs.JsonText.{text}
 use Rattle.json_text.specs.Refusals.{has_text, have_texts, in_range, is_string_type, item_in_range, fields_in_range, slot_in_range, integers_in, lists_in, structs_in}
 use Rattle.json_tree.specs.Keys.{keys_of}
-use Rattle.json_tree.specs.Tree.{Json, string, array, object, boolean}
+use Rattle.json_tree.specs.Tree.{Json, string, array, object, boolean, or_null}
 use Rattle.json_tree.specs.declared.value.Number.TheVariants.{Integer as NumberInteger, Float as NumberFloat}
 use Rattle.json_tree.specs.declared.value.Value.{out-Value}
 use Rattle.json_tree.specs.declared.value.Value.TheOpen as layer
@@ -28,8 +28,8 @@ use Rattle.json_flat.specs.Meaning.{Layer, Meaning, fitted, slot_of, text_in, bo
 use Rattle.json_flat.specs.Columns.{means}
 use Rattle.json_flat.specs.Whole.{within}
 use Rattle.json_flat.proofs.Layers.{at-bool, at-number, at-string}
-use Rattle.json_columns.specs.Names.{names_twice, repeat, row_names, row_names_twice}
-use Rattle.json_flat.specs.Reading.{has_field, has_reading, have_reading, is_value_type, item_meaning, list_in, made_of, member_meanings, or_null, reading, sized_list_in, struct_in, together}
+use Rattle.json_flat.specs.Names.{names_twice, repeat, row_names, row_names_twice}
+use Rattle.json_flat.specs.Reading.{has_field, has_reading, have_reading, is_value_type, item_meaning, list_in, made_of, member_meanings, reading, sized_list_in, struct_in, together}
 use Rattle.json_columns.proofs.Layers.{array_layer, object_layer}
 use Rattle.json_columns.proofs.Together.{made}
 use Rattle.ndjson.specs.Laws.{ColumnsReadBack, TextsReadBack, ValuesMeanSlots, has_no_dates, have_no_dates}

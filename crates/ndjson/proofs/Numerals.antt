@@ -1,8 +1,8 @@
 -- The decimal numeral of an integer is a JSON number.
-use Rattle.std.proofs.Common.{◌≡◌, ◌⊎◌, inl, inr, ℕ, zero, suc, ◌+◌, ◌/◌, ◌%◌, ◌^◌, ◌<◌, ◌≤◌, ◌==◌, ◌||◌, not, nat_lt, cond, true, false, List, [], ◌∷◌, ◌++◌, length, drop, Some, None, decimal, ℤ, pos, negsuc, neg_ℤ, refl, sym, ap, ◌∙◌, subst, append-nil, arith}
+use Rattle.std.proofs.Common.{◌≡◌, inl, inr, ℕ, zero, suc, ◌+◌, ◌^◌, ◌<◌, ◌≤◌, ◌==◌, ◌||◌, not, nat_lt, cond, true, false, List, [], ◌∷◌, ◌++◌, length, drop, Some, None, decimal, ℤ, pos, negsuc, neg_ℤ, refl, sym, ap, ◌∙◌, subst, append-nil, arith}
 use Rattle.std.proofs.Math.Nat.{pow-le-pow_right}
 use Rattle.std.proofs.lemmas.Bool.Decides.{nat_tests}
-use Rattle.std.proofs.lemmas.Fmt.{decimal_by_steps_wide, decimal_is_IsNumeral_wide, IsAscii-decimal_wide}
+use Rattle.std.proofs.lemmas.Fmt.{decimal_is_IsNumeral_wide, IsAscii-decimal_wide}
 use Rattle.std.proofs.lemmas.Str.{IsUtf8-from_ascii}
 use Rattle.std.proofs.lemmas.Bool.{and_from}
 use Rattle.std.specs.Char.{is_ascii_digit}
@@ -12,9 +12,10 @@ use Rattle.std.specs.Str.Parse.{digits_value, starts_with_minus}
 use Rattle.std.specs.Fmt.{signed_decimal}
 use Rattle.std.specs.Int.RustNames.{FitsSigned}
 use mir.Syntax.{Width, w8, w16, w32, w64, w128}
-use Rattle.json_tree.specs.Grammar.{Each, is_digit, IsInteger, IsNumber}
+use Rattle.json_tree.specs.Grammar.{Each, is_digit, IsNumber}
 use Rattle.json_tree.specs.Tree.{has_point}
 use Rattle.json_tree.specs.declared.value.Number.TheVariants.{Integer as NumberInteger}
+use Rattle.json_tree.proofs.Numerals.{IsNumeralOf, decimal_is_numeral, is_integer}
 use Rattle.json_flat.specs.Whole.{are_digits, fraction_part, integer_part, is_int, is_mantissa, is_point, number_value, scaled, signed, whole_value, without_minus}
 use Rattle.json_flat.proofs.Signs.{well-formed}
 use Rattle.json_flat.proofs.Splitting.{an-integer, no-point}
@@ -22,36 +23,6 @@ use Rattle.ndjson.specs.Values.{whole}
 use Rattle.ndjson_read.specs.Lines.{is_line_feed}
 use Rattle.ndjson.proofs.Clean.{Clean, Feedless, clean-after}
 use Rattle.ndjson.proofs.Written.{Good, of_scalar}
-
--- the digits of n, of which the first is 0 where n is alone
-abbrev pub IsNumeralOf : ℕ → List ℕ → Type 0
-IsNumeralOf n ds =
-    ((n ≡ 0) × (ds ≡ 0x30 ∷ []))
-    ⊎ ((digit : ℕ) × (more : List ℕ) × (is_digit digit ≡ true) × ((digit == 0x30) ≡ false) × Each is_digit more × (ds ≡ digit ∷ more))
-
-digit_test : (m : ℕ) → m < 10 → is_digit (48 + m) ≡ true
-unfolding is_digit
-digit_test m l = grind (arith, nat_tests, l)
-
-pushed : (ds : List ℕ) (x : ℕ) → Each is_digit ds → is_digit x ≡ true → Each is_digit (ds ++ x ∷ [])
-pushed [] x h e = (e, tt)
-pushed (d ∷ ds) x h e = (h.0, pushed ds x h.1 e)
-
-one_digit : (n : ℕ) → n < 10 → IsNumeralOf n ((48 + n) ∷ [])
-one_digit zero l = inl (refl, refl)
-one_digit (suc n) l = inr (48 + suc n, [], digit_test (suc n) l, grind (arith, nat_tests), tt, refl)
-
-last_digit : (n : ℕ) (ds : List ℕ) → 10 ≤ n → IsNumeralOf (n / 10) ds → IsNumeralOf n (ds ++ ((48 + n % 10) ∷ []))
-last_digit n ds l (inl h) = absurd (omega (arith, h.0))
-last_digit n ds l (inr h) =
-    inr (h.0, h.1 ++ ((48 + n % 10) ∷ []), h.2, h.3, pushed h.1 (48 + n % 10) h.4 (digit_test (n % 10) (omega arith)), ap (λ k. k ++ ((48 + n % 10) ∷ [])) h.5)
-
-pub decimal_is_numeral : (n : ℕ) → n < 10 ^ 64 → IsNumeralOf n (decimal n)
-decimal_is_numeral n l = decimal_by_steps_wide IsNumeralOf one_digit last_digit n l
-
-is_integer : (n : ℕ) (ds : List ℕ) → IsNumeralOf n ds → IsInteger ds
-is_integer n ds (inl h) = inl h.1
-is_integer n ds (inr h) = inr h
 
 -- ---- integers whose numerals are short enough
 

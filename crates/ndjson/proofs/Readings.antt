@@ -7,9 +7,9 @@ use Rattle.arrow_core.specs.declared.types.DataType.TheVariants as types
 use Rattle.arrow_core.specs.declared.types.Field.{Field}
 use Rattle.arrow_core.specs.declared.types.IntegerType.{IntegerType}
 use Rattle.json_tree.specs.Keys.{value_of}
-use Rattle.json_tree.specs.Tree.{Json}
+use Rattle.json_tree.specs.Tree.{Json, or_null}
 use Rattle.json_flat.specs.Columns.{means}
-use Rattle.json_flat.specs.Reading.{list_in, or_null, reading, sized_list_in, struct_in}
+use Rattle.json_flat.specs.Reading.{list_in, reading, sized_list_in, struct_in}
 use Rattle.json_columns.specs.Gathered.{field_meanings}
 use Rattle.json_columns.proofs.ByFields.{dictionary_reading, large_list_reading, list_reading, sized_reading, struct_reading}
 use Rattle.ndjson.specs.LineColumns.{AreStoredFor, IsStoredFor}

@@ -8,12 +8,12 @@ use Rattle.arrow_array.specs.SlotTypes.{SlotOf}
 use Rattle.json_text.specs.Refusals.{has_text, in_range}
 use Rattle.json_write.specs.Rows.{row_object}
 use Rattle.json_tree.specs.Keys.{keys_of}
-use Rattle.json_tree.specs.Tree.{Json, object}
+use Rattle.json_tree.specs.Tree.{Json, object, or_null}
 use Rattle.json_tree.proofs.TextLaws.{one_value}
 use Rattle.json_flat.specs.Meaning.{slot_of}
 use Rattle.json_flat.specs.Columns.{means}
-use Rattle.json_columns.specs.Names.{repeat}
-use Rattle.json_flat.specs.Reading.{or_null, reading}
+use Rattle.json_flat.specs.Names.{repeat}
+use Rattle.json_flat.specs.Reading.{reading}
 use Rattle.json_columns.proofs.Layers.{object_member}
 use Rattle.ndjson.specs.Laws.{HasTexts, IsReadAsWritten, LinesReadBack, RowValuesMeanRows, row_meanings}
 use Rattle.ndjson.specs.Values.{row_members, row_value}

@@ -9,10 +9,10 @@ use Rattle.arrow_core.specs.declared.types.IntegerType.{IntegerType}
 use Rattle.json_tree.specs.Layout.{distinct}
 use Rattle.json_flat.specs.Reading.{has_reading, is_value_type, reading}
 use Rattle.json_columns.specs.Gathered.{all_have_reading}
-use Rattle.json_columns.specs.Names.{any_names_twice, names_twice, repeats}
+use Rattle.json_columns.specs.Names.{any_names_twice}
 use Rattle.json_columns.proofs.ByFields as column
-use Rattle.json_columns.proofs.FieldNames.{fixed_list_names, large_list_names, list_names, repeated, struct_names}
-use Rattle.json_flat.specs.Names.{names_of}
+use Rattle.json_columns.proofs.FieldNames.{fixed_list_names, large_list_names, list_names, struct_names}
+use Rattle.json_flat.specs.Names.{names_of, names_twice, repeat}
 use Rattle.json_line.specs.Lines.{are_line_fields, have_line_readings}
 use Rattle.json_line.specs.Types.{has_line_reading}
 use Rattle.json_line.proofs.Shapes as line
@@ -47,8 +47,8 @@ names_stored [] (g ∷ gs) h = absurd h
 names_stored (f ∷ fs) [] h = absurd h
 names_stored (f ∷ fs) (g ∷ gs) h = λ i. h.0.name i ∷ names_stored fs gs h.1 i
 
-apart : (fs : List Field) → repeats fs ≡ false → distinct (names_of fs) ≡ true
-apart fs h = is_so (distinct (names_of fs)) (repeated fs ∙ h)
+apart : (fs : List Field) → repeat (names_of fs) ≡ false → distinct (names_of fs) ≡ true
+apart fs h = is_so (distinct (names_of fs)) h
   where
     is_so : (b : Bool) → not b ≡ false → b ≡ true
     is_so true e = refl
@@ -79,8 +79,8 @@ module _ (fs gs : List Field) (h : AreStoredFor fs gs) (r : is_readable (types.S
   filled : (not (eqb (length fs) 0) ≡ true) × (all_have_reading fs ≡ true)
   filled = both (not (eqb (length fs) 0)) (all_have_reading fs) (sym (column.struct_readable fs) ∙ parts.0)
 
-  once : (repeats fs ≡ false) × (any_names_twice fs ≡ false)
-  once = neither (repeats fs) (any_names_twice fs) (sym (struct_names fs) ∙ parts.1)
+  once : (repeat (names_of fs) ≡ false) × (any_names_twice fs ≡ false)
+  once = neither (repeat (names_of fs)) (any_names_twice fs) (sym (struct_names fs) ∙ parts.1)
 
   pub stored_readable : are_line_fields gs ≡ true
   stored_readable = λ i. ((ap distinct (names_stored fs gs h) ∙ apart fs once.0) i && lines_stored fs gs h filled.1 once.1 i)

@@ -14,7 +14,7 @@ use Rattle.json_tree.specs.Meaning.{IsJson}
 use Rattle.ndjson_read.specs.Inference.{NoValue}
 use Rattle.ndjson_read.specs.Needed.{StandFor}
 use Rattle.ndjson_read.proofs.Values.{stand_for-append}
-use Rattle.ndjson.specs.Columns.{IsColumnOf, IsNoColumn, IsNoColumnOfAll}
+use Rattle.ndjson.specs.Columns.{IsColumnOf, IsNoColumn, IteratorRefused}
 use Rattle.ndjson.specs.Rows.{AllStandFor, FailsAtRow}
 
 -- one more row stands for a value
@@ -41,7 +41,7 @@ no_column rows t values (Ok array) stand h = tt
 no_column rows t values (Err e) stand h = inr (values, stand, h)
 
 pub no_column_of_all : {I : Type 0} (next_gives : I → Option (Bor (List ℕ)) → I → Type 0) (rows : I) (t : DataType) (values : List Json) (answer : Result Array Error) → AllStandFor next_gives rows values
-    → IfErr answer (IsRefusal t values) → IfErr answer (IsNoColumnOfAll next_gives rows t)
+    → IfErr answer (IsRefusal t values) → IfErr answer (IteratorRefused next_gives rows t)
 no_column_of_all next_gives rows t values (Ok array) stand h = tt
 no_column_of_all next_gives rows t values (Err e) stand h = inr (values, stand, h)
 

@@ -8,7 +8,7 @@ use Rattle.arrow_core.specs.declared.slot.Slot.{Slot}
 use Rattle.arrow_core.specs.declared.types.DataType.{DataType}
 use Rattle.json_tree.specs.Tree.{Json}
 use Rattle.json_flat.specs.Columns.{AreSlotsOf}
-use Rattle.json_columns.specs.Names.{names_twice}
+use Rattle.json_flat.specs.Names.{names_twice}
 use Rattle.json_flat.specs.Reading.{has_reading, reading}
 use Rattle.json_columns.specs.Refusals.{IsRefusal}
 use Rattle.ndjson_read.specs.GivenRows.{FailsAt}
@@ -44,5 +44,5 @@ module _ {I : Type 0} (next_gives : I → Option (Bor (List ℕ)) → I → Type
 
   -- Why there is none: the first row that it gave that stands for no value, or what is refused of the values of all rows that it gave.
   -- Out of memory may come in place of either.
-  abbrev pub IsNoColumnOfAll : DataType → Error → Type 0
-  IsNoColumnOfAll t e = FailsAt next_gives rows e ⊎ ((values : List Json) × AllStandFor next_gives rows values × IsRefusal t values e)
+  abbrev pub IteratorRefused : DataType → Error → Type 0
+  IteratorRefused t e = FailsAt next_gives rows e ⊎ ((values : List Json) × AllStandFor next_gives rows values × IsRefusal t values e)

@@ -15,7 +15,7 @@ use Rattle.json_tree.specs.declared.value.Value.{out-Value}
 use Rattle.json_flat.specs.Meaning.{Meaning, slot_of}
 use Rattle.json_flat.specs.Columns.{AreSlotsOf, means}
 use Rattle.json_columns.specs.Gathered.{member_in}
-use Rattle.json_columns.specs.Names.{names_twice, repeat}
+use Rattle.json_flat.specs.Names.{names_twice, repeat}
 use Rattle.json_flat.specs.Reading.{has_reading, reading}
 use Rattle.ndjson_read.specs.Lines.{rows_of}
 use Rattle.ndjson.specs.Depth.{depth, row_depth}

@@ -8,7 +8,7 @@ use Rattle.arrow_core.specs.declared.slot.Slot.{Slot}
 use Rattle.arrow_core.specs.declared.types.DataType.{DataType}
 use Rattle.arrow_core.specs.declared.types.DataType.TheVariants as types
 use Rattle.arrow_core.specs.declared.types.Field.{Field}
-use Rattle.json_columns.specs.Names.{names_twice}
+use Rattle.json_flat.specs.Names.{names_twice}
 use Rattle.json_flat.specs.Reading.{has_reading, reading}
 use Rattle.json_line.specs.Lines.{AreObjects}
 use Rattle.json_line.specs.Types.{has_line_reading}

@@ -1,14 +1,13 @@
 -- What contracts see of a serializer of arrays into lines.
-use Rattle.std.specs.Prelude.{◌≡◌, ℕ, ◌++◌, Bool, true, false, cond, Option, Some, None, is_some, List, [], ◌∷◌, codes, flat_map, Result, Ok, Err, MatchOption, MatchResult}
+use Rattle.std.specs.Prelude.{◌≡◌, ℕ, ◌++◌, Bool, true, false, cond, Option, Some, None, List, [], codes, flat_map, Result, Ok, MatchOption, MatchResult}
 use Rattle.std.specs.Bool.{MatchBool}
-use Rattle.std.specs.List.{All}
 use Rattle.std.specs.Iterator.{Count, size}
 use Rattle.arrow_core.specs.declared.error.Error.{Error}
 use Rattle.arrow_array.specs.declared.array.Array.{Array}
 use Rattle.arrow_array.specs.Arrays.{array_type, array_slots}
 use Rattle.json_text.specs.JsonText.{text}
 use Rattle.lending.specs.Filling.{Ends}
-use Rattle.json_write.specs.Arrays.{array_refusal, is_empty, IsPassedOver, Tells, Gave, FindsNone, Stops}
+use Rattle.json_write.specs.Arrays.{items_by, Adds, Finds, Tells, FindsNone, Stops}
 use Rattle.ndjson.specs.declared.serializer.Serializer.{Serializer}
 
 -- the text of each slot of an array, and a line feed after each
@@ -17,26 +16,15 @@ array_lines array = flat_map (λ slot. text (array_type array) slot ++ codes "\n
 
 -- what comes of arrays that are given so: the lines of those that aren't empty, up to the first error
 abbrev pub items_of : List (Result Array Error) → List (List ℕ)
-items_of [] = []
-items_of (Err e ∷ given) = []
-items_of (Ok array ∷ given) = cond (is_some (array_refusal array)) [] (cond (is_empty (array_slots array)) (items_of given) (array_lines array ∷ items_of given))
+items_of = items_by array_lines
 
 -- what was given is an array that has a text; if it has slots, their lines were added
 abbrev pub AddsGiven : Result Array Error → Bool → List ℕ → List ℕ → Type 0
-AddsGiven (Ok array) filled old new = (array_refusal array ≡ None) × MatchBool filled ((array_slots array ≡ [] → ⊥) × (new ≡ old ++ array_lines array)) ((array_slots array ≡ []) × (new ≡ old))
-AddsGiven (Err own) filled old new = ⊥
+AddsGiven = Adds array_lines
 
 -- arrays were passed over, and the next has slots, of which these are the lines
-pub record FindsLines {I : Type 0} (next_gives : I → Option (Result Array Error) → I → Type 0) (before : I) (bytes : List ℕ) (after : I) : Type 0 where
-  pub passed : List Array
-  pub passed_over : All IsPassedOver passed
-  pub between : I
-  pub gave : Gave next_gives before passed between
-  pub array : Array
-  pub next : next_gives between (Some (Ok array)) after
-  pub accepted : array_refusal array ≡ None
-  pub filled : array_slots array ≡ [] → ⊥
-  pub lines : bytes ≡ array_lines array
+abbrev pub FindsLines : {I : Type 0} → (I → Option (Result Array Error) → I → Type 0) → I → List ℕ → I → Type 0
+FindsLines next_gives = Finds next_gives array_lines
 
 module _ {I : Type 0} where
   abbrev pub arrays_of : Serializer I → I

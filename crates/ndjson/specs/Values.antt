@@ -8,8 +8,7 @@ use Rattle.json_dates.specs.Civil.{date_text}
 use Rattle.json_dates.specs.Times.{day_of_milliseconds, timestamp_text}
 use Rattle.json_text.specs.JsonText.{zone_offset}
 use Rattle.json_tree.specs.Keys.{first_keys, keys_of, value_of}
-use Rattle.json_tree.specs.Tree.{Json, null, boolean, number, string, array, object}
-use Rattle.json_flat.specs.Reading.{or_null}
+use Rattle.json_tree.specs.Tree.{Json, null, boolean, number, string, array, object, or_null}
 
 -- what the integers, the lists and the structs of a type stand for
 pub record Values : Type 0 where

@@ -5,7 +5,7 @@ ghost use Rattle.arrow_array.specs.Arrays.{array_slots, array_type};
 ghost use Rattle.arrow_dictionaries.specs.Encoding.{HasFirstValues};
 ghost use Rattle.arrow_core.specs.declared.types.DataType.{Struct};
 ghost use Rattle.ndjson.specs.LineColumns.{AreRowsOf};
-ghost use Rattle.ndjson.specs.Columns.{IsColumnOf, IsColumnOfAll, IsNoColumn, IsNoColumnOfAll, IsRefusalOf};
+ghost use Rattle.ndjson.specs.Columns.{IsColumnOf, IsColumnOfAll, IsNoColumn, IteratorRefused, IsRefusalOf};
 
 use crate::line_columns::{LineColumns, struct_fields};
 use crate::rows::{push_given, push_values};
@@ -83,7 +83,7 @@ fn read_given<'a, I: Iterator<Item = &'a str> + Drop>(
     ensures column { IfOk result
         (λ a. IsColumnOfAll I.next_gives rows data_type.now (array_type a) (array_slots a)) }
     ensures dictionaries { IfOk result HasFirstValues }
-    ensures err { IfErr result (IsNoColumnOfAll I.next_gives rows data_type.now) }
+    ensures err { IfErr result (IteratorRefused I.next_gives rows data_type.now) }
 {
     push_given(alloc, values, rows)?;
     read_values(alloc, values.as_slice(), data_type)
@@ -131,7 +131,7 @@ pub fn deserialize_iter<'a, I: Iterator<Item = &'a str> + Drop>(
     ensures column { IfOk result
         (λ a. IsColumnOfAll I.next_gives rows data_type (array_type a) (array_slots a)) }
     ensures dictionaries { IfOk result HasFirstValues }
-    ensures err { IfErr result (IsNoColumnOfAll I.next_gives rows data_type) }
+    ensures err { IfErr result (IteratorRefused I.next_gives rows data_type) }
 {
     let mut values = Vec::new(alloc);
     read_given(alloc, &mut values, rows, &data_type)

@@ -23,7 +23,7 @@ fn write_next<K: Sink, I: FallibleStreamingIterator<Error = Error>>(
     ensures writes { WritesPiece I.step I.shown iterator.old result iterator.new
         (K.held writer.old) (K.held writer.new) (K.faults writer.old) (K.faults writer.new) }
     ensures never_falls { K.faults writer.old ≤ K.faults writer.new }
-    ensures same { K.whose writer.new ≡ K.whose writer.old }
+    ensures same { K.identity writer.new ≡ K.identity writer.old }
 {
     iterator.advance()?;
     match iterator.get() {
@@ -67,7 +67,7 @@ impl<K: Sink, I: FallibleStreamingIterator<Error = Error>> FileWriter<K, I> {
             (K.held (writer_of self.old)) (K.held (writer_of self.new))
             (K.faults (writer_of self.old)) (K.faults (writer_of self.new)) }
         ensures never_falls { K.faults (writer_of self.old) ≤ K.faults (writer_of self.new) }
-        ensures same { K.whose (writer_of self.new) ≡ K.whose (writer_of self.old) }
+        ensures same { K.identity (writer_of self.new) ≡ K.identity (writer_of self.old) }
     {
         if self.has_ended {
             return None;

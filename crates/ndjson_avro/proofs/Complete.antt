@@ -1,4 +1,4 @@
--- Of a source that tells its bytes: lines of rows that can be written are written.
+-- Of a source whose bytes the contract knows: lines of rows that can be written are written.
 use Rattle.std.proofs.Common.{◌≡◌, ◌∙◌, ◌⊎◌, inl, inr, ℕ, ◌≤◌, true, false, List, [], ◌∷◌, ◌++◌, length, Option, Some, None, refl, sym, ap, subst, append_assoc, append-nil, length-append, arith}
 use Rattle.std.specs.Prelude.{filter, All, IfSome, IsUtf8}
 use Rattle.std.specs.List.{AllZip, Any}
@@ -65,7 +65,7 @@ back_all : (P : List ℕ → Type 0) (prefix rest : List (List ℕ)) → All P (
 back_all P prefix rest all = subst (All P) (drop-append_seam prefix rest) (All-drop P (length prefix) (prefix ++ rest) all)
 
 -- the source tells lines in UTF-8, no more of them than the limit, which are the last of these rows
-record Ahead (texts : List (List ℕ)) (s : State) : Type 0 where
+record RowsAhead (texts : List (List ℕ)) (s : State) : Type 0 where
   rest : List ℕ
   left : s.left ≡ Some rest
   within : length rest ≤ s.limit
@@ -75,13 +75,13 @@ record Ahead (texts : List (List ℕ)) (s : State) : Type 0 where
 
 -- rows that were taken are some of these, and what is left is ahead
 record Went (texts some : List (List ℕ)) (new : State) : Type 0 where
-  ahead : Ahead texts new
+  ahead : RowsAhead texts new
   prefix : List (List ℕ)
   back : List (List ℕ)
   rows : texts ≡ prefix ++ (some ++ back)
 
 module _ (texts : List (List ℕ)) where
-  goes : (old new : State) (some : List (List ℕ)) → Ahead texts old → TakesRows old new some → Went texts some new
+  goes : (old new : State) (some : List (List ℕ)) → RowsAhead texts old → TakesRows old new some → Went texts some new
   goes old new some a t =
       let l = left_of old.left new.left a.rest t.taken a.left t.takes.consumed in
       let told : AreRowsOf old new t.taken some = subst (λ (z : Option (List ℕ)). IfSome z (λ _. AreRowsOf old new t.taken some)) a.left t.told in
@@ -104,7 +104,7 @@ module _ (texts : List (List ℕ)) where
       }
 
   -- no row is missing
-  row_is_there : (old new : State) (e : Error) → Ahead texts old → (RoseOrFull old.faults new.faults → ⊥) → NoRows 1 old new e → e ≡ OutOfMemory
+  row_is_there : (old new : State) (e : Error) → RowsAhead texts old → (RoseOrFull old.faults new.faults → ⊥) → NoRows 1 old new e → e ≡ OutOfMemory
   row_is_there old new (ReadFault (Some number)) a steady h = absurd (steady h.cause)
   row_is_there old new LimitExceeded a steady h =
       let l = left_of old.left new.left a.rest (h.taken ++ h.byte ∷ []) a.left h.takes.consumed in
@@ -174,10 +174,10 @@ module _ (t : DataType) (root : Schema) (texts : List (List ℕ)) (slots : List 
 
   -- ---- batches
 
-  module _ (marker : List ℕ) (n : ℕ) (old new : State) (sink : Change) (ahead : Ahead texts old) (steady : RoseOrFull old.faults new.faults → ⊥) where
-    batch_is_there : (between : State) (held : Option (List ℕ)) (e : Error) → Ahead texts between → (RoseOrFull between.faults new.faults → ⊥)
+  module _ (marker : List ℕ) (n : ℕ) (old new : State) (sink : Change) (ahead : RowsAhead texts old) (steady : RoseOrFull old.faults new.faults → ⊥) where
+    batch_is_there : (between : State) (held : Option (List ℕ)) (e : Error) → RowsAhead texts between → (RoseOrFull between.faults new.faults → ⊥)
         → BatchFails t root marker n between new (change_of held sink.faults sink.bytes_after sink.faults_after) e → CameFromOutside sink e
-    batch_is_there between held e a firm (inl (keeps, inl memory)) = inl memory
+    batch_is_there between held e a firm (inl (keeps, inl out)) = inl out.is
     batch_is_there between held e a firm (inl (keeps, inr (inl f))) =
         let w = goes texts between f.between f.texts a f.takes in
         inl (row_is_there texts f.between new e w.ahead (λ rose. firm (rose_from between.faults f.between.faults new.faults f.takes.takes.faults rose)) f.fails)
@@ -210,7 +210,7 @@ lines_are_written fields name marker bytes n limit source sink e tells are (inr 
 lines_are_written fields name marker bytes n limit source sink e tells are (inr (inr batch)) =
     let start : State = state source.bytes source.faults limit 0 in
     let end : State = state source.bytes_after source.faults_after batch.limit_after batch.lines_after in
-    let first : Ahead (rows_of bytes) start = record { rest = bytes; left = tells.told; within = tells.within; utf8 = are.utf8; before = []; rows = refl } in
+    let first : RowsAhead (rows_of bytes) start = record { rest = bytes; left = tells.told; within = tells.within; utf8 = are.utf8; before = []; rows = refl } in
     let same = one_target fields name batch.target are.target batch.has are.has in
     let stops = subst (λ (r : Record). StopsAtBatch (types.Struct fields) (schema.Record r) marker n start end (change_of batch.held sink.faults sink.bytes_after sink.faults_after) e) same batch.stops in
     from (all_are_there (types.Struct fields) (schema.Record are.target) (rows_of bytes) are.slots are.rows are.few (rows_too_many fields are.has.nameless are.has.recorded) marker n start end (change_of batch.held sink.faults sink.bytes_after sink.faults_after) first tells.steady e stops)

@@ -1,9 +1,11 @@
 -- The rows of a batch, one after another.
-use Rattle.std.proofs.Common.{◌≡◌, ◌∙◌, ℕ, ◌+◌, ◌<◌, ◌≤◌, List, [], ◌∷◌, ◌++◌, length, Bool, true, false, sym, ap, subst, arith}
+use Rattle.std.proofs.Common.{◌≡◌, ◌∙◌, inl, inr, ℕ, ◌+◌, ◌<◌, ◌≤◌, List, [], ◌∷◌, ◌++◌, length, Bool, true, false, sym, ap, subst, arith}
 use Rattle.std.proofs.lemmas.Bool.{false≢true}
 use Rattle.std.proofs.lemmas.List.{append-nil, length-append}
+use Rattle.arrow_core.specs.declared.error.Error.{Error}
 use Rattle.ndjson_read.specs.Reading.{State}
-use Rattle.ndjson_avro.specs.BatchSteps.{BatchSoFar, NextRow, TakesSome}
+use Rattle.ndjson_read.proofs.RowLemmas.{takes_more}
+use Rattle.ndjson_avro.specs.BatchSteps.{BatchSoFar, NextRow, NoRow, NoRowsOf, TakesSome}
 use Rattle.ndjson_avro.specs.Taken.{TakesRows}
 use Rattle.ndjson_avro.proofs.Taking.{row_takes, takes_both, takes_none, takes_shown}
 
@@ -40,3 +42,9 @@ rows_end n a b c before after false is s (shows, same) = record {
   fewer = λ _. shows.fewer (omega arith);
   few = omega (arith, s.few, shows.takes.limit, ap length same);
 }
+
+-- no row came
+pub no_row_so_far : (n : ℕ) (a b c : State) (before : List (List ℕ)) (e : Error) → length before < n → BatchSoFar n a b before → NoRow b c e → NoRowsOf n a c e
+no_row_so_far n a b c before e below s (inl out) =
+    inl (record { is = out.is; taken = s.takes.taken ++ out.taken; takes = takes_more a b c s.takes.taken out.taken s.takes.takes out.takes })
+no_row_so_far n a b c before e below s (inr h) = inr (record { between = b; texts = before; takes = s.takes; wanted = below; fails = h })

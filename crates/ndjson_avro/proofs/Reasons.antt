@@ -25,7 +25,7 @@ use Rattle.ndjson_read.specs.Reading.{State}
 use Rattle.avro_container.specs.Changes.{change_of}
 use Rattle.ndjson_avro.specs.Batches.{BatchFails}
 use Rattle.ndjson_avro.specs.Rows.{lacks_value, rows_block, AreNotWritten, AreRefused}
-use Rattle.ndjson_avro.specs.Steps.{AreNotEncoded, AreNotRead, AreRead, EncodesRows, HoldOther, IsNotEncoded, IsRootOf}
+use Rattle.ndjson_avro.specs.Steps.{TextsRefused, AreNotRead, AreRead, EncodesRows, HasNonObject, RowsRefused, IsRootOf}
 use Rattle.ndjson_avro.specs.Target.{AreNamed, HasNoTarget}
 use Rattle.ndjson_avro.specs.BatchSteps.{NoRowsOf, TakesSome}
 use Rattle.ndjson_avro.specs.Values.{is_object}
@@ -41,7 +41,7 @@ no_record fields _ named h = absurd h
 -- ---- a block
 
 -- columns of the root are refused for a null alone, out of memory aside
-pub not_encoded : (root : Schema) (a : Array) (e : Error) → IsRootOf root (array_type a) → IsRefused root a e → IsNotEncoded root (array_slots a) e
+pub not_encoded : (root : Schema) (a : Array) (e : Error) → IsRootOf root (array_type a) → IsRefused root a e → RowsRefused root (array_slots a) e
 not_encoded root a (NotYetImplemented reason.SerializerPair) is h = absurd (h is.pairs)
 not_encoded root a (InvalidArgumentError reason.NullUnderRequired) is h = inr (refl, h.1)
 not_encoded root a (InvalidArgumentError reason.Interval) is h = absurd (false≢true (sym (none (array_slots a)) ∙ h.2))
@@ -60,17 +60,17 @@ not_read t root values Overflow is objects h = (objects, h.2, h.3)
 not_read t root values OutOfMemory is objects h = tt
 not_read t root values _ is objects h = absurd h
 
-pub other_value : (t : DataType) (root : Schema) (values : List Json) (e : Error) → HoldOther values e → AreNotWritten t root values e
+pub other_value : (t : DataType) (root : Schema) (values : List Json) (e : Error) → HasNonObject values e → AreNotWritten t root values e
 other_value t root values e h = subst (AreNotWritten t root values) (sym h.0) h.1
 
 -- texts that aren't read aren't written
-pub not_written_rows : (t : DataType) (root : Schema) (texts : List (List ℕ)) (e : Error) → IsRootOf root t → AreNotRead t texts e → AreNotEncoded t root texts e
+pub not_written_rows : (t : DataType) (root : Schema) (texts : List (List ℕ)) (e : Error) → IsRootOf root t → AreNotRead t texts e → TextsRefused t root texts e
 not_written_rows t root texts e is (inl (inl memory)) = inl memory
 not_written_rows t root texts e is (inl (inr first)) = inr (inl first)
 not_written_rows t root texts e is (inr (values, have, inl other)) = inr (inr (values, have, other_value t root values e other))
 not_written_rows t root texts e is (inr (values, have, inr h)) = inr (inr (values, have, not_read t root values e is h.0 h.1))
 
-pub lacks_a_value : (t : DataType) (root : Schema) (texts : List (List ℕ)) (slots : List Slot) (e : Error) → AreRead t texts slots → IsNotEncoded root slots e → AreNotEncoded t root texts e
+pub lacks_a_value : (t : DataType) (root : Schema) (texts : List (List ℕ)) (slots : List Slot) (e : Error) → AreRead t texts slots → RowsRefused root slots e → TextsRefused t root texts e
 lacks_a_value t root texts slots e read (inl memory) = inl memory
 lacks_a_value t root texts slots e read (inr h) = inr (inr (read.values, read.have, subst (AreNotWritten t root read.values) (sym h.0) (read.objects, (slots, read.meant, h.1))))
 
@@ -93,7 +93,7 @@ module _ (t : DataType) (root : Schema) (marker : List ℕ) (n : ℕ) (old new :
   no_batch e (inl memory) = inl (Keeps-refl held, inl memory)
   no_batch e (inr h) = inl (Keeps-refl held, inr (inl h))
 
-  pub not_written : (texts given : List (List ℕ)) (e : Error) → given ≡ texts → TakesSome n old new texts → AreNotEncoded t root given e → BatchFails t root marker n old new (change_of held faults held faults) e
-  not_written texts given e is takes (inl memory) = inl (Keeps-refl held, inl memory)
+  pub not_written : (texts given : List (List ℕ)) (e : Error) → given ≡ texts → TakesSome n old new texts → TextsRefused t root given e → BatchFails t root marker n old new (change_of held faults held faults) e
+  not_written texts given e is takes (inl memory) = inl (Keeps-refl held, inl (record { is = memory; taken = takes.takes.taken; takes = takes.takes.takes }))
   not_written texts given e is takes (inr h) =
       inl (Keeps-refl held, inr (inr (record { texts = texts; takes = takes.takes; most = takes.most; fewer = takes.fewer; why = subst (λ (z : List (List ℕ)). AreRefused t root z e) is h })))

@@ -1,4 +1,4 @@
--- What a conversion of lines into a file answers where the source tells its bytes, and of fields whose rows can't be
+-- What a conversion of lines into a file answers where the contract knows the source's bytes, and of fields whose rows can't be
 -- written.
 use Rattle.std.specs.Prelude.{◌≡◌, ◌≢◌, ◌⊎◌, ℕ, List, All, IsUtf8}
 use Rattle.arrow_core.specs.declared.error.Error.{Error}

@@ -2,11 +2,10 @@
 use Rattle.std.specs.Prelude.{◌≡◌, ◌⊎◌, ℕ, ◌+◌, ◌<◌, ◌≤◌, Bool, true, false, None, List, [], ◌∷◌, ◌++◌, length}
 use Rattle.std.specs.Io.KnownBytes.{IsAtEnd}
 use Rattle.arrow_core.specs.declared.error.Error.{Error}
-use Rattle.arrow_core.specs.declared.error.Error.TheVariants.{OutOfMemory}
 use Rattle.ndjson_read.specs.FileReader.{batch_of, failure_of, limit_of}
 use Rattle.ndjson_read.specs.declared.file_reader.FileReader.{FileReader}
 use Rattle.ndjson_read.specs.Reading.{State, ShowsRows, NoRows}
-use Rattle.ndjson_avro.specs.Taken.{RowsFail, TakesRows}
+use Rattle.ndjson_avro.specs.Taken.{RanOut, RowsFail, TakesRows}
 
 -- a reader of one row at a time, as many as there are, that has answered no error
 pub record IsOpen {S : Type 0} (reader : FileReader S) : Type 0 where
@@ -21,7 +20,7 @@ NextRow old new before after false = ShowsRows 1 old new [] × (after ≡ before
 
 -- why no row was taken
 abbrev pub NoRow : State → State → Error → Type 0
-NoRow old new e = (e ≡ OutOfMemory) ⊎ NoRows 1 old new e
+NoRow old new e = RanOut old new e ⊎ NoRows 1 old new e
 
 -- these rows were taken, n of them at most, and fewer only at the end of the source; each row took at least one byte of the limit
 pub record TakesSome (n : ℕ) (old new : State) (texts : List (List ℕ)) : Type 0 where
@@ -38,4 +37,4 @@ pub record BatchSoFar (n : ℕ) (old new : State) (texts : List (List ℕ)) : Ty
 
 -- why a batch of n rows wasn't taken
 abbrev pub NoRowsOf : ℕ → State → State → Error → Type 0
-NoRowsOf n old new e = (e ≡ OutOfMemory) ⊎ RowsFail n old new e
+NoRowsOf n old new e = RanOut old new e ⊎ RowsFail n old new e

@@ -4,7 +4,7 @@ use Rattle.std.specs.Prelude.{◌≡◌, ◌⊎◌, ℕ, ◌<◌, ◌≤◌, Lis
 use Rattle.std.specs.Io.KnownBytes.{Appends, IsAtEnd, Keeps}
 use Rattle.arrow_base.specs.Outside.{AppendsPrefix}
 use Rattle.arrow_core.specs.declared.error.Error.{Error}
-use Rattle.arrow_core.specs.declared.error.Error.TheVariants.{WriteFault, OutOfMemory}
+use Rattle.arrow_core.specs.declared.error.Error.TheVariants.{WriteFault}
 use Rattle.arrow_core.specs.declared.slot.Slot.{Slot}
 use Rattle.arrow_core.specs.declared.types.DataType.{DataType}
 use Rattle.avro_container.specs.Canonical.{canonical_block, canonical_blocks}
@@ -12,7 +12,7 @@ use Rattle.avro_schema.specs.declared.schema.Schema.{Schema}
 use Rattle.ndjson_read.specs.Reading.{State}
 use Rattle.avro_container.specs.Changes.{Change, change_of, Failed}
 use Rattle.ndjson_avro.specs.Rows.{all_rows, AreRefused, AreRows, rows_block, rows_blocks}
-use Rattle.ndjson_avro.specs.Taken.{RowsFail, TakesRows}
+use Rattle.ndjson_avro.specs.Taken.{RanOut, RowsFail, TakesRows}
 
 -- whole batches of n rows were taken and written, a block for each
 pub record WritesBatches (row_type : DataType) (root : Schema) (marker : List ℕ) (n : ℕ) (old new : State) (held held_after : Option (List ℕ)) (batches : List (List Slot)) : Type 0 where
@@ -30,7 +30,8 @@ pub record BatchRefused (row_type : DataType) (root : Schema) (n : ℕ) (old new
   pub fewer : length texts < n → IsAtEnd new.left
   pub why : AreRefused row_type root texts e
 
--- a batch of n rows was taken, or of fewer at the end of the source, one at least, and the sink failed after a prefix of its block
+-- a batch of n rows was taken, or of fewer at the end of the source, one at least, and the sink failed after a prefix of its
+-- block
 pub record BreaksOff (row_type : DataType) (root : Schema) (marker : List ℕ) (n : ℕ) (old new : State) (sink : Change) (e : Error) : Type 0 where
   pub is : e ≡ WriteFault
   pub texts : List (List ℕ)
@@ -46,7 +47,7 @@ pub record BreaksOff (row_type : DataType) (root : Schema) (marker : List ℕ) (
 -- why the next batch was not written; only a failing sink has taken any byte of its block
 abbrev pub BatchFails : DataType → Schema → List ℕ → ℕ → State → State → Change → Error → Type 0
 BatchFails row_type root marker n old new sink e =
-    (Keeps sink.bytes sink.bytes_after × ((e ≡ OutOfMemory) ⊎ (RowsFail n old new e ⊎ BatchRefused row_type root n old new e)))
+    (Keeps sink.bytes sink.bytes_after × (RanOut old new e ⊎ (RowsFail n old new e ⊎ BatchRefused row_type root n old new e)))
     ⊎ BreaksOff row_type root marker n old new sink e
 
 -- whole batches were written, and the next one was not

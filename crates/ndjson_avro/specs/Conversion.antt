@@ -18,8 +18,8 @@ use Rattle.ndjson_avro.specs.Rows.{all_rows, AreBatches, AreRows, rows_blocks}
 use Rattle.ndjson_avro.specs.Target.{HasNoTarget, HasTarget}
 
 -- All bytes of the source, no more than the limit, were taken. Their rows are the texts of objects, which are rows of these
--- fields, `count` of them. The sink got the canonical file of the fields' record and of these rows, n to a block. Of a source or a
--- sink that tells its bytes, these are the bytes.
+-- fields, `count` of them. The sink got the canonical file of the fields' record and of these rows, n to a block. Of a source or
+-- a sink whose bytes the contract knows, these are the bytes.
 pub record Converts (fields : List Field) (name marker : List ℕ) (n limit : ℕ) (source sink : Change) (count : ℕ) : Type 0 where
   pub target : Record
   pub has : HasTarget fields name target

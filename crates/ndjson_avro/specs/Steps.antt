@@ -16,7 +16,7 @@ use Rattle.avro_schema.specs.declared.schema.Record.{Record as TheRecord}
 use Rattle.avro_schema.specs.declared.schema.Schema.{Record, Schema}
 use Rattle.avro_write.specs.declared.flaws.Flaw.TheVariants as flaw
 use Rattle.avro_write.specs.Flaws.{shows}
-use Rattle.json_columns.specs.Names.{names_twice}
+use Rattle.json_flat.specs.Names.{names_twice}
 use Rattle.json_flat.specs.Reading.{has_reading, reading}
 use Rattle.json_flat.specs.Columns.{AreSlotsOf}
 use Rattle.json_columns.specs.Refusals.{IsRefusal}
@@ -75,22 +75,22 @@ abbrev pub AreNotParsed : List (List ℕ) → Error → Type 0
 AreNotParsed texts e = (e ≡ OutOfMemory) ⊎ FirstWithout texts e
 
 -- a value is no object
-abbrev pub HoldOther : List Json → Error → Type 0
-HoldOther values e = (e ≡ ExternalFormat reason.NotAnObject) × Any (λ value. is_object value ≡ false) values
+abbrev pub HasNonObject : List Json → Error → Type 0
+HasNonObject values e = (e ≡ ExternalFormat reason.NotAnObject) × Any (λ value. is_object value ≡ false) values
 
 -- why texts aren't read
 abbrev pub AreNotRead : DataType → List (List ℕ) → Error → Type 0
 AreNotRead row_type texts e =
     AreNotParsed texts e
-    ⊎ ((values : List Json) × AllZip IsJson values texts × (HoldOther values e ⊎ (All (λ value. is_object value ≡ true) values × IsRefusal row_type values e)))
+    ⊎ ((values : List Json) × AllZip IsJson values texts × (HasNonObject values e ⊎ (All (λ value. is_object value ≡ true) values × IsRefusal row_type values e)))
 
 -- why slots aren't encoded
-abbrev pub IsNotEncoded : Schema → List Slot → Error → Type 0
-IsNotEncoded root slots e = (e ≡ OutOfMemory) ⊎ ((e ≡ InvalidArgumentError reason.NullUnderRequired) × (lacks_value root slots ≡ true))
+abbrev pub RowsRefused : Schema → List Slot → Error → Type 0
+RowsRefused root slots e = (e ≡ OutOfMemory) ⊎ ((e ≡ InvalidArgumentError reason.NullUnderRequired) × (lacks_value root slots ≡ true))
 
 -- why rows aren't, the first reason that applies to all of them together; or out of memory
-abbrev pub AreNotEncoded : DataType → Schema → List (List ℕ) → Error → Type 0
-AreNotEncoded row_type root texts e = (e ≡ OutOfMemory) ⊎ AreRefused row_type root texts e
+abbrev pub TextsRefused : DataType → Schema → List (List ℕ) → Error → Type 0
+TextsRefused row_type root texts e = (e ≡ OutOfMemory) ⊎ AreRefused row_type root texts e
 
 -- the texts are rows, and this is their block
 pub record EncodesRows (row_type : DataType) (root : Schema) (texts : List (List ℕ)) (block : FileBlock) : Type 0 where

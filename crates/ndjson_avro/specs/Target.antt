@@ -8,7 +8,7 @@ use Rattle.arrow_core.specs.declared.types.Field.{Field}
 use Rattle.avro_schema.specs.declared.schema.Record.{Record}
 use Rattle.avro_types.specs.Named.{named_root}
 use Rattle.avro_types.specs.Schemas.{record_of}
-use Rattle.json_columns.specs.Names.{names_twice}
+use Rattle.json_flat.specs.Names.{names_twice}
 use Rattle.json_flat.specs.Reading.{has_reading}
 use Rattle.ndjson_avro.specs.Nulls.{holds_null}
 

@@ -75,7 +75,7 @@ fn read_row<S: Source>(alloc: Global, reader: &mut FileReader<S>, batch: &mut Ba
     ensures err { IfErr result (NoRow (state_of S.left S.faults reader.old)
         (state_of S.left S.faults reader.new)) }
     ensures open { OnOk result (IsOpen reader.new) }
-    ensures same { S.whose (source_of reader.new) ≡ S.whose (source_of reader.old) }
+    ensures same { S.identity (source_of reader.new) ≡ S.identity (source_of reader.old) }
 {
     reader.advance()?;
     match reader.get() {
@@ -101,7 +101,7 @@ fn read_rows<S: Source>(
     ensures err { IfErr result (NoRowsOf wanted (state_of S.left S.faults reader.old)
         (state_of S.left S.faults reader.new)) }
     ensures open { OnOk result (IsOpen reader.new) }
-    ensures same { S.whose (source_of reader.new) ≡ S.whose (source_of reader.old) }
+    ensures same { S.identity (source_of reader.new) ≡ S.identity (source_of reader.old) }
 {
     'rows: while batch.rows.len() < wanted {
         let more = read_row(alloc, reader, batch)?;
@@ -128,7 +128,7 @@ pub(crate) fn read_batch<S: Source>(
     ensures err { IfErr result (NoRowsOf wanted (state_of S.left S.faults reader.old)
         (state_of S.left S.faults reader.new)) }
     ensures open { OnOk result (IsOpen reader.new) }
-    ensures same { S.whose (source_of reader.new) ≡ S.whose (source_of reader.old) }
+    ensures same { S.identity (source_of reader.new) ≡ S.identity (source_of reader.old) }
 {
     batch.clear();
     read_rows(alloc, reader, batch, wanted)

@@ -9,7 +9,7 @@ ghost use Rattle.ndjson_avro.specs.BatchSteps.{IsOpen};
 
 use crate::batch::{Batch, read_batch};
 use crate::encoder::BlockEncoder;
-use crate::sizes::{tell_count, tell_size};
+use crate::sizes::{length_bound, tell_count};
 use arrow_base::{Result, Sink, Source};
 use avro_container::write_block;
 use ndjson_read::FileReader;
@@ -42,8 +42,8 @@ fn write_next<S: Source, K: Sink>(
     ensures lines { encoder.new.lines ≡ encoder.old.lines }
     ensures plan { encoder.new.plan ≡ encoder.old.plan }
     ensures never_falls_sink { K.faults sink.old ≤ K.faults sink.new }
-    ensures same { S.whose (source_of reader.new) ≡ S.whose (source_of reader.old) }
-    ensures same_sink { K.whose sink.new ≡ K.whose sink.old }
+    ensures same { S.identity (source_of reader.new) ≡ S.identity (source_of reader.old) }
+    ensures same_sink { K.identity sink.new ≡ K.identity sink.old }
 {
     read_batch(alloc, reader, batch, wanted)?;
     let texts = batch.rows.as_slice();
@@ -53,7 +53,7 @@ fn write_next<S: Source, K: Sink>(
     }
     encoder.fill_block(alloc, texts)?;
     tell_count(texts);
-    tell_size(encoder.block.bytes.as_slice());
+    length_bound(encoder.block.bytes.as_slice());
     write_block(sink, &encoder.block, marker)?;
     Ok(count)
 }
@@ -80,8 +80,8 @@ pub(crate) fn write_batches<S: Source, K: Sink>(
         (state_of S.left S.faults reader.old) (state_of S.left S.faults reader.new)
         (change_of (K.held sink.old) (K.faults sink.old) (K.held sink.new) (K.faults sink.new))) }
     ensures never_falls_sink { K.faults sink.old ≤ K.faults sink.new }
-    ensures same { S.whose (source_of reader.new) ≡ S.whose (source_of reader.old) }
-    ensures same_sink { K.whose sink.new ≡ K.whose sink.old }
+    ensures same { S.identity (source_of reader.new) ≡ S.identity (source_of reader.old) }
+    ensures same_sink { K.identity sink.new ≡ K.identity sink.old }
 {
     let mut batch = Batch::new(alloc);
     let mut count: u64 = 0;

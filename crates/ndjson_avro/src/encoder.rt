@@ -7,7 +7,7 @@ ghost use Rattle.avro_container.specs.File.{the_block};
 ghost use Rattle.avro_encode.specs.Pairs.{Pairs};
 ghost use Rattle.avro_schema.specs.declared.schema.Schema.{Schema as RootSchema};
 ghost use Rattle.ndjson_avro.specs.Rows.{lacks_value, rows_block};
-ghost use Rattle.ndjson_avro.specs.Steps.{AreBuildersOf, AreNotEncoded, EncodesRows, IsEncoderOf, IsNotEncoded, IsPlanFor, IsRootOf};
+ghost use Rattle.ndjson_avro.specs.Steps.{AreBuildersOf, TextsRefused, EncodesRows, IsEncoderOf, RowsRefused, IsPlanFor, IsRootOf};
 ghost use Rattle.ndjson_avro.specs.Target.{HasNoTarget};
 
 use crate::rows::read_array;
@@ -47,7 +47,7 @@ fn encode_rows(alloc: Global, rows: &Array, root: &AvroSchema, block: &mut Block
         ≡ rows_block root.now (array_slots rows.now)) }
     ensures complete { OnOk result (lacks_value root.now (array_slots rows.now) ≡ false) }
     ensures paired { OnOk result (All (Pairs root.now) (array_slots rows.now)) }
-    ensures err { IfErr result (IsNotEncoded root.now (array_slots rows.now)) }
+    ensures err { IfErr result (RowsRefused root.now (array_slots rows.now)) }
 {
     let serializer = new_serializer(alloc, rows, root)?;
     serialize(&mut [serializer], block)?;
@@ -117,7 +117,7 @@ impl BlockEncoder {
         ensures ok { OnOk result (EncodesRows self.old.row_type self.old.root rows.now
             (the_block self.new.block.number_of_rows self.new.block.bytes)) }
         ensures err { IfErr result
-            (AreNotEncoded self.old.row_type self.old.root rows.now) }
+            (TextsRefused self.old.row_type self.old.root rows.now) }
         ensures row_type { self.new.row_type ≡ self.old.row_type }
         ensures root { self.new.root ≡ self.old.root }
         ensures lines { self.new.lines ≡ self.old.lines }

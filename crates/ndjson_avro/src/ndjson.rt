@@ -59,7 +59,7 @@ pub fn ndjson_to_avro<S: Source, K: Sink>(
         (S.faults source.new))
         (change_of (K.held sink.old) (K.faults sink.old) (K.held sink.new) (K.faults sink.new))) }
     ensures never_falls_sink { K.faults sink.old ≤ K.faults sink.new }
-    ensures same_sink { K.whose sink.new ≡ K.whose sink.old }
+    ensures same_sink { K.identity sink.new ≡ K.identity sink.old }
 {
     let (mut encoder, target) = BlockEncoder::new(alloc, schema, name)?;
     write_file(
@@ -102,7 +102,7 @@ fn write_file<S: Source, K: Sink>(
         (S.faults source.new))
         (change_of (K.held sink.old) (K.faults sink.old) (K.held sink.new) (K.faults sink.new))) }
     ensures never_falls_sink { K.faults sink.old ≤ K.faults sink.new }
-    ensures same_sink { K.whose sink.new ≡ K.whose sink.old }
+    ensures same_sink { K.identity sink.new ≡ K.identity sink.old }
 {
     let mut texts = Vec::new(alloc);
     texts.push(Text::from_string(String::new(alloc)))?;

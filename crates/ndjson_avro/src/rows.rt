@@ -4,7 +4,7 @@ ghost use Rattle.std.specs.List.{AllZip};
 ghost use Rattle.arrow_array.specs.Arrays.{array_slots, array_type};
 ghost use Rattle.arrow_core.specs.declared.types.DataType.{Struct};
 ghost use Rattle.json_tree.specs.Meaning.{IsJson};
-ghost use Rattle.ndjson_avro.specs.Steps.{AreBuildersOf, AreNotParsed, AreNotRead, AreRead, HoldOther};
+ghost use Rattle.ndjson_avro.specs.Steps.{AreBuildersOf, AreNotParsed, AreNotRead, AreRead, HasNonObject};
 ghost use Rattle.ndjson_avro.specs.Values.{is_object as is_object_of, IsNoValue};
 
 use arrow_array::{Array, StructArray};
@@ -49,7 +49,7 @@ fn is_object(value: &Value) -> bool
 /// `NotAnObject` where one of the values is no object.
 fn check_objects(values: &[Value]) -> Result<()>
     ensures { MatchResult result (λ _. All (λ value. is_object_of value ≡ true) values.now)
-        (HoldOther values.now) }
+        (HasNonObject values.now) }
 {
     for value in values {
         if !is_object(value) {

@@ -4,7 +4,7 @@ ghost use Rattle.std.specs.Prelude.{◌<◌, ◌^◌, length};
 use arrow_base::Text;
 
 /// There are less than 2^63 bytes. It tells so of a slice, and does nothing.
-pub(crate) fn tell_size(_bytes: &[u8])
+pub(crate) fn length_bound(_bytes: &[u8])
     ensures { length _bytes.now < 2 ^ 63 }
 {}
 

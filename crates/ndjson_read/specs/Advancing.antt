@@ -7,7 +7,7 @@ use Rattle.ndjson_read.specs.declared.file_reader.FileReader.{FileReader}
 use Rattle.ndjson_read.specs.FileReader.{source_of, batch_of, limit_of, shown_of, failure_of, wanted_of, state_of}
 use Rattle.ndjson_read.specs.Reading.{ShowsRows, NoRows}
 
-module _ {S : Type 0} (left : S → Option (List ℕ)) (faults whose : S → ℕ) where
+module _ {S : Type 0} (left : S → Option (List ℕ)) (faults identity : S → ℕ) where
   -- one `advance`: what the reader was before, what was answered, and what it is after
   pub record Advances (before : FileReader S) (answer : Result (Unit {0}) Error) (after : FileReader S) : Type 0 where
     pub failed : IfSome (failure_of before) (λ e. (answer ≡ Ok tt) × (source_of after ≡ source_of before) × (shown_of after ≡ []) × (failure_of after ≡ Some e))
@@ -17,7 +17,7 @@ module _ {S : Type 0} (left : S → Option (List ℕ)) (faults whose : S → ℕ
     pub now : failure_of before ≡ None → MatchResult answer (λ _. failure_of after ≡ None) (λ e. failure_of after ≡ Some e)
     pub limit : limit_of after ≡ option_map (λ limit. limit - length (shown_of after)) (limit_of before)
     pub batch : batch_of after ≡ batch_of before
-    pub same : whose (source_of after) ≡ whose (source_of before)
+    pub same : identity (source_of after) ≡ identity (source_of before)
 
   -- a reference to the rows that are shown, if there are any
   abbrev pub AreShown : Option (Bor (List (List ℕ))) → FileReader S → Type 0

@@ -38,8 +38,9 @@ NoValue row OutOfMemory = Unit {0}
 NoValue row _ = ⊥
 
 module _ (number : Option ℕ) (byte_limit : ℕ) (old new : Told) where
-  -- The type of the first rows is answered. They are the first rows of the bytes that were taken, of which there is one at least. These
-  -- are whole lines with as many rows, or reach the end of the source; or no rows tell the type. The lines that are needed are UTF-8.
+  -- The type of the first rows is answered. They are the first rows of the bytes that were taken, of which there is one at
+  -- least. These are whole lines with as many rows, or reach the end of the source; or no rows tell the type. The lines that are
+  -- needed are UTF-8.
   pub record InfersType (data_type : DataType) : Type 0 where
     pub taken : List ℕ
     pub values : List Value
@@ -51,8 +52,8 @@ module _ (number : Option ℕ) (byte_limit : ℕ) (old new : Told) where
     pub enough : ((number ≡ Some (length values)) × (EndsLine taken ⊎ (number ≡ Some 0))) ⊎ IsAtEnd new.left
     pub inferred : data_type ≡ type_of_rows values
 
-  -- a read failed within the line of this number, counted from 1, or before its first byte; no line was begun that wasn't needed, nor
-  -- would the next byte have begun one
+  -- a read failed within the line of this number, counted from 1, or before its first byte; no line was begun that wasn't
+  -- needed, nor would the next byte have begun one
   pub record ReadFails (line : ℕ) : Type 0 where
     pub taken : List ℕ
     pub takes : TakesBytes byte_limit old new taken
@@ -111,8 +112,9 @@ module _ (number : Option ℕ) (byte_limit : ℕ) (old new : Told) where
   NoType OutOfMemory = NoMemory
   NoType _ = ⊥
 
-  -- Where the source tells its bytes, of which there is one at least, and didn't fail, and where the lines that are read have no more
-  -- bytes than the limit, are UTF-8, and have rows that stand for these values, the answer is their type, or there was no memory.
+  -- Where the contract knows the source's bytes, of which there is one at least, and didn't fail, and where the lines that are
+  -- read have no more bytes than the limit, are UTF-8, and have rows that stand for these values, the answer is their type, or
+  -- there was no memory.
   abbrev pub IsComplete : Result DataType Error → Type 0
   IsComplete result =
       (bytes : List ℕ) (values : List Value) → old.left ≡ Some bytes → 0 < length bytes → 0 < byte_limit → new.faults ≡ old.faults → new.faults < last_count

@@ -46,7 +46,7 @@ fn read_batch<S: Source>(
     ensures err { IfErr result (NoRows wanted
         (line_state S.left S.faults lines.old) (line_state S.left S.faults lines.new)) }
     ensures len { vec_len rows.new ≡ vec_len rows.old }
-    ensures same { S.whose lines.new.source ≡ S.whose lines.old.source }
+    ensures same { S.identity lines.new.source ≡ S.identity lines.old.source }
 {
     let shown = read_rows(alloc, lines, rows, wanted)?;
     Ok(shown)
@@ -123,7 +123,7 @@ impl<S: Source> FileReader<S> {
         ensures limit { limit_of self.new
             ≡ option_map (λ limit. limit - length (shown_of self.new)) (limit_of self.old) }
         ensures batch { batch_of self.new ≡ batch_of self.old }
-        ensures same { S.whose (source_of self.new) ≡ S.whose (source_of self.old) }
+        ensures same { S.identity (source_of self.new) ≡ S.identity (source_of self.old) }
     {
         self.shown = 0;
         if self.failed.is_some() {

@@ -50,7 +50,7 @@ impl<S: Source> LineSource<S> {
         ensures err { IfErr result (NoBytes (state_of S.left S.faults self.old)
             (state_of S.left S.faults self.new)) }
         ensures lines { self.new.lines ≡ self.old.lines }
-        ensures same { S.whose self.new.source ≡ S.whose self.old.source }
+        ensures same { S.identity self.new.source ≡ S.identity self.old.source }
     {
         let most = (self.limit as usize).saturating_add(1);
         match self.source.read_through(b'\n', most, line) {
@@ -82,7 +82,7 @@ impl<S: Source> LineSource<S> {
             line.new.items) }
         ensures err { IfErr result (NoLine (state_of S.left S.faults self.old)
             (state_of S.left S.faults self.new)) }
-        ensures same { S.whose self.new.source ≡ S.whose self.old.source }
+        ensures same { S.identity self.new.source ≡ S.identity self.old.source }
     {
         line.clear();
         while let Some(byte) = self.push_bytes(line)? {
@@ -124,7 +124,7 @@ fn read_text<S: Source>(alloc: Global, source: &mut LineSource<S>, text: &mut Te
     ensures is_row { IfOk result (λ line. line.is_row ≡ is_row text.new) }
     ensures err { IfErr result (NoLine (state_of S.left S.faults source.old)
         (state_of S.left S.faults source.new)) }
-    ensures same { S.whose source.new.source ≡ S.whose source.old.source }
+    ensures same { S.identity source.new.source ≡ S.identity source.old.source }
 {
     let empty = Text::from_string(String::new(alloc));
     let mut bytes = mem::replace(text, empty).into_string().into_bytes();
@@ -150,7 +150,7 @@ pub(crate) fn read_rows<S: Source>(
         (take n rows.new)) }
     ensures err { IfErr result (NoRows wanted
         (state_of S.left S.faults source.old) (state_of S.left S.faults source.new)) }
-    ensures same { S.whose source.new.source ≡ S.whose source.old.source }
+    ensures same { S.identity source.new.source ≡ S.identity source.old.source }
 {
     let mut n = 0;
     let mut more = true;

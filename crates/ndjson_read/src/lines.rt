@@ -40,7 +40,7 @@ fn add_row<S: Source>(
         (state_of S.left S.faults reader.old) (state_of S.left S.faults reader.new)) }
     ensures open { OnOk result (failure_of reader.new ≡ None) }
     ensures batch { batch_of reader.new ≡ 1 }
-    ensures same { S.whose (source_of reader.new) ≡ S.whose (source_of reader.old) }
+    ensures same { S.identity (source_of reader.new) ≡ S.identity (source_of reader.old) }
 {
     reader.advance()?;
     match reader.get() {
@@ -71,7 +71,7 @@ fn infer_into<S: Source>(
     ensures err { IfErr result (NoType (limit_of reader.old) (byte_limit_of reader.old)
         (told_of S.left S.faults (source_of reader.old))
         (told_of S.left S.faults (source_of reader.new))) }
-    ensures same { S.whose (source_of reader.new) ≡ S.whose (source_of reader.old) }
+    ensures same { S.identity (source_of reader.new) ≡ S.identity (source_of reader.old) }
 {
     let mut more = true;
     while more {
@@ -95,7 +95,7 @@ fn infer_rows<S: Source>(alloc: Global, reader: &mut FileReader<S>) -> Result<Da
     ensures err { IfErr result (NoType (limit_of reader.old) (byte_limit_of reader.old)
         (told_of S.left S.faults (source_of reader.old))
         (told_of S.left S.faults (source_of reader.new))) }
-    ensures same { S.whose (source_of reader.new) ≡ S.whose (source_of reader.old) }
+    ensures same { S.identity (source_of reader.new) ≡ S.identity (source_of reader.old) }
 {
     let mut types = RowTypes::new(alloc);
     infer_into(alloc, reader, &mut types)

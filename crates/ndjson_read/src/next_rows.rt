@@ -12,7 +12,7 @@ impl<S: Source> FileReader<S> {
     /// errors are those of `advance`.
     pub fn next(&mut self) -> Result<Option<&[Text]>>
         ensures* advances { sem 𝓛 (Rests (reader_row S.row) self.entry
-            (λ after. AdvancesNext S.left S.faults S.whose self.old result after)) }
+            (λ after. AdvancesNext S.left S.faults S.identity self.old result after)) }
     {
         self.advance()?;
         Ok(self.get())

@@ -21,5 +21,5 @@ pub record Reserved (n : ℕ) (c d : MutableArray) : Type 0 where
 abbrev pub invariant-structs::reserve_all-loop-i : goal.invariant-structs::reserve_all-loop-i
 invariant-structs::reserve_all-loop-i l = record {
   kept : goal.unvisited-structs::reserve_all-loop-i l;
-  each : Upto (Reserved l.bytes) l.i l.fn.children l.children;
+  each : Upto (Reserved l.additional) l.i l.fn.children l.children;
 }

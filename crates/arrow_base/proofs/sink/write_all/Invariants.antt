@@ -6,7 +6,7 @@ abbrev pub invariant-loop-rest : goal.invariant-loop-rest
 invariant-loop-rest g l = record {
   underway : Underway (g.K.Sink.held l.fn.sink) (g.K.Sink.held l.sink) l.fn.bytes l.rest;
   never_falls : g.K.Sink.faults l.fn.sink ≤ g.K.Sink.faults l.sink;
-  same : g.K.Sink.whose l.sink ≡ g.K.Sink.whose l.fn.sink;
+  same : g.K.Sink.identity l.sink ≡ g.K.Sink.identity l.fn.sink;
 }
 
 abbrev pub decreases-loop-rest : goal.decreases-loop-rest

@@ -8,7 +8,7 @@ invariant-loop-plain g l = record {
   underway : Underway (g.K.Sink.held l.fn.sink) (g.K.Sink.held l.sink) (flat_map escaped l.fn.text) (flat_map escaped l.rest);
   fits : length l.rest < 2 ^ 64;
   never_falls : g.K.Sink.faults l.fn.sink ≤ g.K.Sink.faults l.sink;
-  same : g.K.Sink.whose l.sink ≡ g.K.Sink.whose l.fn.sink;
+  same : g.K.Sink.identity l.sink ≡ g.K.Sink.identity l.fn.sink;
 }
 
 abbrev pub decreases-loop-plain : goal.decreases-loop-plain

@@ -1,5 +1,5 @@
-use Rattle.arrow_convert.proofs.ReadNumbers.{rewritten_is_writable}
 use Rattle.arrow_convert.proofs.RewrittenAgain.{rewritten_is_file}
+use Rattle.arrow_convert.proofs.RewrittenWritable.{rewritten_is_writable}
 use Rattle.arrow_convert.proofs.laws.rewritten_file.Goals as goal
 
 pub returns-clause-file : goal.returns-clause-file

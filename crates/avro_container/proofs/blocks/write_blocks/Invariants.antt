@@ -16,6 +16,6 @@ invariant-loop-buffers g l = record {
   few : l.count + limit_of l.reader ≤ limit_of l.fn.reader;
   never_falls : g.S.Source.faults (source_of l.fn.reader) ≤ g.S.Source.faults (source_of l.reader);
   never_falls_sink : g.K.Sink.faults l.fn.sink ≤ g.K.Sink.faults l.sink;
-  same : g.S.Source.whose (source_of l.reader) ≡ g.S.Source.whose (source_of l.fn.reader);
-  same_sink : g.K.Sink.whose l.sink ≡ g.K.Sink.whose l.fn.sink;
+  same : g.S.Source.identity (source_of l.reader) ≡ g.S.Source.identity (source_of l.fn.reader);
+  same_sink : g.K.Sink.identity l.sink ≡ g.K.Sink.identity l.fn.sink;
 }

@@ -14,5 +14,5 @@ invariant-loop-index g l = record {
   so_far : Many entry.whole l.index taken entries;
   schema : l.found.schema ≡ last_of (codes "avro.schema") l.fn.found.schema entries;
   codec : l.found.codec ≡ last_of (codes "avro.codec") l.fn.found.codec entries;
-  same : g.S.Source.whose l.source ≡ g.S.Source.whose l.fn.source;
+  same : g.S.Source.identity l.source ≡ g.S.Source.identity l.fn.source;
 }

@@ -13,7 +13,7 @@ invariant-loop-count g l = record {
   schema : l.found.schema ≡ last_of (codes "avro.schema") l.fn.found.schema entries;
   codec : l.found.codec ≡ last_of (codes "avro.codec") l.fn.found.codec entries;
   size_left : l.allowed.size_left ≡ None;
-  same : g.S.Source.whose l.source ≡ g.S.Source.whose l.fn.source;
+  same : g.S.Source.identity l.source ≡ g.S.Source.identity l.fn.source;
 }
 
 abbrev pub decreases-loop-count : goal.decreases-loop-count

@@ -8,7 +8,7 @@ invariant-loop-at g l = record {
   at : l.at ≤ vec_len l.bytes;
   within : vec_len l.bytes ≤ l.n;
   grown : vec_len l.bytes ≤ max (vec_len l.fn.bytes) (l.fn.allowed.limit - l.allowed.limit + 65536);
-  same : g.S.Source.whose l.source ≡ g.S.Source.whose l.fn.source;
+  same : g.S.Source.identity l.source ≡ g.S.Source.identity l.fn.source;
 }
 
 abbrev pub decreases-loop-at : goal.decreases-loop-at

@@ -9,7 +9,7 @@ invariant-loop-byte g l = record {
   takes : Takes (state (g.S.Source.left l.fn.source) (g.S.Source.faults l.fn.source) l.fn.allowed.limit l.fn.allowed.size_left) (state (g.S.Source.left l.source) (g.S.Source.faults l.source) l.allowed.limit l.allowed.size_left) taken;
   underway : Underway taken l.unsigned l.index;
   below : l.index < 10;
-  same : g.S.Source.whose l.source ≡ g.S.Source.whose l.fn.source;
+  same : g.S.Source.identity l.source ≡ g.S.Source.identity l.fn.source;
 }
 
 abbrev pub decreases-loop-byte : goal.decreases-loop-byte

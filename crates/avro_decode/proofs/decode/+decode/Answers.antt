@@ -1,16 +1,16 @@
 use Rattle.std.proofs.Common.{◌≡◌, ◌∙◌, ◌-◌, ◌+◌, suc, ◌≤◌, List as ListOf, length, map, get_or, refl, sym, ap, subst, arith, rules, true, false, Bool, pos, w64}
 use mir.Val.{SFits}
 use Rattle.std.proofs.lemmas.Int.{to_z-of_z}
-use Rattle.avro_decode.proofs.Signed.{is_zero, not_is, not_as, block_none, block_positive_as, block_negative_as}
+use Rattle.avro_decode.proofs.Signed.{block_none, block_positive_as, block_negative_as}
 use Rattle.std.proofs.Common.{add-one, Some}
 use denote.Param.Weighed.{at_most}
 use Rattle.avro_schema.proofs.schema.AvroField.TheLaws.{the_size as field_size}
 use Rattle.avro_schema.proofs.schema.Schema.TheLaws.{the_size}
-use Rattle.avro_decode.proofs.Fields.{shapes_length, two_of}
-use Rattle.avro_decode.proofs.Members.{has_kind, has_flat_kind, no_list, list_grown, list_spare_below, members_size, same_at, record_kind, union_suits, union_reach, union_grows, union_spare, union_gives, union_size, record_suits, record_is_tight, record_reaches, record_grown, record_spare_below, record_given}
+use Rattle.avro_decode.proofs.Fields.{shapes_length}
+use Rattle.avro_decode.proofs.Members.{has_kind, has_flat_kind, no_list, list_grown, list_spare_below, record_kind, union_suits, union_reach, union_grows, union_spare, union_gives, union_size, record_suits, record_is_tight, record_reaches, record_grown, record_spare_below, record_given}
 use Rattle.avro_schema.specs.declared.schema.Schema.TheViews.{the_lemmas}
 use Rattle.arrow_builders.specs.declared.array.MutableArray.TheViews.{the_lemmas as builder_lemmas}
-use Rattle.std.proofs.lemmas.List.{length-map}
+use Rattle.std.proofs.lemmas.List.{length-map, get_or_default}
 use Rattle.std.proofs.lemmas.Result.{err_from_is_err_and}
 use Rattle.std.proofs.Math.Seq.{map-set_same}
 use Rattle.arrow_builders.specs.MutableArrays.{builder_slots, nodes}
@@ -37,6 +37,8 @@ use Rattle.avro_decode.proofs.Reading.{blocks-next, blocks-end, blocks-no_count,
 use Rattle.arrow_builders.proofs.Rows.{shape_same}
 use Rattle.avro_decode.proofs.Suited.{mask_fewer, null_grows, null_fits}
 use Rattle.avro_decode.proofs.Pairs.{pair_gives, pair_bad, first_no_union, second_no_union}
+use Rattle.avro_skip.proofs.Unions.{two_of, members_size}
+use Rattle.avro_skip.proofs.Signed.{is_zero, not_is, not_as}
 use Rattle.avro_decode.proofs.decode.+decode.Goals as goal
 
 -- ---- arrays
@@ -84,7 +86,7 @@ decode_array-returns-clause-keeps g t c =
     record {
       same_shape = search rules;
       tight = search rules;
-      grows = list_grows c.args.item.now 1 _ _ _ _ _ c.pushed_list.ensures.takes (omega (arith, s)) (subst (λ (b : MutableArray). Grows (mask false c.args.item.now) (passed (g.C.Ahead.rest c.args.cursor.now) (g.C.Ahead.rest c.decode_blocks.new.cursor)) (nodes c.args.lists.now.values.value) (nodes b)) (sym (ap (λ v. v.value) c.pushed_list.ensures.values)) (rw c.mut_values.ensures.value at k.grows));
+      grows = list_grows c.args.item.now 1 _ _ _ _ _ c.pushed_list.ensures.takes (omega (arith, s)) (subst (λ (b : MutableArray). Grows (mask false c.args.item.now) (passed (g.C.ByteReader.rest c.args.cursor.now) (g.C.ByteReader.rest c.decode_blocks.new.cursor)) (nodes c.args.lists.now.values.value) (nodes b)) (sym (ap (λ v. v.value) c.pushed_list.ensures.values)) (rw c.mut_values.ensures.value at k.grows));
       has_capacity = search rules;
       same = k.same;
       moves = k.moves;
@@ -140,7 +142,7 @@ decode_large_array-returns-clause-keeps g t c =
     record {
       same_shape = search rules;
       tight = search rules;
-      grows = list_grows c.args.item.now 1 _ _ _ _ _ c.pushed_large_list.ensures.takes (omega (arith, s)) (subst (λ (b : MutableArray). Grows (mask false c.args.item.now) (passed (g.C.Ahead.rest c.args.cursor.now) (g.C.Ahead.rest c.decode_blocks.new.cursor)) (nodes c.args.lists.now.values.value) (nodes b)) (sym (ap (λ v. v.value) c.pushed_large_list.ensures.values)) (rw c.mut_values.ensures.value at k.grows));
+      grows = list_grows c.args.item.now 1 _ _ _ _ _ c.pushed_large_list.ensures.takes (omega (arith, s)) (subst (λ (b : MutableArray). Grows (mask false c.args.item.now) (passed (g.C.ByteReader.rest c.args.cursor.now) (g.C.ByteReader.rest c.decode_blocks.new.cursor)) (nodes c.args.lists.now.values.value) (nodes b)) (sym (ap (λ v. v.value) c.pushed_large_list.ensures.values)) (rw c.mut_values.ensures.value at k.grows));
       has_capacity = search rules;
       same = k.same;
       moves = k.moves;
@@ -277,7 +279,7 @@ decode_fields-decode_value-requires g t c κs within =
     let d = c.decreases in
     let suits = subst (λ (x : MutableArray). Suits (get_or fs i f).schema (shape x)) (sym v) (suit_at fs bs i f b lt us) in
     let tight = subst IsTight (sym v) (part_at _ i bs b inv.tight (omega (arith, n, lt))).1 in
-    let reach = subst (λ (x : MutableArray). AllOffsetsReach (mask true (get_or fs i f).schema) (length (g.C.Ahead.rest c.loop-i.cursor)) x) (sym v) (reach_at _ fs bs i f b n lt (children_reach _ _ fs _ bs inv.shapes inv.forward inv.grows.each c.requires.offsets)) in
+    let reach = subst (λ (x : MutableArray). AllOffsetsReach (mask true (get_or fs i f).schema) (length (g.C.ByteReader.rest c.loop-i.cursor)) x) (sym v) (reach_at _ fs bs i f b n lt (children_reach _ _ fs _ bs inv.shapes inv.forward inv.grows.each c.requires.offsets)) in
     (omega arith, (within.0, (within.1, (has_kind (get_or fs i f).schema b suits, (suits, (tight, reach))))))
 
 pub decode_fields-returns-in_err-decode_value-clause-shapes : goal.decode_fields-returns-in_err-decode_value-clause-shapes
@@ -298,8 +300,8 @@ decode_fields-returns-in_err-decode_value-clause-grows g t c =
     let n = suit_length fs bs us in
     let lt = c.loop-i-test.true in
     let e = c.in_err-decode_value.ensures.keeps in
-    let one : Grows (mask false (get_or fs i f).schema) (passed (g.C.Ahead.rest c.loop-i.cursor) (g.C.Ahead.rest c.decode_value.new.cursor)) (nodes (get_or bs i b)) (nodes c.decode_value.new.builder) =
-    subst (λ (x : MutableArray). Grows (mask false (get_or fs i f).schema) (passed (g.C.Ahead.rest c.loop-i.cursor) (g.C.Ahead.rest c.decode_value.new.cursor)) (nodes x) (nodes c.decode_value.new.builder)) v e.grows in
+    let one : Grows (mask false (get_or fs i f).schema) (passed (g.C.ByteReader.rest c.loop-i.cursor) (g.C.ByteReader.rest c.decode_value.new.cursor)) (nodes (get_or bs i b)) (nodes c.decode_value.new.builder) =
+    subst (λ (x : MutableArray). Grows (mask false (get_or fs i f).schema) (passed (g.C.ByteReader.rest c.loop-i.cursor) (g.C.ByteReader.rest c.decode_value.new.cursor)) (nodes x) (nodes c.decode_value.new.builder)) v e.grows in
     children_then _ _ _ fs _ bs _ inv.forward e.moves.forward inv.grows (children_set _ fs bs i f b c.decode_value.new.builder n lt one)
 
 pub decode_fields-returns-in_err-decode_value-clause-has_capacity : goal.decode_fields-returns-in_err-decode_value-clause-has_capacity
@@ -315,7 +317,7 @@ decode_fields-returns-in_err-decode_value-clause-has_capacity g t c = λ h.
     let n = suit_length fs bs us in
     let lt = c.loop-i-test.true in
     let p = err_from_is_err_and c.from_residual.result c.from_residual.ensures.1 in
-    let spare = subst (λ (x : MutableArray). HaveSpare (mask false (get_or fs i f).schema) (length (g.C.Ahead.rest c.loop-i.cursor)) (nodes x)) (sym v) (spare_at _ fs bs i f b n lt (children_spare _ _ fs _ bs inv.forward inv.grows.each h)) in
+    let spare = subst (λ (x : MutableArray). HaveSpare (mask false (get_or fs i f).schema) (length (g.C.ByteReader.rest c.loop-i.cursor)) (nodes x)) (sym v) (spare_at _ fs bs i f b n lt (children_spare _ _ fs _ bs inv.forward inv.grows.each h)) in
     rw (p.1, p.2) (c.in_err-decode_value.ensures.keeps.has_capacity spare)
 
 pub decode_fields-returns-in_err-decode_value-clause-moves : goal.decode_fields-returns-in_err-decode_value-clause-moves
@@ -336,7 +338,7 @@ decode_fields-returns-in_err-decode_value-clause-reads g t c =
     let n = suit_length fs bs us in
     let lt = c.loop-i-test.true in
     let p = err_from_is_err_and c.from_residual.result c.from_residual.ensures.1 in
-    rw (p.1, p.2) (field_fault fs i (get_or fs i f) lt (same_at fs i f (get_or fs i f) lt) _ _ _ _ _ _ inv.reads c.in_err-decode_value.ensures.reads)
+    rw (p.1, p.2) (field_fault fs i (get_or fs i f) lt (get_or_default fs i f (get_or fs i f) lt) _ _ _ _ _ _ inv.reads c.in_err-decode_value.ensures.reads)
 
 pub decode_fields-loop-i-preserved : goal.decode_fields-loop-i-preserved
 decode_fields-loop-i-preserved g t c =
@@ -352,11 +354,11 @@ decode_fields-loop-i-preserved g t c =
     let lt = c.loop-i-test.true in
     let e = c.in_ok-decode_value.ensures in
     let kept = e.keeps in
-    let one : Grows (mask false (get_or fs i f).schema) (passed (g.C.Ahead.rest c.loop-i.cursor) (g.C.Ahead.rest c.decode_value.new.cursor)) (nodes (get_or bs i b)) (nodes c.decode_value.new.builder) =
-    subst (λ (x : MutableArray). Grows (mask false (get_or fs i f).schema) (passed (g.C.Ahead.rest c.loop-i.cursor) (g.C.Ahead.rest c.decode_value.new.cursor)) (nodes x) (nodes c.decode_value.new.builder)) v kept.grows in
+    let one : Grows (mask false (get_or fs i f).schema) (passed (g.C.ByteReader.rest c.loop-i.cursor) (g.C.ByteReader.rest c.decode_value.new.cursor)) (nodes (get_or bs i b)) (nodes c.decode_value.new.builder) =
+    subst (λ (x : MutableArray). Grows (mask false (get_or fs i f).schema) (passed (g.C.ByteReader.rest c.loop-i.cursor) (g.C.ByteReader.rest c.decode_value.new.cursor)) (nodes x) (nodes c.decode_value.new.builder)) v kept.grows in
     let k = length-map c.args.records.now.values.items builder_slots in
     let s = suit_length fs _ c.requires.suits in
-    let r = subst (λ (x : MutableArray). push_one (builder_slots x) (read (get_or fs i f).schema (g.C.Ahead.rest c.loop-i.cursor)) ≡ Some (builder_slots c.decode_value.new.builder, g.C.Ahead.rest c.decode_value.new.cursor)) v e.reads in
+    let r = subst (λ (x : MutableArray). push_one (builder_slots x) (read (get_or fs i f).schema (g.C.ByteReader.rest c.loop-i.cursor)) ≡ Some (builder_slots c.decode_value.new.builder, g.C.ByteReader.rest c.decode_value.new.cursor)) v e.reads in
     let l = push_length _ _ _ _ r in
     let t = part_at _ i bs b inv.tight (omega (arith, n, lt)) in
     let after = part_next _ i bs c.decode_value.new.builder inv.tight (omega (arith, n, lt)) (omega (arith, l, t.0)) kept.tight in
@@ -369,7 +371,7 @@ decode_fields-loop-i-preserved g t c =
       shorter = omega (arith, e.shorter, inv.shorter);
       grows = children_then _ _ _ fs _ bs _ inv.forward kept.moves.forward inv.grows (children_set _ fs bs i f b c.decode_value.new.builder n lt one);
       costs = kept_then _ _ _ _ _ _ inv.forward kept.moves.forward inv.costs kept.costs;
-      reads = field_step fs i (get_or fs i f) lt (same_at fs i f (get_or fs i f) lt) bs b c.decode_value.new.builder _ _ _ _ (omega (arith, n, lt)) (omega (arith, k, s, n)) inv.reads r;
+      reads = field_step fs i (get_or fs i f) lt (get_or_default fs i f (get_or fs i f) lt) bs b c.decode_value.new.builder _ _ _ _ (omega (arith, n, lt)) (omega (arith, k, s, n)) inv.reads r;
     }
 
 pub decode_fields-returns-clause-tight : goal.decode_fields-returns-clause-tight
@@ -449,7 +451,7 @@ decode_member-returns-then-null-clause-keeps g t c =
 
 pub decode_member-returns-then-null-clause-reads : goal.decode_member-returns-then-null-clause-reads
 decode_member-returns-then-null-clause-reads g t c =
-    null_gives c.pushed.result c.push_null.result c.args.null c.args.schema.now (builder_slots c.args.builder.now) (builder_slots c.push_null.new.self) (g.C.Ahead.rest c.args.cursor.now) c.if-null.true c.pushed.ensures.ok c.pushed.ensures.err c.push_null.ensures.ok
+    null_gives c.pushed.result c.push_null.result c.args.null c.args.schema.now (builder_slots c.args.builder.now) (builder_slots c.push_null.new.self) (g.C.ByteReader.rest c.args.cursor.now) c.if-null.true c.pushed.ensures.ok c.pushed.ensures.err c.push_null.ensures.ok
 
 pub decode_member-returns-else-null-clause-keeps : goal.decode_member-returns-else-null-clause-keeps
 decode_member-returns-else-null-clause-keeps g t c =
@@ -509,8 +511,8 @@ decode_record-returns-clause-keeps g t c =
     let e = c.in_ok-decode_fields.ensures in
     let q = c.try_push_valid.ensures in
     let b = c.args.records.now in
-    let x = g.C.Ahead.rest c.args.cursor.now in
-    let y = g.C.Ahead.rest c.decode_fields.new.cursor in
+    let x = g.C.ByteReader.rest c.args.cursor.now in
+    let y = g.C.ByteReader.rest c.decode_fields.new.cursor in
     let s = e.shorter in
     let some = c.requires.some in
     let k : ChildrenGrow (passed x y) c.args.fields.now b.values.items c.try_push_valid.new.self.values.items = subst (λ v. ChildrenGrow (passed x y) c.args.fields.now b.values.items v.items) (sym q.values) e.grows in
@@ -571,7 +573,7 @@ decode_union-decode_pair-requires g t c κs within =
     let d = c.decreases in
     let m = members_size ms a b two in
     let n = c.in-Some.ensures.costs.shorter in
-    let r : AllOffsetsReach (mask true b) (length (g.C.Ahead.rest c.args.cursor.now)) c.args.builder.now = subst (λ (xs : ListOf Bool). AllOffsetsReach xs (length (g.C.Ahead.rest c.args.cursor.now)) c.args.builder.now) s.1 c.requires.offsets in
+    let r : AllOffsetsReach (mask true b) (length (g.C.ByteReader.rest c.args.cursor.now)) c.args.builder.now = subst (λ (xs : ListOf Bool). AllOffsetsReach xs (length (g.C.ByteReader.rest c.args.cursor.now)) c.args.builder.now) s.1 c.requires.offsets in
     (omega arith, (within.0, (within.1, (second_no_union ms a b _ two (c.is_null.ensures.0 c.if-is_null.true) c.requires.suits, (s.0, (c.requires.tight, offsets_less (mask true b) _ _ c.args.builder.now (omega (arith, n)) r))))))
 
 pub decode_union-decode_pair-requires-else-is_null : goal.decode_union-decode_pair-requires-else-is_null
@@ -584,7 +586,7 @@ decode_union-decode_pair-requires-else-is_null g t c κs within =
     let d = c.decreases in
     let m = members_size ms a b two in
     let n = c.in-Some.ensures.costs.shorter in
-    let r : AllOffsetsReach (mask true a) (length (g.C.Ahead.rest c.args.cursor.now)) c.args.builder.now = subst (λ (xs : ListOf Bool). AllOffsetsReach xs (length (g.C.Ahead.rest c.args.cursor.now)) c.args.builder.now) s.1 c.requires.offsets in
+    let r : AllOffsetsReach (mask true a) (length (g.C.ByteReader.rest c.args.cursor.now)) c.args.builder.now = subst (λ (xs : ListOf Bool). AllOffsetsReach xs (length (g.C.ByteReader.rest c.args.cursor.now)) c.args.builder.now) s.1 c.requires.offsets in
     (omega arith, (within.0, (within.1, (first_no_union ms a b _ two (λ h. let q : true ≡ false = sym (c.is_null.ensures.1 h) ∙ c.if-is_null.false in absurd cc) c.requires.suits, (s.0, (c.requires.tight, offsets_less (mask true a) _ _ c.args.builder.now (omega (arith, n)) r))))))
 
 pub decode_union-returns-then-is_null-clause-keeps : goal.decode_union-returns-then-is_null-clause-keeps
@@ -652,7 +654,7 @@ decode_no_union-decode_record-requires g t c κs within =
 pub decode_no_union-returns-in-Struct-clause-keeps : goal.decode_no_union-returns-in-Struct-clause-keeps
 decode_no_union-returns-in-Struct-clause-keeps g t c =
     let e = c.decode_record.ensures.keeps in
-    let k : Grows (mask false c.args.schema.now) (passed (g.C.Ahead.rest c.args.cursor.now) (g.C.Ahead.rest c.decode_record.new.cursor)) (nodes c.args.builder.now) (nodes (Struct c.decode_record.new.records)) = record_grown c.args.schema.now c.in-Record.record c.as_slice.result.now c.args.builder.now c.in-Struct.records _ c.in-Record.is c.in-Struct.is c.in-Struct.records-is c.as_slice.ensures _ _ e.grows in
+    let k : Grows (mask false c.args.schema.now) (passed (g.C.ByteReader.rest c.args.cursor.now) (g.C.ByteReader.rest c.decode_record.new.cursor)) (nodes c.args.builder.now) (nodes (Struct c.decode_record.new.records)) = record_grown c.args.schema.now c.in-Record.record c.as_slice.result.now c.args.builder.now c.in-Struct.records _ c.in-Record.is c.in-Struct.is c.in-Struct.records-is c.as_slice.ensures _ _ e.grows in
     record {
       same_shape = search rules;
       tight = search rules;
@@ -665,13 +667,13 @@ decode_no_union-returns-in-Struct-clause-keeps g t c =
 
 pub decode_no_union-returns-in-Struct-clause-reads : goal.decode_no_union-returns-in-Struct-clause-reads
 decode_no_union-returns-in-Struct-clause-reads g t c =
-    let k = record_given c.args.schema.now c.in-Record.record c.as_slice.result.now c.args.builder.now c.in-Struct.records _ c.in-Record.is c.in-Struct.is c.in-Struct.records-is c.as_slice.ensures {X = Unit {0}} (λ _. (builder_slots (Struct c.decode_record.new.records), g.C.Ahead.rest c.decode_record.new.cursor)) c.decode_record.result _ c.decode_record.ensures.reads in
+    let k = record_given c.args.schema.now c.in-Record.record c.as_slice.result.now c.args.builder.now c.in-Struct.records _ c.in-Record.is c.in-Struct.is c.in-Struct.records-is c.as_slice.ensures {X = Unit {0}} (λ _. (builder_slots (Struct c.decode_record.new.records), g.C.ByteReader.rest c.decode_record.new.cursor)) c.decode_record.result _ c.decode_record.ensures.reads in
     search rules
 
 pub decode_no_union-returns-in-List-clause-keeps : goal.decode_no_union-returns-in-List-clause-keeps
 decode_no_union-returns-in-List-clause-keeps g t c =
     let e = c.decode_array.ensures.keeps in
-    let k : Grows (mask false c.args.schema.now) (passed (g.C.Ahead.rest c.args.cursor.now) (g.C.Ahead.rest c.decode_array.new.cursor)) (nodes c.args.builder.now) (nodes (List c.decode_array.new.lists)) = list_grown c.args.schema.now _ c.args.builder.now _ _ _ (c.in-Array.is ∙ ap Array (sym c.get.ensures)) (c.in-List.is ∙ ap List (sym c.in-List.lists-is)) e.grows in
+    let k : Grows (mask false c.args.schema.now) (passed (g.C.ByteReader.rest c.args.cursor.now) (g.C.ByteReader.rest c.decode_array.new.cursor)) (nodes c.args.builder.now) (nodes (List c.decode_array.new.lists)) = list_grown c.args.schema.now _ c.args.builder.now _ _ _ (c.in-Array.is ∙ ap Array (sym c.get.ensures)) (c.in-List.is ∙ ap List (sym c.in-List.lists-is)) e.grows in
     record {
       same_shape = search (rules, e);
       tight = search (rules, e);
@@ -685,7 +687,7 @@ decode_no_union-returns-in-List-clause-keeps g t c =
 pub decode_no_union-returns-in-LargeList-clause-keeps : goal.decode_no_union-returns-in-LargeList-clause-keeps
 decode_no_union-returns-in-LargeList-clause-keeps g t c =
     let e = c.decode_large_array.ensures.keeps in
-    let k : Grows (mask false c.args.schema.now) (passed (g.C.Ahead.rest c.args.cursor.now) (g.C.Ahead.rest c.decode_large_array.new.cursor)) (nodes c.args.builder.now) (nodes (LargeList c.decode_large_array.new.lists)) = list_grown c.args.schema.now _ c.args.builder.now _ _ _ (c.in-Array.is ∙ ap Array (sym c.get-in-LargeList.ensures)) (c.in-LargeList.is ∙ ap LargeList (sym c.in-LargeList.lists-is)) e.grows in
+    let k : Grows (mask false c.args.schema.now) (passed (g.C.ByteReader.rest c.args.cursor.now) (g.C.ByteReader.rest c.decode_large_array.new.cursor)) (nodes c.args.builder.now) (nodes (LargeList c.decode_large_array.new.lists)) = list_grown c.args.schema.now _ c.args.builder.now _ _ _ (c.in-Array.is ∙ ap Array (sym c.get-in-LargeList.ensures)) (c.in-LargeList.is ∙ ap LargeList (sym c.in-LargeList.lists-is)) e.grows in
     record {
       same_shape = search (rules, e);
       tight = search (rules, e);

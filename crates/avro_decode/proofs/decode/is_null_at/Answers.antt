@@ -1,6 +1,6 @@
 use Rattle.std.proofs.Common.{pos, sym}
 use Rattle.avro_decode.proofs.Pairs.{null_at_other}
-use Rattle.avro_decode.proofs.Signed.{not_is}
+use Rattle.avro_skip.proofs.Signed.{not_is}
 use Rattle.avro_decode.proofs.decode.is_null_at.Goals as goal
 
 pub returns-else-index-eq1 : goal.returns-else-index-eq1

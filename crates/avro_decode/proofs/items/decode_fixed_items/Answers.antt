@@ -6,10 +6,10 @@ use Rattle.avro_decode.proofs.items.decode_fixed_items.Goals as goal
 
 pub returns-in-Int128-clause-reads : goal.returns-in-Int128-clause-reads
 returns-in-Int128-clause-reads g c =
-    let e = items_same (fixed_decimal_read c.args.fixed.now.size c.args.fixed.now.logical (builder_kind c.args.builder.now) (ap builder_kind c.in-Int128.is) c.requires.kind) c.args.count (builder_slots c.args.builder.now) (g.C.Ahead.rest c.args.cursor.now) in
+    let e = items_same (fixed_decimal_read c.args.fixed.now.size c.args.fixed.now.logical (builder_kind c.args.builder.now) (ap builder_kind c.in-Int128.is) c.requires.kind) c.args.count (builder_slots c.args.builder.now) (g.C.ByteReader.rest c.args.cursor.now) in
     search rules
 
 pub returns-in-MonthDayNano-clause-reads : goal.returns-in-MonthDayNano-clause-reads
 returns-in-MonthDayNano-clause-reads g c =
-    let e = items_same (duration_read c.args.fixed.now.size c.args.fixed.now.logical (builder_kind c.args.builder.now) (ap builder_kind c.in-MonthDayNano.is) c.requires.kind) c.args.count (builder_slots c.args.builder.now) (g.C.Ahead.rest c.args.cursor.now) in
+    let e = items_same (duration_read c.args.fixed.now.size c.args.fixed.now.logical (builder_kind c.args.builder.now) (ap builder_kind c.in-MonthDayNano.is) c.requires.kind) c.args.count (builder_slots c.args.builder.now) (g.C.ByteReader.rest c.args.cursor.now) in
     search rules

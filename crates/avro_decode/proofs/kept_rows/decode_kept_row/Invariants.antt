@@ -11,12 +11,12 @@ use Rattle.avro_decode.proofs.kept_rows.decode_kept_row.Given as goal
 
 abbrev pub invariant-loop-i : goal.invariant-loop-i
 invariant-loop-i g l = record {
-  same : g.C.Ahead.whose l.cursor ≡ g.C.Ahead.whose l.fn.cursor;
+  same : g.C.ByteReader.identity l.cursor ≡ g.C.ByteReader.identity l.fn.cursor;
   shapes : map shape l.builders ≡ map shape l.fn.builders;
   tight : All IsTight l.builders;
   within : l.i ≤ length l.fn.builders;
   left : drop l.i (kept l.avro_fields l.plan.projection.now) ≡ kept (drop l.i l.avro_fields) (drop l.i l.plan.projection.now);
-  reads : RowSoFar g.C.Ahead.rest g.C.Ahead.shown g.C.Ahead.calls l.fn.cursor l.cursor l.i l.i l.avro_fields l.plan.projection.now (map builder_slots l.fn.builders) (map builder_slots l.builders);
-  forward : MovesForward (g.C.Ahead.rest l.fn.cursor) (g.C.Ahead.rest l.cursor);
-  grows : ChildrenGrow (passed (g.C.Ahead.rest l.fn.cursor) (g.C.Ahead.rest l.cursor)) (kept l.avro_fields l.plan.projection.now) l.fn.builders l.builders;
+  reads : RowSoFar g.C.ByteReader.rest g.C.ByteReader.shown g.C.ByteReader.calls l.fn.cursor l.cursor l.i l.i l.avro_fields l.plan.projection.now (map builder_slots l.fn.builders) (map builder_slots l.builders);
+  forward : MovesForward (g.C.ByteReader.rest l.fn.cursor) (g.C.ByteReader.rest l.cursor);
+  grows : ChildrenGrow (passed (g.C.ByteReader.rest l.fn.cursor) (g.C.ByteReader.rest l.cursor)) (kept l.avro_fields l.plan.projection.now) l.fn.builders l.builders;
 }

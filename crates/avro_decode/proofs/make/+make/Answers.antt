@@ -6,10 +6,9 @@ use Rattle.avro_schema.specs.declared.schema.Schema.TheViews.{the_lemmas}
 use Rattle.arrow_builders.specs.declared.array.MutableArray.{MutableArray}
 use Rattle.avro_schema.specs.Types.{HasColumnType}
 use Rattle.avro_types.proofs.ColumnTypes.{zip_at}
-use Rattle.avro_decode.proofs.Fields.{two_of}
-use Rattle.avro_decode.proofs.Members.{members_size}
 use Rattle.avro_decode.proofs.Making.{item_kept, item_typed, new_list, fields_kept, fields_typed, new_struct, as_many, are_two, choose_first, choose_second}
 use Rattle.avro_decode.proofs.NewBuilders.{if_ok_both, if_ok_more, made_empty, children_pushed, children_ended}
+use Rattle.avro_skip.proofs.Unions.{two_of, members_size}
 use Rattle.avro_decode.proofs.make.+make.Goals as goal
 
 pub make_builder-make_builder-requires : goal.make_builder-make_builder-requires

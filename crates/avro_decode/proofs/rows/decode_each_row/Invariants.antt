@@ -11,10 +11,10 @@ use Rattle.avro_decode.proofs.rows.decode_each_row.Given as goal
 
 abbrev pub invariant-loop : goal.invariant-loop
 invariant-loop g l = record {
-  same : g.C.Ahead.whose l.cursor ≡ g.C.Ahead.whose l.fn.cursor;
+  same : g.C.ByteReader.identity l.cursor ≡ g.C.ByteReader.identity l.fn.cursor;
   shapes : map shape l.builders ≡ map shape l.fn.builders;
   tight : All IsTight l.builders;
-  reads : RowsSoFar g.C.Ahead.rest g.C.Ahead.shown g.C.Ahead.calls l.fn.cursor l.cursor l.rows (l.rows - l.counter) l.plan.avro_fields.now l.plan.projection.now (map builder_slots l.fn.builders) (map builder_slots l.builders);
-  forward : MovesForward (g.C.Ahead.rest l.fn.cursor) (g.C.Ahead.rest l.cursor);
-  grows : ChildrenGrow (passed (g.C.Ahead.rest l.fn.cursor) (g.C.Ahead.rest l.cursor)) (kept l.plan.avro_fields.now l.plan.projection.now) l.fn.builders l.builders;
+  reads : RowsSoFar g.C.ByteReader.rest g.C.ByteReader.shown g.C.ByteReader.calls l.fn.cursor l.cursor l.rows (l.rows - l.counter) l.plan.avro_fields.now l.plan.projection.now (map builder_slots l.fn.builders) (map builder_slots l.builders);
+  forward : MovesForward (g.C.ByteReader.rest l.fn.cursor) (g.C.ByteReader.rest l.cursor);
+  grows : ChildrenGrow (passed (g.C.ByteReader.rest l.fn.cursor) (g.C.ByteReader.rest l.cursor)) (kept l.plan.avro_fields.now l.plan.projection.now) l.fn.builders l.builders;
 }

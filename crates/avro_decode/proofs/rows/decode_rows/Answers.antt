@@ -37,4 +37,4 @@ returns-then-projection-clause-reads g c =
     let bs = c.args.builders.now in
     let o = one_field c.args.plan.now.avro_fields.now c.args.plan.now.projection.now f c.if-avro_fields-eq1.true c.requires.plan.lengths is c.if-projection.true in
     let l = suit_length (kept c.args.plan.now.avro_fields.now c.args.plan.now.projection.now) bs c.requires.plan.suits in
-    one_column g.C.Ahead.rest g.C.Ahead.shown g.C.Ahead.calls c.args.cursor.now c.decode_only_field.new.cursor c.args.rows c.args.plan.now.avro_fields.now c.args.plan.now.projection.now f bs c.index-builders-0.result c.decode_only_field.new.builder c.decode_only_field.result o.0 o.1 l c.decode_only_field.ensures.keeps.costs c.decode_only_field.ensures.reads
+    one_column g.C.ByteReader.rest g.C.ByteReader.shown g.C.ByteReader.calls c.args.cursor.now c.decode_only_field.new.cursor c.args.rows c.args.plan.now.avro_fields.now c.args.plan.now.projection.now f bs c.index-builders-0.result c.decode_only_field.new.builder c.decode_only_field.result o.0 o.1 l c.decode_only_field.ensures.keeps.costs c.decode_only_field.ensures.reads

@@ -32,7 +32,7 @@ returns-then-null-clause-keeps g c =
 
 pub returns-then-null-clause-reads : goal.returns-then-null-clause-reads
 returns-then-null-clause-reads g c =
-    null_read c.push_null.result c.args.null c.args.schema.now (builder_slots c.args.builder.now) (builder_slots c.push_null.new.builder) (g.C.Ahead.rest c.args.cursor.now) c.if-null.true c.push_null.ensures.err c.push_null.ensures.ok
+    null_read c.push_null.result c.args.null c.args.schema.now (builder_slots c.args.builder.now) (builder_slots c.push_null.new.builder) (g.C.ByteReader.rest c.args.cursor.now) c.if-null.true c.push_null.ensures.err c.push_null.ensures.ok
 
 pub returns-else-null-clause-keeps : goal.returns-else-null-clause-keeps
 returns-else-null-clause-keeps g c =

@@ -23,7 +23,7 @@ decode_pair-requires g c =
     let s = c.other_of-schema.result.now in
     let o = other_suits c.args.null_first c.args.kind c.args.members.now s c.other_of-schema.ensures c.requires.fits _ c.requires.suits in
     let n = c.in-Some.ensures.costs.shorter in
-    let r : AllOffsetsReach (mask true s) (length (g.C.Ahead.rest c.args.cursor.now)) c.args.builder.now = subst (λ (xs : List Bool). AllOffsetsReach xs (length (g.C.Ahead.rest c.args.cursor.now)) c.args.builder.now) o.1 c.requires.offsets in
+    let r : AllOffsetsReach (mask true s) (length (g.C.ByteReader.rest c.args.cursor.now)) c.args.builder.now = subst (λ (xs : List Bool). AllOffsetsReach xs (length (g.C.ByteReader.rest c.args.cursor.now)) c.args.builder.now) o.1 c.requires.offsets in
     record {
       fits = other_fits c.args.null_first c.args.kind c.args.members.now s c.other_of-schema.ensures c.requires.fits;
       suits = o.0;

@@ -1,6 +1,6 @@
 use Rattle.std.proofs.Common.{◌≡◌, true, false, sym, ◌∙◌}
-use Rattle.avro_decode.proofs.Fields.{two_of}
 use Rattle.avro_decode.proofs.FieldSteps.{pair_step}
+use Rattle.avro_skip.proofs.Unions.{two_of}
 use Rattle.avro_decode.proofs.steps.step_of_union.Goals as goal
 
 pub returns-then-is_null : goal.returns-then-is_null

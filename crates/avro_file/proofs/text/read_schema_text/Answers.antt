@@ -4,17 +4,17 @@ use Rattle.json_tree.specs.Tree.{Json}
 use Rattle.json_tree.specs.Meaning.{IsJson, HoldsTooMany}
 use Rattle.json_tree.proofs.TextLaws.{one_value}
 use Rattle.avro_schema.specs.declared.schema.Schema.{Schema}
-use Rattle.avro_file.specs.declared.fault.Fault.{Fault}
-use Rattle.avro_file.specs.declared.fault.Fault.TheVariants.{Form, Reference, Depth, Memory}
+use Rattle.avro_file.specs.declared.fault.SchemaTextFault.{SchemaTextFault}
+use Rattle.avro_file.specs.declared.fault.SchemaTextFault.TheVariants.{Form, Reference, Depth, Memory}
 use Rattle.avro_file.specs.Gives.{Gives}
 use Rattle.avro_file.specs.Reading.{schema_of, IsSchemaText, SchemaTextRefused}
 use Rattle.avro_file.proofs.text.read_schema_text.Goals as goal
 
-is_text : (bytes : List ℕ) (value : Json) (r : Result Schema Fault) → IsJson value bytes → Gives r (schema_of value) → IfOk r (λ schema. IsSchemaText bytes schema)
+is_text : (bytes : List ℕ) (value : Json) (r : Result Schema SchemaTextFault) → IsJson value bytes → Gives r (schema_of value) → IfOk r (λ schema. IsSchemaText bytes schema)
 is_text bytes value (Ok s) is h = (value, is, h)
 is_text bytes value (Err e) is h = tt
 
-refused : (bytes : List ℕ) (value : Json) (r : Result Schema Fault) → IsJson value bytes → (HoldsTooMany bytes → ⊥) → Gives r (schema_of value) → IfErr r (λ fault. SchemaTextRefused bytes fault)
+refused : (bytes : List ℕ) (value : Json) (r : Result Schema SchemaTextFault) → IsJson value bytes → (HoldsTooMany bytes → ⊥) → Gives r (schema_of value) → IfErr r (λ fault. SchemaTextRefused bytes fault)
 refused bytes value (Ok s) is shallow h = tt
 refused bytes value (Err Form) is shallow h =
     (shallow, λ other so. ap schema_of (one_value bytes other value (so.0, (128, so.1)) (is.0, (128, is.1))) ∙ h)

@@ -28,4 +28,4 @@ returns-clause-reads g c =
     let v = c.in-Some-take_decimal in
     let f : to_z w128 (of_z w128 v.value) ≡ v.value = to_z-of_z w128 v.value (search rules) in
     let read = counted_decimal _ _ _ c.in-Some.ensures.reads ∙ v.ensures.reads in
-    value_pushed c.push.result c.pushed.result _ _ _ _ _ (read ∙ ap (λ z. Some (slot.Integer z, g.C.Ahead.rest c.take_decimal.new.cursor)) (sym f)) c.push.ensures.ok c.pushed.ensures.ok c.pushed.ensures.err
+    value_pushed c.push.result c.pushed.result _ _ _ _ _ (read ∙ ap (λ z. Some (slot.Integer z, g.C.ByteReader.rest c.take_decimal.new.cursor)) (sym f)) c.push.ensures.ok c.pushed.ensures.ok c.pushed.ensures.err

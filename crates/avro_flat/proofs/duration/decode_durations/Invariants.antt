@@ -7,4 +7,4 @@ use Rattle.avro_flat.proofs.duration.decode_durations.Given as goal
 
 abbrev pub invariant-loop : goal.invariant-loop
 invariant-loop g l =
-    ManySoFar g.C.Ahead.rest g.C.Ahead.shown g.C.Ahead.calls g.C.Ahead.whose (fixed_at 12 (Some fixed_logical.Duration)) l.count l.counter l.fn.cursor l.cursor l.fn.values.data_type l.values.data_type (plain_node l.fn.values) (plain_node l.values) l.fn.values.slots l.values.slots
+    ManySoFar g.C.ByteReader.rest g.C.ByteReader.shown g.C.ByteReader.calls g.C.ByteReader.identity (fixed_at 12 (Some fixed_logical.Duration)) l.count l.counter l.fn.cursor l.cursor l.fn.values.data_type l.values.data_type (plain_node l.fn.values) (plain_node l.values) l.fn.values.slots l.values.slots

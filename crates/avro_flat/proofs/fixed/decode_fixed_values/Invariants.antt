@@ -6,4 +6,4 @@ use Rattle.avro_flat.proofs.fixed.decode_fixed_values.Given as goal
 
 abbrev pub invariant-loop : goal.invariant-loop
 invariant-loop g l =
-    ManySoFar g.C.Ahead.rest g.C.Ahead.shown g.C.Ahead.calls g.C.Ahead.whose (fixed_at l.size None) l.count l.counter l.fn.cursor l.cursor l.fn.values.data_type l.values.data_type (content_node l.fn.values) (content_node l.values) l.fn.values.slots l.values.slots
+    ManySoFar g.C.ByteReader.rest g.C.ByteReader.shown g.C.ByteReader.calls g.C.ByteReader.identity (fixed_at l.size None) l.count l.counter l.fn.cursor l.cursor l.fn.values.data_type l.values.data_type (content_node l.fn.values) (content_node l.values) l.fn.values.slots l.values.slots

@@ -11,14 +11,14 @@ pub returns-in_err-slots : goal.returns-in_err-slots
 returns-in_err-slots g c =
     let p = err_from_is_err_and c.from_residual.result c.from_residual.ensures.1 in
     let e = c.in_err-slots.ensures.err in
-    rw (p.1, p.2, e.0) (many_short g.C.Ahead.rest g.C.Ahead.shown g.C.Ahead.calls g.C.Ahead.whose boolean_at _ _ _ _ _ boolean_has_byte e.1)
+    rw (p.1, p.2, e.0) (many_short g.C.ByteReader.rest g.C.ByteReader.shown g.C.ByteReader.calls g.C.ByteReader.identity boolean_at _ _ _ _ _ boolean_has_byte e.1)
 
 pub returns-in_err-pushed : goal.returns-in_err-pushed
 returns-in_err-pushed g c =
     let p = err_from_is_err_and c.from_residual-in_err-pushed.result c.from_residual-in_err-pushed.ensures.1 in
     let k = c.in_ok-slots.ensures.ok in
     let r = c.reserve_for.ensures in
-    rw (p.1, p.2) (many_refused g.C.Ahead.rest g.C.Ahead.shown g.C.Ahead.calls g.C.Ahead.whose boolean_at _ _ _ _ _ _ _ c.reserve_for.new.self.slots _ (omega (arith, k.0, k.1)) r.data_type r.capacity (λ h. c.in_err-pushed.ensures.answered (r.has_capacity (omega (arith, k.0, h)))) c.in_err-pushed.ensures.err)
+    rw (p.1, p.2) (many_refused g.C.ByteReader.rest g.C.ByteReader.shown g.C.ByteReader.calls g.C.ByteReader.identity boolean_at _ _ _ _ _ _ _ c.reserve_for.new.self.slots _ (omega (arith, k.0, k.1)) r.data_type r.capacity (λ h. c.in_err-pushed.ensures.answered (r.has_capacity (omega (arith, k.0, h)))) c.in_err-pushed.ensures.err)
 
 pub loop-init : goal.loop-init
 loop-init g c =
@@ -35,7 +35,7 @@ loop-preserved g c =
     let p = c.push_reserved.ensures in
     let k = c.in_ok-slots.ensures.ok.0 in
     record {
-      many = many_more inv.many (omega (arith, k)) (value_pushed g.C.Ahead.rest g.C.Ahead.shown g.C.Ahead.calls g.C.Ahead.whose boolean_at c.loop.cursor c.next_boolean.new.cursor c.loop.values c.push_reserved.new.self (slot.Boolean c.in-Some.boolean) n.same n.moves n.shorter n.costs n.reads p.data_type p.slots p.spare);
+      many = many_more inv.many (omega (arith, k)) (value_pushed g.C.ByteReader.rest g.C.ByteReader.shown g.C.ByteReader.calls g.C.ByteReader.identity boolean_at c.loop.cursor c.next_boolean.new.cursor c.loop.values c.push_reserved.new.self (slot.Boolean c.in-Some.boolean) n.same n.moves n.shorter n.costs n.reads p.data_type p.slots p.spare);
       spare = omega (arith, inv.spare, p.spare);
     }
 
@@ -46,7 +46,7 @@ pub returns-in_default : goal.returns-in_default
 returns-in_default g c =
     let n = c.in_default.ensures in
     let k = c.in_ok-slots.ensures.ok.0 in
-    many_fault c.loop.invariant.many c.loop.values.slots Bytes (omega (arith, k)) (value_missing g.C.Ahead.rest g.C.Ahead.shown g.C.Ahead.calls g.C.Ahead.whose boolean_at c.loop.cursor c.next_boolean.new.cursor _ _ c.loop.values.slots n.same n.moves n.reads)
+    many_fault c.loop.invariant.many c.loop.values.slots Bytes (omega (arith, k)) (value_missing g.C.ByteReader.rest g.C.ByteReader.shown g.C.ByteReader.calls g.C.ByteReader.identity boolean_at c.loop.cursor c.next_boolean.new.cursor _ _ c.loop.values.slots n.same n.moves n.reads)
 
 pub returns : goal.returns
 returns g c = let k = c.in_ok-slots.ensures.ok.0 in many_done c.loop.invariant.many (omega (arith, k))

@@ -23,4 +23,4 @@ returns-clause-reads g c =
     let e = f ∙ k.ensures.index.0 ∙ h in
     let t = ap (λ z. is_index z (length c.args.symbols.now)) (sym h) ∙ k.ensures.index.1 in
     let read = symbol_in c.args.symbols.now c.args.values.now.items _ _ c.in-Some.number c.requires.items c.in-Some.ensures.reads t in
-    value_pushed c.push_valid.result c.pushed.result _ _ _ _ _ (read ∙ ap (λ z. Some (looked_up c.args.values.now.items (slot.Integer z), g.C.Ahead.rest c.number.new.self)) (sym e)) c.push_valid.ensures.ok c.pushed.ensures.ok c.pushed.ensures.err
+    value_pushed c.push_valid.result c.pushed.result _ _ _ _ _ (read ∙ ap (λ z. Some (looked_up c.args.values.now.items (slot.Integer z), g.C.ByteReader.rest c.number.new.self)) (sym e)) c.push_valid.ensures.ok c.pushed.ensures.ok c.pushed.ensures.err

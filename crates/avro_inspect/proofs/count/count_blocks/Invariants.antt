@@ -15,5 +15,5 @@ invariant-loop-block g l = record {
   few : l.blocks + limit_of l.reader ≤ limit_of l.fn.reader;
   few_rows : l.rows ≤ 18446744073709551615 * l.blocks;
   never_falls : g.S.Source.faults (source_of l.fn.reader) ≤ g.S.Source.faults (source_of l.reader);
-  same : g.S.Source.whose (source_of l.reader) ≡ g.S.Source.whose (source_of l.fn.reader);
+  same : g.S.Source.identity (source_of l.reader) ≡ g.S.Source.identity (source_of l.fn.reader);
 }

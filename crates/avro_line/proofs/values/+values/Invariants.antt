@@ -9,7 +9,7 @@ use Rattle.avro_line.proofs.values.+values.Given as goal
 
 abbrev pub invariant-push_items-loop-k : goal.invariant-push_items-loop-k
 invariant-push_items-loop-k g l = (t : DataType) → inferred l.item ≡ Some t → IsForm l.form t → AreWithin t l.columns
-    → ItemsUnderway l.item t l.count l.k (g.A.Ahead.rest l.fn.cursor) (g.A.Ahead.rest l.cursor) l.fn.out.items l.out.items
+    → ItemsUnderway l.item t l.count l.k (g.A.ByteReader.rest l.fn.cursor) (g.A.ByteReader.rest l.cursor) l.fn.out.items l.out.items
 
 abbrev pub invariant-push_record-loop-field : goal.invariant-push_record-loop-field
-invariant-push_record-loop-field g l = FieldsUnderwayOf l.avro_fields l.columns l.field-index l.rest (g.A.Ahead.rest l.fn.cursor) (g.A.Ahead.rest l.cursor) l.fn.out.items l.out.items
+invariant-push_record-loop-field g l = FieldsUnderwayOf l.avro_fields l.columns l.field-index l.rest (g.A.ByteReader.rest l.fn.cursor) (g.A.ByteReader.rest l.cursor) l.fn.out.items l.out.items

@@ -23,7 +23,7 @@ skip_value-skip_union-requires g t c κs within =
 
 pub skip_value-returns-in-Union-clause-passes : goal.skip_value-returns-in-Union-clause-passes
 skip_value-returns-in-Union-clause-passes g t c =
-    union_passes c.args.schema.now c.in-Union.members c.as_slice.result.now c.in-Union.is c.as_slice.ensures g.A.Ahead.rest g.A.Ahead.shown g.A.Ahead.calls c.args.cursor.now c.skip_union.new.cursor c.skip_union.result (g.A.Ahead.rest c.args.cursor.now) c.skip_union.ensures.passes
+    union_passes c.args.schema.now c.in-Union.members c.as_slice.result.now c.in-Union.is c.as_slice.ensures g.A.ByteReader.rest g.A.ByteReader.shown g.A.ByteReader.calls c.args.cursor.now c.skip_union.new.cursor c.skip_union.result (g.A.ByteReader.rest c.args.cursor.now) c.skip_union.ensures.passes
 
 -- ---- a value that is no union
 
@@ -39,7 +39,7 @@ skip_no_union-returns-in-Record-clause-shorter g t c =
 
 pub skip_no_union-returns-in-Record-clause-passes : goal.skip_no_union-returns-in-Record-clause-passes
 skip_no_union-returns-in-Record-clause-passes g t c =
-    record_passes c.args.schema.now c.in-Record.record c.as_slice.result.now c.in-Record.is c.as_slice.ensures g.A.Ahead.rest g.A.Ahead.shown g.A.Ahead.calls c.args.cursor.now c.skip_fields.new.cursor c.skip_fields.result (g.A.Ahead.rest c.args.cursor.now) c.skip_fields.ensures.passes
+    record_passes c.args.schema.now c.in-Record.record c.as_slice.result.now c.in-Record.is c.as_slice.ensures g.A.ByteReader.rest g.A.ByteReader.shown g.A.ByteReader.calls c.args.cursor.now c.skip_fields.new.cursor c.skip_fields.result (g.A.ByteReader.rest c.args.cursor.now) c.skip_fields.ensures.passes
 
 pub skip_no_union-skip_blocks-requires : goal.skip_no_union-skip_blocks-requires
 skip_no_union-skip_blocks-requires g t c κs within =
@@ -48,7 +48,7 @@ skip_no_union-skip_blocks-requires g t c κs within =
 
 pub skip_no_union-returns-in-Array-clause-passes : goal.skip_no_union-returns-in-Array-clause-passes
 skip_no_union-returns-in-Array-clause-passes g t c =
-    array_passes c.args.schema.now c.in-Array.item c.get.result.now c.in-Array.is c.get.ensures g.A.Ahead.rest g.A.Ahead.shown g.A.Ahead.calls c.args.cursor.now c.skip_blocks.new.cursor c.skip_blocks.result (g.A.Ahead.rest c.args.cursor.now) c.skip_blocks.ensures.passes
+    array_passes c.args.schema.now c.in-Array.item c.get.result.now c.in-Array.is c.get.ensures g.A.ByteReader.rest g.A.ByteReader.shown g.A.ByteReader.calls c.args.cursor.now c.skip_blocks.new.cursor c.skip_blocks.result (g.A.ByteReader.rest c.args.cursor.now) c.skip_blocks.ensures.passes
 
 -- ---- unions
 
@@ -99,7 +99,7 @@ skip_fields-loop-i-init g t c =
       same = refl;
       forward = forward_none _;
       shorter = omega arith;
-      underway = fields_begun g.A.Ahead.rest g.A.Ahead.shown g.A.Ahead.calls c.args.fields.now c.args.cursor.now;
+      underway = fields_begun g.A.ByteReader.rest g.A.ByteReader.shown g.A.ByteReader.calls c.args.fields.now c.args.cursor.now;
     }
 
 pub skip_fields-returns-in_err-skip_value-clause-moves : goal.skip_fields-returns-in_err-skip_value-clause-moves
@@ -111,7 +111,7 @@ pub skip_fields-returns-in_err-skip_value-clause-passes : goal.skip_fields-retur
 skip_fields-returns-in_err-skip_value-clause-passes g t c =
     let inv = c.loop-i.invariant in
     let p = err_from_is_err_and c.from_residual.result c.from_residual.ensures.1 in
-    rw (p.1, p.2) (fields_failed g.A.Ahead.rest g.A.Ahead.shown g.A.Ahead.calls c.args.fields.now c.loop-i.i c.index-fields-i.result c.args.cursor.now c.loop-i.cursor _ c.loop-i-test.true inv.underway c.in_err-skip_value.ensures.passes)
+    rw (p.1, p.2) (fields_failed g.A.ByteReader.rest g.A.ByteReader.shown g.A.ByteReader.calls c.args.fields.now c.loop-i.i c.index-fields-i.result c.args.cursor.now c.loop-i.cursor _ c.loop-i-test.true inv.underway c.in_err-skip_value.ensures.passes)
 
 pub skip_fields-loop-i-preserved : goal.skip_fields-loop-i-preserved
 skip_fields-loop-i-preserved g t c =
@@ -121,12 +121,12 @@ skip_fields-loop-i-preserved g t c =
       same = e.same ∙ inv.same;
       forward = forward_more _ _ _ inv.forward e.moves.forward;
       shorter = omega (arith, e.shorter, inv.shorter);
-      underway = fields_next g.A.Ahead.rest g.A.Ahead.shown g.A.Ahead.calls c.args.fields.now c.loop-i.i c.index-fields-i.result c.args.cursor.now c.loop-i.cursor c.skip_value.new.cursor c.loop-i-test.true inv.underway e.passes;
+      underway = fields_next g.A.ByteReader.rest g.A.ByteReader.shown g.A.ByteReader.calls c.args.fields.now c.loop-i.i c.index-fields-i.result c.args.cursor.now c.loop-i.cursor c.skip_value.new.cursor c.loop-i-test.true inv.underway e.passes;
     }
 
 pub skip_fields-returns-clause-passes : goal.skip_fields-returns-clause-passes
 skip_fields-returns-clause-passes g t c =
-    fields_ended g.A.Ahead.rest g.A.Ahead.shown g.A.Ahead.calls c.args.fields.now c.loop-i.i c.args.cursor.now c.loop-i.cursor (omega (arith, c.loop-i-test.false)) c.loop-i.invariant.underway
+    fields_ended g.A.ByteReader.rest g.A.ByteReader.shown g.A.ByteReader.calls c.args.fields.now c.loop-i.i c.args.cursor.now c.loop-i.cursor (omega (arith, c.loop-i-test.false)) c.loop-i.invariant.underway
 
 -- ---- items
 
@@ -140,7 +140,7 @@ skip_items-loop-init g t c =
     record {
       same = refl;
       forward = forward_none _;
-      underway = items_begun g.A.Ahead.rest g.A.Ahead.shown g.A.Ahead.calls (skip c.args.item.now) _ c.args.count c.args.cursor.now (omega arith);
+      underway = items_begun g.A.ByteReader.rest g.A.ByteReader.shown g.A.ByteReader.calls (skip c.args.item.now) _ c.args.count c.args.cursor.now (omega arith);
     }
 
 pub skip_items-returns-in_err-skip_value-clause-moves : goal.skip_items-returns-in_err-skip_value-clause-moves
@@ -153,7 +153,7 @@ skip_items-returns-in_err-skip_value-clause-passes g t c =
     let inv = c.loop.invariant in
     let p = err_from_is_err_and c.from_residual.result c.from_residual.ensures.1 in
     let s : c.args.count - c.loop.counter ≡ suc (c.args.count - (c.loop.counter + 1)) = omega arith in
-    rw (p.1, p.2) (items_failed g.A.Ahead.rest g.A.Ahead.shown g.A.Ahead.calls (skip c.args.item.now) _ _ c.args.count c.args.cursor.now c.loop.cursor _ s inv.underway c.in_err-skip_value.ensures.passes)
+    rw (p.1, p.2) (items_failed g.A.ByteReader.rest g.A.ByteReader.shown g.A.ByteReader.calls (skip c.args.item.now) _ _ c.args.count c.args.cursor.now c.loop.cursor _ s inv.underway c.in_err-skip_value.ensures.passes)
 
 pub skip_items-loop-preserved : goal.skip_items-loop-preserved
 skip_items-loop-preserved g t c =
@@ -163,12 +163,12 @@ skip_items-loop-preserved g t c =
     record {
       same = e.same ∙ inv.same;
       forward = forward_more _ _ _ inv.forward e.moves.forward;
-      underway = items_next g.A.Ahead.rest g.A.Ahead.shown g.A.Ahead.calls (skip c.args.item.now) _ _ c.args.count c.args.cursor.now c.loop.cursor c.skip_value.new.cursor s inv.underway e.passes;
+      underway = items_next g.A.ByteReader.rest g.A.ByteReader.shown g.A.ByteReader.calls (skip c.args.item.now) _ _ c.args.count c.args.cursor.now c.loop.cursor c.skip_value.new.cursor s inv.underway e.passes;
     }
 
 pub skip_items-returns-clause-passes : goal.skip_items-returns-clause-passes
 skip_items-returns-clause-passes g t c =
-    items_ended g.A.Ahead.rest g.A.Ahead.shown g.A.Ahead.calls (skip c.args.item.now) (c.args.count - c.loop.counter) c.args.count c.args.cursor.now c.loop.cursor (omega arith) c.loop.invariant.underway
+    items_ended g.A.ByteReader.rest g.A.ByteReader.shown g.A.ByteReader.calls (skip c.args.item.now) (c.args.count - c.loop.counter) c.args.count c.args.cursor.now c.loop.cursor (omega arith) c.loop.invariant.underway
 
 -- ---- blocks
 
@@ -177,7 +177,7 @@ skip_blocks-loop-count-init g t c =
     record {
       same = refl;
       forward = forward_none _;
-      underway = blocks_begun g.A.Ahead.rest g.A.Ahead.shown g.A.Ahead.calls (skip c.args.item.now) c.args.cursor.now;
+      underway = blocks_begun g.A.ByteReader.rest g.A.ByteReader.shown g.A.ByteReader.calls (skip c.args.item.now) c.args.cursor.now;
     }
 
 pub skip_blocks-returns-in_default-clause-moves : goal.skip_blocks-returns-in_default-clause-moves
@@ -187,7 +187,7 @@ skip_blocks-returns-in_default-clause-moves g t c =
 
 pub skip_blocks-returns-in_default-clause-passes : goal.skip_blocks-returns-in_default-clause-passes
 skip_blocks-returns-in_default-clause-passes g t c =
-    blocks_fail g.A.Ahead.rest g.A.Ahead.shown g.A.Ahead.calls (skip c.args.item.now) c.args.cursor.now c.loop-count.cursor Bad c.loop-count.invariant.underway (λ fuel before lt. blocks_no_count (skip c.args.item.now) _ before fuel c.in_default.ensures.reads)
+    blocks_fail g.A.ByteReader.rest g.A.ByteReader.shown g.A.ByteReader.calls (skip c.args.item.now) c.args.cursor.now c.loop-count.cursor Bad c.loop-count.invariant.underway (λ fuel before lt. blocks_no_count (skip c.args.item.now) _ before fuel c.in_default.ensures.reads)
 
 pub skip_blocks-returns-then-count-eq0-clause-moves : goal.skip_blocks-returns-then-count-eq0-clause-moves
 skip_blocks-returns-then-count-eq0-clause-moves g t c =
@@ -198,7 +198,7 @@ pub skip_blocks-returns-then-count-eq0-clause-passes : goal.skip_blocks-returns-
 skip_blocks-returns-then-count-eq0-clause-passes g t c =
     let n = c.in-Some.ensures in
     let s : SFits w64 c.in-Some.count = search rules in
-    blocks_ended g.A.Ahead.rest g.A.Ahead.shown g.A.Ahead.calls (skip c.args.item.now) c.args.cursor.now c.loop-count.cursor c.number.new.self c.in-Some.count c.loop-count.invariant.underway n.reads n.costs (is_zero c.in-Some.count s c.if-count-eq0.true)
+    blocks_ended g.A.ByteReader.rest g.A.ByteReader.shown g.A.ByteReader.calls (skip c.args.item.now) c.args.cursor.now c.loop-count.cursor c.number.new.self c.in-Some.count c.loop-count.invariant.underway n.reads n.costs (is_zero c.in-Some.count s c.if-count-eq0.true)
 
 pub skip_blocks-skip_block_items-requires : goal.skip_blocks-skip_block_items-requires
 skip_blocks-skip_block_items-requires g t c κs within =
@@ -219,7 +219,7 @@ skip_blocks-returns-in_err-skip_block_items-clause-passes g t c =
     let p = err_from_is_err_and c.from_residual.result c.from_residual.ensures.1 in
     let s : SFits w64 c.in-Some.count = search rules in
     let e = rw (to_z-of_z w64 c.in-Some.count s) at c.in_err-skip_block_items.ensures.passes in
-    rw (p.1, p.2) (blocks_fail g.A.Ahead.rest g.A.Ahead.shown g.A.Ahead.calls (skip c.args.item.now) c.args.cursor.now c.loop-count.cursor _ inv.underway (λ fuel before lt. blocks_fault (skip c.args.item.now) _ before fuel c.in-Some.count _ _ lt n.reads (not_is c.in-Some.count (pos 0) c.if-count-eq0.false) e))
+    rw (p.1, p.2) (blocks_fail g.A.ByteReader.rest g.A.ByteReader.shown g.A.ByteReader.calls (skip c.args.item.now) c.args.cursor.now c.loop-count.cursor _ inv.underway (λ fuel before lt. blocks_fault (skip c.args.item.now) _ before fuel c.in-Some.count _ _ lt n.reads (not_is c.in-Some.count (pos 0) c.if-count-eq0.false) e))
 
 pub skip_blocks-loop-count-preserved : goal.skip_blocks-loop-count-preserved
 skip_blocks-loop-count-preserved g t c =
@@ -230,7 +230,7 @@ skip_blocks-loop-count-preserved g t c =
     record {
       same = e.same ∙ n.same ∙ inv.same;
       forward = forward_more _ _ _ inv.forward (forward_more _ _ _ n.moves.forward e.moves.forward);
-      underway = blocks_next g.A.Ahead.rest g.A.Ahead.shown g.A.Ahead.calls (skip c.args.item.now) c.args.cursor.now c.loop-count.cursor c.number.new.self c.skip_block_items.new.cursor c.in-Some.count inv.underway n.reads n.costs (not_is c.in-Some.count (pos 0) c.if-count-eq0.false) (not_longer _ _ e.moves.forward) (rw (to_z-of_z w64 c.in-Some.count s) at e.passes);
+      underway = blocks_next g.A.ByteReader.rest g.A.ByteReader.shown g.A.ByteReader.calls (skip c.args.item.now) c.args.cursor.now c.loop-count.cursor c.number.new.self c.skip_block_items.new.cursor c.in-Some.count inv.underway n.reads n.costs (not_is c.in-Some.count (pos 0) c.if-count-eq0.false) (not_longer _ _ e.moves.forward) (rw (to_z-of_z w64 c.in-Some.count s) at e.passes);
     }
 
 -- ---- the items of a block
@@ -239,7 +239,7 @@ pub skip_block_items-returns-then-count-gt0-clause-passes : goal.skip_block_item
 skip_block_items-returns-then-count-gt0-clause-passes g t c =
     let r = to_z-of_z w64 c.args.count c.ranges.count in
     let b = rw r at c.if-count-gt0.true in
-    block_positive g.A.Ahead.rest g.A.Ahead.shown g.A.Ahead.calls c.args.cursor.now c.skip_items.new.cursor c.skip_items.result (skip c.args.item.now) (g.A.Ahead.rest c.args.cursor.now) c.args.count _ c.ranges.count b (search (rules, to_z-of_z)) c.skip_items.ensures.passes
+    block_positive g.A.ByteReader.rest g.A.ByteReader.shown g.A.ByteReader.calls c.args.cursor.now c.skip_items.new.cursor c.skip_items.result (skip c.args.item.now) (g.A.ByteReader.rest c.args.cursor.now) c.args.count _ c.ranges.count b (search (rules, to_z-of_z)) c.skip_items.ensures.passes
 
 pub skip_block_items-returns-then-count-eqminus9223372036854775808-clause-passes :
     goal.skip_block_items-returns-then-count-eqminus9223372036854775808-clause-passes
@@ -251,4 +251,4 @@ pub skip_block_items-returns-else-count-eqminus9223372036854775808-clause-passes
 skip_block_items-returns-else-count-eqminus9223372036854775808-clause-passes g t c =
     let r = to_z-of_z w64 c.args.count c.ranges.count in
     let b = rw r at c.if-count-gt0.false in
-    block_negative g.A.Ahead.rest g.A.Ahead.shown g.A.Ahead.calls c.args.cursor.now c.skip_sized_items.new.cursor c.skip_sized_items.result (skip c.args.item.now) (g.A.Ahead.rest c.args.cursor.now) c.args.count c.ranges.count c.requires.some b (not_is c.args.count (negsuc 9223372036854775807) c.if-count-eqminus9223372036854775808.false) c.skip_sized_items.ensures.passes
+    block_negative g.A.ByteReader.rest g.A.ByteReader.shown g.A.ByteReader.calls c.args.cursor.now c.skip_sized_items.new.cursor c.skip_sized_items.result (skip c.args.item.now) (g.A.ByteReader.rest c.args.cursor.now) c.args.count c.ranges.count c.requires.some b (not_is c.args.count (negsuc 9223372036854775807) c.if-count-eqminus9223372036854775808.false) c.skip_sized_items.ensures.passes

@@ -1,10 +1,6 @@
-use Rattle.std.proofs.Common.{ℕ, List, arith, sym, [], slice_index_or, subst, ◌<◌, length}
-use Rattle.avro_write.specs.Serializing.{Serializing}
-use Rattle.avro_write.proofs.Items.{row_step, row_whole}
+use Rattle.std.proofs.Common.{arith, sym, [], slice_index_or, subst, ◌<◌, length}
+use Rattle.avro_write.proofs.Items.{row_step, row_whole, left_of}
 use Rattle.avro_write.proofs.rows.append_row.Goals as goal
-
-abbrev left_of : Serializing → List (List ℕ)
-left_of s = s.left
 
 pub append_item-requires : goal.append_item-requires
 append_item-requires c = record {

@@ -1,11 +1,7 @@
-use Rattle.std.proofs.Common.{◌∙◌, ℕ, List, length, ap, arith}
+use Rattle.std.proofs.Common.{◌∙◌, length, ap, arith}
 use Rattle.std.proofs.lemmas.Result.{on_ok_weaker}
-use Rattle.avro_write.specs.Serializing.{Serializing}
-use Rattle.avro_write.proofs.Items.{one_column}
+use Rattle.avro_write.proofs.Items.{one_column, left_of}
 use Rattle.avro_write.proofs.rows.append_rows.Goals as goal
-
-abbrev left_of : Serializing → List (List ℕ)
-left_of s = s.left
 
 pub returns-in-len1 : goal.returns-in-len1
 returns-in-len1 c = record {

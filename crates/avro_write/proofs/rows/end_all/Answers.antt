@@ -1,11 +1,7 @@
-use Rattle.std.proofs.Common.{◌∙◌, ◌<◌, ℕ, List, length, arith}
+use Rattle.std.proofs.Common.{◌∙◌, ◌<◌, length, arith}
 use Rattle.std.proofs.lemmas.List.{length-set}
-use Rattle.avro_write.specs.Serializing.{Serializing}
-use Rattle.avro_write.proofs.Items.{ended_more}
+use Rattle.avro_write.proofs.Items.{ended_more, left_of}
 use Rattle.avro_write.proofs.rows.end_all.Goals as goal
-
-abbrev left_of : Serializing → List (List ℕ)
-left_of s = s.left
 
 pub loop-k-preserved : goal.loop-k-preserved
 loop-k-preserved c =

@@ -1,6 +1,6 @@
 -- Where no columns are made, a field is not carried.
 use Rattle.std.proofs.Common.{inr, refl}
-use Rattle.avrocat_commands.proofs.ColumnLemmas.{none_is_carried}
+use Rattle.avro_types.proofs.RootColumns.{none_is_carried}
 use Rattle.avrocat_commands.proofs.columns.small_columns.Goals as goal
 
 pub returns-in-Err-NotYetImplemented-MapOrUnion-clause-err :

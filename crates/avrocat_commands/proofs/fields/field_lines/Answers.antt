@@ -1,6 +1,4 @@
-use Rattle.std.proofs.Common.{◌≡◌, List, ℕ, [], ◌++◌, drop, refl, sym, subst, append-nil, arith}
-use Rattle.avro_schema.specs.declared.schema.AvroField.{AvroField}
-use Rattle.avrocat_commands.specs.Fields.{AreFieldLines}
+use Rattle.std.proofs.Common.{sym, arith}
 use Rattle.avrocat_commands.proofs.FieldsEndings.{one_line_more, no_lines_left}
 use Rattle.avrocat_commands.proofs.fields.field_lines.Goals as goal
 

@@ -1,5 +1,5 @@
 -- The parts of the line are written one after another.
-use Rattle.std.proofs.Common.{◌++◌, codes, decimal, refl, sym, ap, ◌∙◌}
+use Rattle.std.proofs.Common.{◌++◌, codes, decimal, ap, ◌∙◌}
 use Rattle.arrow_base.specs.WrittenString.{json_string}
 use Rattle.cli_words.specs.Printed.{type_text}
 use Rattle.avro_schema.specs.declared.schema.AvroField.{out-AvroField}

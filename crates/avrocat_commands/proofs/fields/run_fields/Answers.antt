@@ -1,9 +1,9 @@
 -- The lines of the header's record are what was written.
-use Rattle.std.proofs.Common.{◌≡◌, List, subst, sym, rules}
+use Rattle.std.proofs.Common.{◌≡◌, List, subst, rules}
 use Rattle.std.proofs.lemmas.Result.{err_from_is_err_and}
 use Rattle.avro_schema.specs.declared.schema.AvroField.{AvroField}
 use Rattle.avro_container.specs.Changes.{Change, change_of}
-use Rattle.avrocat_commands.specs.Fields.{AreFieldLines, ListsFields}
+use Rattle.avrocat_commands.specs.Fields.{AreFieldLines}
 use Rattle.avrocat_commands.proofs.FieldsEndings.{no_header, no_memory, lists_fields, fields_written, fields_broken}
 use Rattle.avrocat_commands.proofs.fields.run_fields.Goals as goal
 

@@ -10,7 +10,7 @@ invariant-loop-bytes g l =
       within : vec_len l.bytes ≤ 1073741825;
       taken : Consumes (g.S.Source.left l.fn.source) (g.S.Source.left l.source) l.bytes.items;
       faults : g.S.Source.faults l.fn.source ≤ g.S.Source.faults l.source;
-      same : g.S.Source.whose l.source ≡ g.S.Source.whose l.fn.source;
+      same : g.S.Source.identity l.source ≡ g.S.Source.identity l.fn.source;
     }
 
 abbrev pub decreases-loop-bytes : goal.decreases-loop-bytes

@@ -1,5 +1,5 @@
 -- What the header states is what was written.
-use Rattle.std.proofs.Common.{◌≡◌, List, ℕ, ◌++◌, codes, ap, sym, rules}
+use Rattle.std.proofs.Common.{◌≡◌, List, ℕ, ◌++◌, codes, ap, rules}
 use Rattle.std.proofs.lemmas.Result.{err_from_is_err_and}
 use Rattle.avro_container.specs.Changes.{Change, change_of}
 use Rattle.avrocat_commands.proofs.SchemaEndings.{not_stated, schema_written, schema_broken}

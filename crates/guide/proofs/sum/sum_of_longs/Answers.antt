@@ -4,7 +4,7 @@ use Rattle.avro_schema.specs.declared.schema.Record.{out-Record}
 use Rattle.avro_schema.specs.Inferred.{inferred_columns}
 use Rattle.avro_container.specs.ReadHeader.{change}
 use Rattle.avro_container.specs.Taking.{state}
-use Rattle.avro_read.specs.Reader.{projected_of, marker_of, state_of, limit_of}
+use Rattle.avro_read.specs.Reader.{projected_of, marker_of, state_of}
 use Rattle.guide.specs.Sum.{only}
 use Rattle.guide.proofs.Spare.{err_then}
 use Rattle.guide.proofs.Sums.{if_sum, no_projection, no_reader, no_field, no_rows}

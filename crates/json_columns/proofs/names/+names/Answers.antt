@@ -2,7 +2,7 @@
 use Rattle.std.proofs.Common.{ap, sym, ◌∙◌}
 use Rattle.arrow_core.specs.declared.types.DataType.TheVariants as types
 use Rattle.arrow_core.specs.declared.types.Field.{Field}
-use Rattle.json_columns.specs.Names.{names_twice}
+use Rattle.json_flat.specs.Names.{names_twice}
 use Rattle.json_flat.proofs.DistinctNames.{same_answer}
 use Rattle.json_columns.proofs.FieldNames.{list_names, large_list_names, fixed_list_names, map_names, struct_names, union_names, dictionary_names, extension_names}
 use Rattle.json_columns.proofs.names.+names.Goals as goal

@@ -11,5 +11,5 @@ abbrev pub invariant-rows : goal.invariant-rows
 invariant-rows g l = record {
   so_far : BatchSoFar l.wanted (state_of g.S.Source.left g.S.Source.faults l.fn.reader) (state_of g.S.Source.left g.S.Source.faults l.reader) l.batch.rows.items;
   open_reader : IsOpen l.reader;
-  same : g.S.Source.whose (source_of l.reader) ≡ g.S.Source.whose (source_of l.fn.reader);
+  same : g.S.Source.identity (source_of l.reader) ≡ g.S.Source.identity (source_of l.fn.reader);
 }

@@ -17,6 +17,6 @@ invariant-batches g l = record {
   lines : l.encoder.lines ≡ l.fn.encoder.lines;
   plan : l.encoder.plan ≡ l.fn.encoder.plan;
   never_falls_sink : g.K.Sink.faults l.fn.sink ≤ g.K.Sink.faults l.sink;
-  same : g.S.Source.whose (source_of l.reader) ≡ g.S.Source.whose (source_of l.fn.reader);
-  same_sink : g.K.Sink.whose l.sink ≡ g.K.Sink.whose l.fn.sink;
+  same : g.S.Source.identity (source_of l.reader) ≡ g.S.Source.identity (source_of l.fn.reader);
+  same_sink : g.K.Sink.identity l.sink ≡ g.K.Sink.identity l.fn.sink;
 }

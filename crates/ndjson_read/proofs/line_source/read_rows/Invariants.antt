@@ -6,7 +6,7 @@ abbrev pub invariant-loop-more : goal.invariant-loop-more
 invariant-loop-more g l = record {
   rows : RowsSoFar l.wanted (state_of g.S.Source.left g.S.Source.faults l.fn.source) (state_of g.S.Source.left g.S.Source.faults l.source) (take l.n l.rows) l.more;
   within : l.n ≤ l.wanted;
-  same : g.S.Source.whose l.source.source ≡ g.S.Source.whose l.fn.source.source;
+  same : g.S.Source.identity l.source.source ≡ g.S.Source.identity l.fn.source.source;
 }
 
 abbrev pub decreases-loop-more : goal.decreases-loop-more

@@ -11,7 +11,7 @@ invariant-loop-more g l = record {
       × StandsFor l.types values;
   open_reader : failure_of l.reader ≡ None;
   batch : batch_of l.reader ≡ 1;
-  same : g.S.Source.whose (source_of l.reader) ≡ g.S.Source.whose (source_of l.fn.reader);
+  same : g.S.Source.identity (source_of l.reader) ≡ g.S.Source.identity (source_of l.fn.reader);
 }
 
 abbrev pub decreases-loop-more : goal.decreases-loop-more

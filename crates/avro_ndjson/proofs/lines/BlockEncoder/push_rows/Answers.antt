@@ -1,6 +1,9 @@
 use Rattle.std.proofs.Common.{◌≡◌, is_ok, true}
-use Rattle.avro_ndjson.proofs.Planned.{few_rows, shows_block, of_ok, plan_of}
+use Rattle.avro_ndjson.proofs.Planned.{few_rows, have_texts, shows_block, of_ok, plan_of}
 use Rattle.avro_ndjson.proofs.lines.BlockEncoder.push_rows.Goals as goal
+
+pub push_block-requires-clause-texts : goal.push_block-requires-clause-texts
+push_block-requires-clause-texts c = have_texts c.args.self.now c.requires
 
 pub returns-then-is_ok-clause-shown : goal.returns-then-is_ok-clause-shown
 returns-then-is_ok-clause-shown c = λ _.

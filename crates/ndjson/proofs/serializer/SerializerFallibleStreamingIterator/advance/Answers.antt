@@ -1,8 +1,8 @@
 -- The next array that has slots was found, and its lines are taken off what is told; or there is none.
 use Rattle.std.proofs.Common.{◌<◌, ◌∙◌, cond, refl, arith}
 use Rattle.std.specs.Iterator.{size}
-use Rattle.ndjson.specs.Serializer.{items_of}
-use Rattle.ndjson.proofs.FoundLemmas.{tells_lines, tells_none}
+use Rattle.ndjson.specs.Serializer.{array_lines, items_of}
+use Rattle.json_write.proofs.PassedLemmas.{tells_next, tells_none}
 use Rattle.ndjson.proofs.serializer.SerializerFallibleStreamingIterator.advance.Goals as goal
 
 pub returns-in-Ok-true : goal.returns-in-Ok-true
@@ -24,7 +24,7 @@ returns-in-Ok-true g c =
       hidden = tt;
       taken = λ told t.
           let it = rw c.if-self.false at t in
-          let r = tells_lines g.I.Iterator.next_gives _ _ _ it.0 found it.1 in
+          let r = tells_next g.I.Iterator.next_gives array_lines _ _ _ it.0 found it.1 in
           (items_of r.0, it.2 ∙ r.2, (r.0, r.1, refl));
       end = tt;
     }
@@ -46,5 +46,5 @@ returns-in-Ok-false g c =
       taken = tt;
       end = λ told t.
           let it = rw c.if-self.false at t in
-          it.2 ∙ tells_none g.I.Iterator.next_gives _ _ it.0 none it.1;
+          it.2 ∙ tells_none g.I.Iterator.next_gives array_lines _ _ it.0 none it.1;
     }

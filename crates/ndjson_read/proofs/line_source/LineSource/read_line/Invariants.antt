@@ -8,7 +8,7 @@ invariant-loop-byte g l = record {
   takes : Takes (state_of g.S.Source.left g.S.Source.faults l.fn.self) (state_of g.S.Source.left g.S.Source.faults l.self) l.line.items;
   is_part : IsPart l.line.items;
   lines : l.self.lines ≡ l.fn.self.lines;
-  same : g.S.Source.whose l.self.source ≡ g.S.Source.whose l.fn.self.source;
+  same : g.S.Source.identity l.self.source ≡ g.S.Source.identity l.fn.self.source;
 }
 
 abbrev pub decreases-loop-byte : goal.decreases-loop-byte
